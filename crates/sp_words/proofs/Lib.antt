@@ -1,4 +1,5 @@
 pub mod InterfaceLemmas
 pub mod OperatorLemmas
 pub mod Residues
+pub mod SignLemmas
 pub mod TypeLemmas

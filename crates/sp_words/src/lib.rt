@@ -7,6 +7,6 @@ mod types;
 mod words;
 
 pub use interface::{Input, Output, PortDecl, Ports, fits};
-pub use operators::{add, mul, sub};
+pub use operators::{add, and, cast, div, eq, lt, max, min, mul, not, or, rem, shl, shr, sub, xor};
 pub use types::{FixTy, Ty};
 pub use words::is_word;
