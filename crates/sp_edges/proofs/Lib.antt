@@ -1,2 +1,3 @@
 pub mod Found
 pub mod Sure
+pub mod SureRoom

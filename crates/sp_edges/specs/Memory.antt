@@ -30,6 +30,10 @@ pub record KeptFiles : Type 0 where
   pub next : Option ℕ
   pub faults : ℕ
 
+-- the files before the first call
+abbrev pub new_files : List (List ℕ × List ℕ) → List ℕ → KeptFiles
+new_files files failing = record { files = files; failing = failing; next = Some 0; faults = 0 }
+
 -- what stands in a file, if there is one
 abbrev pub standing_of : Option (List ℕ × List ℕ) → Standing
 standing_of None = Missing

@@ -5,7 +5,7 @@ ghost use Rattle.std.specs.String.{string_bytes};
 ghost use Rattle.std.specs.Str.{bytes_eq};
 ghost use Rattle.sp_edges.specs.Counts.{one_more, Rose};
 ghost use Rattle.sp_edges.specs.Standing.{Standing, Untold, Missing, Holds, AppendsAll, AppendsPast, AppendsPart};
-ghost use Rattle.sp_edges.specs.Memory.{next_number, is_among, file_named, standing_under, IsSure, sure_name-told, fails_at, counted};
+ghost use Rattle.sp_edges.specs.Memory.{next_number, is_among, file_named, standing_under, IsSure, sure_name-told, fails_at, counted, new_files};
 ghost use Rattle.sp_edges.specs.Files.{file_of};
 
 use crate::input::{InputFault, Inputs};
@@ -42,10 +42,7 @@ impl Model for MemInputs {
 impl MemInputs {
     /// Inputs that have these files, and whose calls of these numbers are to fail. Takes no memory.
     pub fn new(files: Vec<MemFile>, failing: Vec<u64>) -> MemInputs
-        ensures files { result.files ≡ map file_of files.items }
-        ensures failing { result.failing ≡ failing.items }
-        ensures first_call { result.next ≡ Some 0 }
-        ensures no_fault { result.faults ≡ 0 }
+        ensures { result ≡ new_files (map file_of files.items) failing.items }
     {
         MemInputs {
             files,
@@ -121,12 +118,7 @@ impl Inputs for MemInputs {
 
     ghost sure_is_told = { sure_name-told };
 
-    fn read_into(
-        &mut self,
-        name: &str,
-        most: usize,
-        into: &mut Vec<u8>,
-    ) -> Result<(), InputFault>
+    fn read_into(&mut self, name: &str, most: usize, into: &mut Vec<u8>) -> Result<(), InputFault>
         ensures all { OnOk result (AppendsAll (standing_under self.old name.now) most into.old.items into.new.items) }
         ensures too_long { result ≡ Err InputFault.TooLong →
             AppendsPast (standing_under self.old name.now) most into.old.items into.new.items }

@@ -12,7 +12,7 @@ pub returns-in_default-clause-not_sure : goal.returns-in_default-clause-not_sure
 returns-in_default-clause-not_sure c sure same =
     let among = all_past-not_among c.args.self.now.failing c.args.self.now.next sure.1 in
     elim c.in_default.branch [
-      in_default-via-in-Some+else-not-fails w ↦ grind (arith, common_steps, among)
+      | in_default-via-in-Some+else-not-fails w ↦ grind (arith, common_steps, among)
       | in_default-via-in_default w ↦ grind (arith, common_steps, sure.0)
     ]
 
