@@ -1,3 +1,4 @@
 pub mod Found
 pub mod Sure
 pub mod SureRoom
+pub mod PutText

@@ -4,3 +4,4 @@ pub mod Gained
 pub mod Memory
 pub mod Store
 pub mod Files
+pub mod Laws

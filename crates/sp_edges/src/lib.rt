@@ -14,5 +14,5 @@ mod output;
 pub use input::{InputFault, Inputs};
 pub use memory_input::{MemFile, MemInputs};
 pub use memory_output::{MemSink, SinkStop};
-pub use output::{Sink, SinkFailed};
+pub use output::{Sink, SinkFailed, put_text};
 pub use std::alloc::AllocError as NoMemory;

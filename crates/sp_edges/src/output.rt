@@ -33,3 +33,28 @@ pub trait Sink {
             sure_room self.new + length piece.now ≡ sure_room self.old }
         ensures counts { faults self.old ≤ faults self.new };
 }
+
+const PIECE: usize = 65_536;
+
+/// Puts a text in pieces of 65,536 bytes, the last one shorter, up to the first that fails.
+///
+/// An empty text is no piece.
+pub fn put_text<K: Sink>(sink: &mut K, text: &[u8]) -> Result<(), SinkFailed>
+    ensures whole { OnOk result (Gained (K.taken sink.old) (K.taken sink.new) text.now) }
+    ensures part { OnErr result (GainedPart (K.taken sink.old) (K.taken sink.new) text.now) }
+
+    // Why it failed.
+    ensures failed { OnErr result (Rose (K.faults sink.old) (K.faults sink.new)) }
+    ensures past_room { OnErr result (K.sure_room sink.old < length text.now) }
+    ensures sure { length text.now ≤ K.sure_room sink.old → IsOk result }
+
+    // What stays.
+    ensures room { length text.now ≤ K.sure_room sink.old →
+        K.sure_room sink.new + length text.now ≡ K.sure_room sink.old }
+    ensures counts { K.faults sink.old ≤ K.faults sink.new }
+{
+    for piece in text.chunks(PIECE) {
+        sink.put(piece)?;
+    }
+    Ok(())
+}
