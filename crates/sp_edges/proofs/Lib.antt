@@ -2,3 +2,4 @@ pub mod Found
 pub mod Sure
 pub mod SureRoom
 pub mod PutText
+pub mod HostRead

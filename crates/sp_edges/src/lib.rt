@@ -6,11 +6,13 @@
 //! `HostSink` are the machine's files and its standard output.
 #![tactic(auto)]
 
+mod host_input;
 mod input;
 mod memory_input;
 mod memory_output;
 mod output;
 
+pub use host_input::HostInputs;
 pub use input::{InputFault, Inputs};
 pub use memory_input::{MemFile, MemInputs};
 pub use memory_output::{MemSink, SinkStop};
