@@ -3,6 +3,7 @@ ghost use Rattle.std.specs.Prelude.{◌≡◌, ◌<◌, ◌≤◌, length, OnOk,
 ghost use Rattle.sp_edges.specs.Counts.{one_more, Rose};
 ghost use Rattle.sp_edges.specs.Standing.{Standing, Untold, AppendsAll, AppendsPast, AppendsPart};
 
+use crate::faults::count_fault;
 use crate::input::{InputFault, Inputs};
 use std::alloc::Global;
 use std::fs;
@@ -40,14 +41,6 @@ impl<'a, R: Files> HostInputs<'a, R> {
             faults: 0,
         }
     }
-}
-
-// Counts an error.
-fn count_fault(faults: &mut u64)
-    ensures one { faults.new ≡ one_more faults.old }
-    ensures rises { faults.old ≤ faults.new }
-{
-    *faults = faults.saturating_add(1);
 }
 
 impl<'a, R: Files> Inputs for HostInputs<'a, R> {

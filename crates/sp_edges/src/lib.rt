@@ -6,13 +6,16 @@
 //! `HostSink` are the machine's files and its standard output.
 #![tactic(auto)]
 
+mod faults;
 mod host_input;
+mod host_output;
 mod input;
 mod memory_input;
 mod memory_output;
 mod output;
 
 pub use host_input::HostInputs;
+pub use host_output::HostSink;
 pub use input::{InputFault, Inputs};
 pub use memory_input::{MemFile, MemInputs};
 pub use memory_output::{MemSink, SinkStop};

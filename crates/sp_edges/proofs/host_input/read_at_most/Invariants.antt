@@ -1,4 +1,3 @@
-use Rattle.std.proofs.Common.{◌≡◌, length}
 use Rattle.sp_edges.proofs.HostRead.{HasRead}
 use Rattle.sp_edges.proofs.host_input.read_at_most.Given as goal
 
