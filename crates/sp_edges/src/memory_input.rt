@@ -1,11 +1,11 @@
 // Inputs that are kept in memory.
-ghost use Rattle.std.specs.Prelude.{◌≡◌, ◌≢◌, ◌↔◌, ◌⊎◌, ℕ, ◌+◌, ◌^◌, ◌<◌, ◌≤◌, List, [], ◌++◌, length, map, find, take, Some, None, Err, OnOk, OnErr, IsTrue, is_some, if◌then◌else◌};
+ghost use Rattle.std.specs.Prelude.{◌≡◌, ◌≢◌, ◌↔◌, ◌⊎◌, ℕ, ◌+◌, ◌^◌, ◌<◌, ◌≤◌, List, [], ◌++◌, length, map, find, take, Some, None, Err, OnOk, OnErr, IsTrue, is_some, IsSome, if◌then◌else◌};
 ghost use Rattle.std.specs.Option.{option_copied, option_map};
 ghost use Rattle.std.specs.String.{string_bytes};
 ghost use Rattle.std.specs.Str.{bytes_eq};
 ghost use Rattle.sp_edges.specs.Counts.{one_more, Rose};
 ghost use Rattle.sp_edges.specs.Standing.{Standing, Untold, Missing, Holds, AppendsAll, AppendsPast, AppendsPart};
-ghost use Rattle.sp_edges.specs.Memory.{next_number, is_among, file_named, standing_under, IsSure, sure_name-told, fails_at, counted, new_files};
+ghost use Rattle.sp_edges.specs.Memory.{next_number, is_among, file_named, standing_under, IsSure, sure_name-told, fails_at, counted, new_files, standing_of};
 ghost use Rattle.sp_edges.specs.Files.{file_of};
 
 use crate::input::{InputFault, Inputs};
@@ -42,7 +42,11 @@ impl Model for MemInputs {
 impl MemInputs {
     /// Inputs that have these files, and whose calls of these numbers are to fail. Takes no memory.
     pub fn new(files: Vec<MemFile>, failing: Vec<u64>) -> MemInputs
-        ensures { result ≡ new_files (map file_of files.items) failing.items }
+        ensures new { result ≡ new_files (map file_of files.items) failing.items }
+        ensures told { (name : List ℕ) →
+            ⟦<MemInputs as Inputs>⟧.told result name ≡ standing_of (file_named (map file_of files.items) name) }
+        ensures sure { (name : List ℕ) → failing.items ≡ [] →
+            IsSome (file_named (map file_of files.items) name) → ⟦<MemInputs as Inputs>⟧.sure result name }
     {
         MemInputs {
             files,

@@ -1,5 +1,5 @@
 // A sink that is kept in memory.
-ghost use Rattle.std.specs.Prelude.{◌≡◌, ◌+◌, ◌<◌, ◌≤◌, ◌-◌, ◌++◌, length, Some, OnOk, OnErr, IfOk, IsOk, IsTrue, take};
+ghost use Rattle.std.specs.Prelude.{◌≡◌, ◌+◌, ◌<◌, ◌≤◌, ◌-◌, ◌++◌, length, [], Some, OnOk, OnErr, IfOk, IsOk, IsTrue, take};
 ghost use Rattle.sp_edges.specs.Counts.{one_more, Rose};
 ghost use Rattle.sp_edges.specs.Gained.{Gained, GainedPart};
 ghost use Rattle.sp_edges.specs.Memory.{next_number};
@@ -44,7 +44,8 @@ impl MemSink {
 
     /// A sink with room for `room` bytes, whose memory it takes at once, and the puts that are to fail.
     pub fn new(alloc: Global, room: usize, failing: Vec<SinkStop>) -> Result<MemSink, NoMemory>
-        ensures { IfOk result (λ sink. sink ≡ new_store room failing.items) }
+        ensures new { IfOk result (λ sink. sink ≡ new_store room failing.items) }
+        ensures sure_room { failing.items ≡ [] → IfOk result (λ sink. ⟦<MemSink as Sink>⟧.sure_room sink ≡ room) }
     {
         Ok(MemSink {
             bytes: Vec::with_capacity(alloc, room)?,
@@ -57,7 +58,8 @@ impl MemSink {
 
     /// The bytes taken so far.
     pub fn bytes(&self) -> &[u8]
-        ensures { result.now ≡ self.now.bytes }
+        ensures bytes { result.now ≡ self.now.bytes }
+        ensures told { ⟦<MemSink as Sink>⟧.taken self.now ≡ Some result.now }
     {
         self.bytes.as_slice()
     }
@@ -102,7 +104,7 @@ fn find_stop(stops: &[SinkStop], call: u64) -> Option<usize>
 }
 
 impl Sink for MemSink {
-    ghost use Rattle.std.specs.Prelude.{◌≡◌, ◌+◌, ◌<◌, ◌≤◌, length, Some, OnOk, OnErr, IsOk, IsTrue};
+    ghost use Rattle.std.specs.Prelude.{◌≡◌, ◌+◌, ◌<◌, ◌≤◌, length, [], Some, OnOk, OnErr, IsOk, IsTrue};
     ghost use Rattle.sp_edges.specs.Counts.{one_more, Rose};
     ghost use Rattle.sp_edges.specs.Gained.{Gained, GainedPart};
     ghost use Rattle.sp_edges.specs.Store.{sure_room_of, takes_whole, after_put};
