@@ -52,17 +52,18 @@ impl<'a, R: Files> Inputs for HostInputs<'a, R> {
 
     ghost sure_is_told = { λ _ _ sure. absurd sure };
 
-    fn read_into(
-        &mut self,
-        name: &str,
-        most: usize,
-        into: &mut Vec<u8>,
-    ) -> Result<(), InputFault> {
+    fn read_into(&mut self, name: &str, most: usize, into: &mut Vec<u8>) -> Result<(), InputFault> {
         let Ok(mut buffer) = vec![in self.alloc; 0u8; BUFFER] else {
             return Err(InputFault::Memory);
         };
         match fs::open(self.rt, name) {
-            Ok(mut file) => read_at_most(&mut file, &mut self.faults, buffer.as_mut_slice(), most, into),
+            Ok(mut file) => read_at_most(
+                &mut file,
+                &mut self.faults,
+                buffer.as_mut_slice(),
+                most,
+                into,
+            ),
             Err(_) => {
                 count_fault(&mut self.faults);
                 Err(InputFault::Failed)
@@ -111,4 +112,75 @@ fn read_at_most<F: Read>(
     }
     count_fault(faults);
     Err(InputFault::Failed)
+}
+
+#[cfg(test)]
+mod tests {
+    use super::*;
+    use std::io;
+    use std::test::Fail;
+
+    // Reads that give so many bytes, each of them the count, or are interrupted; then one that fails.
+    #[derive(Drop)]
+    struct Reads<'a> {
+        left: &'a [Option<u8>],
+    }
+
+    impl Read for Reads<'_> {
+        fn read(&mut self, buf: &mut [u8]) -> io::Result<usize> {
+            let Some((first, left)) = self.left.split_first() else {
+                return Err(io::Error::from(ErrorKind::Other));
+            };
+            self.left = left;
+            match first {
+                Some(count) => {
+                    let len = buf.len().min(usize::from(*count));
+                    buf[..len].fill(*count);
+                    Ok(len)
+                }
+                None => Err(io::Error::from(ErrorKind::Interrupted)),
+            }
+        }
+    }
+
+    #[test]
+    fn read_goes_on_after_an_interruption_and_fails_at_an_error(
+        rt: HostRuntime,
+    ) -> Result<(), Fail> {
+        let cases: [(&[Option<u8>], usize, Result<(), InputFault>, &[u8], u64); 5] = [
+            (
+                &[Some(3), None, Some(2), Some(0)],
+                5,
+                Ok(()),
+                &[3, 3, 3, 2, 2],
+                1,
+            ),
+            (
+                &[Some(3), None, Some(2), Some(0)],
+                4,
+                Err(InputFault::TooLong),
+                &[3, 3, 3, 2, 2],
+                1,
+            ),
+            (
+                &[Some(4), Some(2)],
+                2,
+                Err(InputFault::TooLong),
+                &[4, 4, 4],
+                0,
+            ),
+            (&[Some(3), None], 9, Err(InputFault::Failed), &[3, 3, 3], 2),
+            (&[], 9, Err(InputFault::Failed), &[], 1),
+        ];
+        for (left, most, answer, bytes, count) in cases {
+            let mut reads = Reads { left };
+            let mut faults = 0;
+            let mut into = Vec::new(rt.alloc());
+            let found = read_at_most(&mut reads, &mut faults, &mut [0; 8], most, &mut into);
+            assert_eq!(rt; found, answer, "{left:?}");
+            assert_eq!(rt; into.as_slice(), bytes, "{left:?}");
+            assert_eq!(rt; faults, count, "{left:?}");
+        }
+        Ok(())
+    }
 }

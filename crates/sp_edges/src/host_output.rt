@@ -110,3 +110,47 @@ fn write_whole<W: Write>(to: &mut W, faults: &mut u64, piece: &[u8]) -> Result<(
     count_fault(faults);
     Err(SinkFailed)
 }
+
+#[cfg(test)]
+mod tests {
+    use super::*;
+
+    // Writes that take so many bytes, or are interrupted.
+    #[derive(Drop)]
+    struct Writes<'a> {
+        left: &'a [Option<usize>],
+    }
+
+    impl Write for Writes<'_> {
+        fn write(&mut self, buf: &[u8]) -> io::Result<usize> {
+            let Some((first, left)) = self.left.split_first() else {
+                return Err(io::Error::from(ErrorKind::Other));
+            };
+            self.left = left;
+            match first {
+                Some(count) => Ok(buf.len().min(*count)),
+                None => Err(io::Error::from(ErrorKind::Interrupted)),
+            }
+        }
+
+        fn flush(&mut self) -> io::Result<()> {
+            Ok(())
+        }
+    }
+
+    #[test]
+    fn write_goes_on_after_an_interruption_and_fails_at_an_error(rt: HostRuntime) {
+        let cases: [(&[Option<usize>], Result<(), SinkFailed>, u64); 4] = [
+            (&[Some(2), None, Some(9)], Ok(()), 1),
+            (&[Some(2), Some(0), Some(9)], Err(SinkFailed), 1),
+            (&[Some(2), None], Err(SinkFailed), 2),
+            (&[], Err(SinkFailed), 1),
+        ];
+        for (number, (left, answer, count)) in cases.iter().enumerate() {
+            let mut faults = 0;
+            let found = write_whole(&mut Writes { left }, &mut faults, b"abcd");
+            assert_eq!(rt; found, *answer, "case {number}");
+            assert_eq!(rt; faults, *count, "case {number}");
+        }
+    }
+}

@@ -55,9 +55,7 @@ impl MemInputs {
             faults: 0,
         }
     }
-}
 
-impl MemInputs {
     // Counts a call, and says whether it is to fail.
     fn begin_call(&mut self) -> bool
         ensures fails { result ≡ is_among self.old.failing self.old.next }
