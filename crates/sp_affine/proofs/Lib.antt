@@ -1,2 +1,5 @@
 pub mod Checked
+pub mod Factors
+pub mod Integers
 pub mod Lists
+pub mod Values

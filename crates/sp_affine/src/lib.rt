@@ -1,7 +1,10 @@
 //! Affine forms over loop counters and one unknown symbol: sums, differences, multiples and intervals.
 #![tactic(auto)]
 
+mod arithmetic;
 mod coefs;
 mod form;
+mod symbol;
 
+pub use arithmetic::{add, minus, scale};
 pub use form::{Form, FormError};
