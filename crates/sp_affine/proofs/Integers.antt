@@ -18,8 +18,16 @@ pub sub-mul_ℤ : (a b c : ℤ) → (a -ℤ b) *ℤ c ≡ (a *ℤ c) -ℤ (b *�
 sub-mul_ℤ a b c =
     let less = sum_is_lem a (neg_ℤ b) in
     let turned = neg_is b in
-    omega (arith, ints, by (up c) _ _ less, by (down c) _ _ less,
-      by (up c) _ _ turned.0, by (up c) _ _ turned.1, by (down c) _ _ turned.0, by (down c) _ _ turned.1)
+    omega (
+      arith,
+      ints,
+      by (up c) _ _ less,
+      by (down c) _ _ less,
+      by (up c) _ _ turned.0,
+      by (up c) _ _ turned.1,
+      by (down c) _ _ turned.0,
+      by (down c) _ _ turned.1,
+    )
 
 pub mul_assoc_ℤ : (a b c : ℤ) → (a *ℤ b) *ℤ c ≡ a *ℤ (b *ℤ c)
 mul_assoc_ℤ a b c =
@@ -28,9 +36,9 @@ mul_assoc_ℤ a b c =
     let left = product_is (a *ℤ b) c in
     let right = product_is a (b *ℤ c) in
     let ups : up ((a *ℤ b) *ℤ c) ≡ up (a *ℤ (b *ℤ c)) =
-      omega (arith, by (up c) _ _ ab.0, by (down c) _ _ ab.1, by (up a) _ _ bc.0, by (down a) _ _ bc.1) in
+    omega (arith, by (up c) _ _ ab.0, by (down c) _ _ ab.1, by (up a) _ _ bc.0, by (down a) _ _ bc.1) in
     let downs : down ((a *ℤ b) *ℤ c) ≡ down (a *ℤ (b *ℤ c)) =
-      omega (arith, by (down c) _ _ ab.0, by (up c) _ _ ab.1, by (down a) _ _ bc.0, by (up a) _ _ bc.1) in
+    omega (arith, by (down c) _ _ ab.0, by (up c) _ _ ab.1, by (down a) _ _ bc.0, by (up a) _ _ bc.1) in
     same_in _ _ (omega arith)
 
 -- a factor of 0 or more keeps an order, and one below 0 turns it round

@@ -1,3 +1,4 @@
+pub mod Box
 pub mod Checked
 pub mod Factors
 pub mod Integers

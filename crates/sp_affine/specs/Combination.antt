@@ -33,19 +33,22 @@ abbrev pub sum_of : Affine → Affine → Combination
 sum_of a b = record {
   coefs = sums a.coefs b.coefs;
   constant = a.constant +ℤ b.constant;
-  factor = factors_of_sum a.symbol b.symbol }
+  factor = factors_of_sum a.symbol b.symbol;
+}
 
 abbrev pub difference_of : Affine → Affine → Combination
 difference_of a b = record {
   coefs = differences a.coefs b.coefs;
   constant = a.constant -ℤ b.constant;
-  factor = factors_of_difference a.symbol b.symbol }
+  factor = factors_of_difference a.symbol b.symbol;
+}
 
 abbrev pub multiple_of : Affine → ℤ → Combination
 multiple_of a by = record {
   coefs = multiples a.coefs by;
   constant = a.constant *ℤ by;
-  factor = factors_of_multiple a.symbol by }
+  factor = factors_of_multiple a.symbol by;
+}
 
 -- every coefficient and the constant fit 64 bits with a sign
 abbrev pub IsNarrow : Combination → Type 0

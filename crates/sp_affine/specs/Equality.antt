@@ -14,7 +14,7 @@ use Rattle.sp_affine.specs.Affine.{Affine}
 abbrev pub forms_equal : Affine → Affine → Bool
 forms_equal =
     eq_of_both (on (λ f. f.coefs) (pointwise int_eq))
-      (eq_of_both (on (λ f. f.constant) int_eq) (on (λ f. f.symbol) (option_eq nat_eq)))
+    (eq_of_both (on (λ f. f.constant) int_eq) (on (λ f. f.symbol) (option_eq nat_eq)))
 
 pub Decides-option_eq : (p q : Option ℕ) → Decides (option_eq nat_eq p q) (p ≡ q)
 Decides-option_eq None None = (λ _. refl, λ _. refl)
@@ -31,16 +31,18 @@ same_form f g a b c =
 
 pub Decides-forms_equal : (f g : Affine) → Decides (forms_equal f g) (f ≡ g)
 Decides-forms_equal f g =
-    let parts = Decides-and _ _ (signed_items f.coefs g.coefs) (Decides-and _ _ (Decides-int_eq f.constant g.constant) (Decides-option_eq f.symbol g.symbol)) in
-    (λ h. let p = parts.0 h in same_form f g p.0 p.1.0 p.1.1,
-     λ e. parts.1 (ap (λ x. x.coefs) e, (ap (λ x. x.constant) e, ap (λ x. x.symbol) e)))
+    let parts = Decides-and _ _ (signed_items f.coefs g.coefs) (Decides-and _ _ (Decides-int_eq f.constant g.constant) (Decides-option_eq f.symbol g.symbol)) in (
+      λ h. let p = parts.0 h in same_form f g p.0 p.1.0 p.1.1,
+      λ e. parts.1 (ap (λ x. x.coefs) e, (ap (λ x. x.constant) e, ap (λ x. x.symbol) e)),
+    )
 
 -- a test that decides whether two values are the same is an equivalence
 Decides-equivalence : {X : Type 0} (E : X → X → Bool) → ((x y : X) → Decides (E x y) (x ≡ y)) → IsEquivalence E
 Decides-equivalence {X} E d = record {
   refl = λ x. (d x x).1 refl;
   symm = λ x y. same_from_decides _ _ (d x y) (Decides-like _ sym sym (d y x));
-  congr = λ x y z h. ap (λ (v : X). E v z) ((d x y).0 h) }
+  congr = λ x y z h. ap (λ (v : X). E v z) ((d x y).0 h);
+}
 
 pub forms_equal-equivalence : IsEquivalence forms_equal
 forms_equal-equivalence = Decides-equivalence forms_equal Decides-forms_equal

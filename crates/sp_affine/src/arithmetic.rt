@@ -3,13 +3,12 @@ ghost use Rattle.std.specs.Prelude.{◌≡◌, ◌↔◌, ℕ, ℤ, List, length
 ghost use Rattle.sp_affine.specs.Affine.{value_of};
 ghost use Rattle.sp_affine.specs.Combination.{Equals, HasOneSymbol, IsNarrow, sum_of, difference_of, multiple_of};
 
-use std::alloc::Global;
-
 use crate::coefs::{
     all_differences_fit, all_multiples_fit, all_sums_fit, differences_of, multiples_of, sums_of,
 };
 use crate::form::{Form, FormError};
 use crate::symbol::{symbol_of_difference, symbol_of_multiple, symbol_of_sum};
+use std::alloc::Global;
 
 /// The sum of two forms over the same counters.
 ///
@@ -33,7 +32,11 @@ pub fn add(alloc: Global, a: &Form, b: &Form) -> Result<Form, FormError>
     let constant = a.constant.checked_add(b.constant).ok_or(FormError::Wide)?;
     let symbol = symbol_of_sum(a.symbol, b.symbol)?;
     let coefs = sums_of(alloc, &a.coefs, &b.coefs)?;
-    Ok(Form { coefs, constant, symbol })
+    Ok(Form {
+        coefs,
+        constant,
+        symbol,
+    })
 }
 
 /// The difference of two forms over the same counters.
@@ -58,7 +61,11 @@ pub fn minus(alloc: Global, a: &Form, b: &Form) -> Result<Form, FormError>
     let constant = a.constant.checked_sub(b.constant).ok_or(FormError::Wide)?;
     let symbol = symbol_of_difference(a.symbol, b.symbol)?;
     let coefs = differences_of(alloc, &a.coefs, &b.coefs)?;
-    Ok(Form { coefs, constant, symbol })
+    Ok(Form {
+        coefs,
+        constant,
+        symbol,
+    })
 }
 
 /// A form times a number.
@@ -81,5 +88,9 @@ pub fn scale(alloc: Global, a: &Form, by: i64) -> Result<Form, FormError>
     let constant = a.constant.checked_mul(by).ok_or(FormError::Wide)?;
     let symbol = symbol_of_multiple(a.symbol, by)?;
     let coefs = multiples_of(alloc, &a.coefs, by)?;
-    Ok(Form { coefs, constant, symbol })
+    Ok(Form {
+        coefs,
+        constant,
+        symbol,
+    })
 }

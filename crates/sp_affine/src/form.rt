@@ -66,7 +66,8 @@ impl PartialEq for Form {
         ensures test { result ≡ forms_equal self.now other.now }
         ensures same { IsTrue result ↔ (self.now ≡ other.now) }
     {
-        self.coefs == other.coefs && (self.constant == other.constant && self.symbol == other.symbol)
+        self.coefs == other.coefs
+            && (self.constant == other.constant && self.symbol == other.symbol)
     }
 }
 

@@ -4,7 +4,9 @@
 mod arithmetic;
 mod coefs;
 mod form;
+mod range;
 mod symbol;
 
 pub use arithmetic::{add, minus, scale};
 pub use form::{Form, FormError};
+pub use range::interval;

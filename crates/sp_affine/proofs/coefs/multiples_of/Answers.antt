@@ -8,7 +8,7 @@ pub overflow_mul-x : goal.overflow_mul-x
 overflow_mul-x c =
     let x_fits : FitsSigned w64 (get_or c.args.a.now c.loop-x.x-index (pos 0)) = search rules in
     rw (to_z-of_z w64 _ x_fits, to_z-of_z w64 _ c.ranges.by)
-      (All-map_each (FitsSigned w64) (λ x. x *ℤ c.args.by) c.args.a.now c.requires.fit c.loop-x.x-index c.loop-x-test.true)
+    (All-map_each (FitsSigned w64) (λ x. x *ℤ c.args.by) c.args.a.now c.requires.fit c.loop-x.x-index c.loop-x-test.true)
 
 pub loop-x-preserved : goal.loop-x-preserved
 loop-x-preserved c =

@@ -9,7 +9,7 @@ overflow_add-x c =
     let x_fits : FitsSigned w64 (get_or c.args.a.now c.loop-i.i (pos 0)) = search rules in
     let y_fits : FitsSigned w64 (get_or c.args.b.now c.loop-i.i (pos 0)) = search rules in
     rw (to_z-of_z w64 _ x_fits, to_z-of_z w64 _ y_fits)
-      (All-map_zip_at (FitsSigned w64) (λ p. p.0 +ℤ p.1) c.args.a.now c.args.b.now c.requires.same_length c.requires.fit c.loop-i.i c.loop-i-test.true)
+    (All-map_zip_at (FitsSigned w64) (λ p. p.0 +ℤ p.1) c.args.a.now c.args.b.now c.requires.same_length c.requires.fit c.loop-i.i c.loop-i-test.true)
 
 pub loop-i-preserved : goal.loop-i-preserved
 loop-i-preserved c =

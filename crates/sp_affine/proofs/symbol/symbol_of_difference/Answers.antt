@@ -10,13 +10,13 @@ none_left : (a b : Option ℕ) (none same : Bool) → is_some b ≡ not none →
     ¬ HasOneSymbol (factors_of_difference a b)
 none_left a None none same h k e f = absurd (apart (h ∙ ap not k))
   where
-  apart : false ≡ true → ⊥
-  apart x = cc
+    apart : false ≡ true → ⊥
+    apart x = cc
 none_left a (Some n) none same h k e f =
     difference-other a n (λ x. let equal = (Decides-option_eq a (Some n)).1 x in apart (sym equal ∙ sym e ∙ f))
   where
-  apart : true ≡ false → ⊥
-  apart x = cc
+    apart : true ≡ false → ⊥
+    apart x = cc
 
 pub returns-else-eq-clause-none : goal.returns-else-eq-clause-none
 returns-else-eq-clause-none c =
