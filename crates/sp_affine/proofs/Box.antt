@@ -1,10 +1,11 @@
 -- The least and the greatest value of a form over a box, coefficient by coefficient.
 use Rattle.std.proofs.Common.{◌≡◌, ℕ, zero, suc, ◌+◌, ◌*◌, ◌<◌, ◌≤◌, ◌^◌, ℤ, pos, negsuc, neg_ℤ, ◌+ℤ◌, ◌*ℤ◌, ◌≤ℤ◌, List, [], ◌∷◌, length, get_or, take, refl, ap, sym, ◌∙◌, arith, FitsSigned, add-one}
 use Rattle.std.specs.Int.{w64, w128}
+use Rattle.std.specs.Prelude.{Option, Some, None}
 use Rattle.std.specs.List.{All}
 use Rattle.std.proofs.lemmas.Int.{ints}
-use Rattle.sp_affine.specs.Affine.{Affine, dot}
-use Rattle.sp_affine.specs.Interval.{IsCounterRange, InBox, IsReached, IsRange, plain_value, least_product, greatest_product}
+use Rattle.sp_affine.specs.Affine.{Affine, dot, value_of, symbol_value}
+use Rattle.sp_affine.specs.Interval.{IsCounterRange, InBox, IsReached, IsRange, least_product, greatest_product}
 use Rattle.sp_affine.proofs.Integers.{mul-le_ℤ, mul-le_down_ℤ}
 
 -- the sums of the least and of the greatest products
@@ -119,21 +120,28 @@ dot-high_corner [] rs = refl
 dot-high_corner (c ∷ cs) [] = refl
 dot-high_corner (c ∷ cs) (r ∷ rs) = ap (λ z. z +ℤ dot cs (high_corner cs rs)) (high_end-product c r) ∙ ap (λ z. greatest_product c r +ℤ z) (dot-high_corner cs rs)
 
+-- a form without a symbol
+plain : (f : Affine) (xs : List ℤ) (symbols : ℕ → ℤ) → f.symbol ≡ None → value_of f xs symbols ≡ dot f.coefs xs +ℤ f.constant
+plain f xs symbols e = ap (λ s. (dot f.coefs xs +ℤ f.constant) +ℤ symbol_value s symbols) e ∙ add_zero _
+  where
+    add_zero : (z : ℤ) → z +ℤ pos 0 ≡ z
+    add_zero z = omega (arith, ints)
+
 -- the two sums are the range
-pub range_of : (f : Affine) (rs : List (ℤ × ℤ)) (low high : ℤ) → length rs ≡ length f.coefs → All IsCounterRange rs →
+pub range_of : (f : Affine) (rs : List (ℤ × ℤ)) (low high : ℤ) → f.symbol ≡ None → length rs ≡ length f.coefs → All IsCounterRange rs →
     low ≡ f.constant +ℤ lows f.coefs rs → high ≡ f.constant +ℤ highs f.coefs rs → IsRange f rs low high
-range_of f rs low high e all is_low is_high = record {
-  above_low = λ xs h. above _ _ _ _ is_low (lows-below f.coefs rs xs h);
-  below_high = λ xs h. below _ _ _ _ is_high (highs-above f.coefs rs xs h);
-  low_reached = (low_corner f.coefs rs, low_corner-in f.coefs rs e all, reached _ _ _ _ is_low (dot-low_corner f.coefs rs));
-  high_reached = (high_corner f.coefs rs, high_corner-in f.coefs rs e all, reached _ _ _ _ is_high (dot-high_corner f.coefs rs));
+range_of f rs low high none e all is_low is_high = record {
+  above_low = λ xs symbols h. above (value_of f xs symbols) low f.constant (lows f.coefs rs) (dot f.coefs xs) (plain f xs symbols none) is_low (lows-below f.coefs rs xs h);
+  below_high = λ xs symbols h. below (value_of f xs symbols) high f.constant (highs f.coefs rs) (dot f.coefs xs) (plain f xs symbols none) is_high (highs-above f.coefs rs xs h);
+  low_reached = (low_corner f.coefs rs, low_corner-in f.coefs rs e all, λ symbols. plain f _ symbols none ∙ reached low f.constant (lows f.coefs rs) _ is_low (dot-low_corner f.coefs rs));
+  high_reached = (high_corner f.coefs rs, high_corner-in f.coefs rs e all, λ symbols. plain f _ symbols none ∙ reached high f.constant (highs f.coefs rs) _ is_high (dot-high_corner f.coefs rs));
 }
   where
-    above : (l k s d : ℤ) → l ≡ k +ℤ s → s ≤ℤ d → l ≤ℤ (d +ℤ k)
-    above l k s d e h = omega (arith, ints)
+    above : (v l k s d : ℤ) → v ≡ d +ℤ k → l ≡ k +ℤ s → s ≤ℤ d → l ≤ℤ v
+    above v l k s d w e h = omega (arith, ints)
 
-    below : (l k s d : ℤ) → l ≡ k +ℤ s → d ≤ℤ s → (d +ℤ k) ≤ℤ l
-    below l k s d e h = omega (arith, ints)
+    below : (v l k s d : ℤ) → v ≡ d +ℤ k → l ≡ k +ℤ s → d ≤ℤ s → v ≤ℤ l
+    below v l k s d w e h = omega (arith, ints)
 
     reached : (l k s d : ℤ) → l ≡ k +ℤ s → d ≡ s → d +ℤ k ≡ l
     reached l k s d e h = omega (arith, ints)

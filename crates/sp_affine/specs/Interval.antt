@@ -1,6 +1,6 @@
 -- The values that a form without a symbol takes over a box, which gives each counter a range with both its ends.
 use Rattle.std.specs.Prelude.{◌≡◌, ℕ, ℤ, pos, negsuc, neg_ℤ, ◌+ℤ◌, ◌*ℤ◌, ◌≤ℤ◌, ◌^◌, List, [], ◌∷◌}
-use Rattle.sp_affine.specs.Affine.{Affine, dot}
+use Rattle.sp_affine.specs.Affine.{Affine, value_of}
 
 -- the range of a counter: its ends in order, and neither past 2 ^ 52
 pub record IsCounterRange (r : ℤ × ℤ) : Type 0 where
@@ -15,18 +15,14 @@ InBox [] (x ∷ xs) = ⊥
 InBox (r ∷ rs) [] = ⊥
 InBox (r ∷ rs) (x ∷ xs) = (r.0 ≤ℤ x) × (x ≤ℤ r.1) × InBox rs xs
 
--- the value of a form that has no symbol
-abbrev pub plain_value : Affine → List ℤ → ℤ
-plain_value f counters = dot f.coefs counters +ℤ f.constant
-
--- the form has this value somewhere in the box
+-- the form has this value somewhere in the box, whatever values symbols have
 abbrev pub IsReached : Affine → List (ℤ × ℤ) → ℤ → Type 0
-IsReached f ranges v = (counters : List ℤ) × InBox ranges counters × (plain_value f counters ≡ v)
+IsReached f ranges v = (counters : List ℤ) × InBox ranges counters × ((symbols : ℕ → ℤ) → value_of f counters symbols ≡ v)
 
 -- the least and the greatest value over the box: all its values lie between the two, and both are values of it
 pub record IsRange (f : Affine) (ranges : List (ℤ × ℤ)) (low high : ℤ) : Type 0 where
-  pub above_low : (counters : List ℤ) → InBox ranges counters → low ≤ℤ plain_value f counters
-  pub below_high : (counters : List ℤ) → InBox ranges counters → plain_value f counters ≤ℤ high
+  pub above_low : (counters : List ℤ) (symbols : ℕ → ℤ) → InBox ranges counters → low ≤ℤ value_of f counters symbols
+  pub below_high : (counters : List ℤ) (symbols : ℕ → ℤ) → InBox ranges counters → value_of f counters symbols ≤ℤ high
   pub low_reached : IsReached f ranges low
   pub high_reached : IsReached f ranges high
 

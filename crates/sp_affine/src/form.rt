@@ -38,7 +38,10 @@ impl fmt::Display for FormError {
     fn fmt<W: fmt::Write>(&self, f: &mut fmt::Formatter<W>) -> fmt::Result {
         match self {
             FormError::Wide => write!(f, "a number of the form leaves 64 bits"),
-            FormError::Symbols => write!(f, "the form would have more than one symbol, once"),
+            FormError::Symbols => write!(
+                f,
+                "the form would have more than one symbol, or a multiple of one"
+            ),
             FormError::Memory => write!(f, "out of memory"),
         }
     }

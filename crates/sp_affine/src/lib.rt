@@ -9,4 +9,7 @@ mod symbol;
 
 pub use arithmetic::{add, minus, scale};
 pub use form::{Form, FormError};
-pub use range::interval;
+pub use range::{are_counter_ranges, interval};
+
+#[cfg(test)]
+mod tests;

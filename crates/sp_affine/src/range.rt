@@ -1,9 +1,11 @@
 //! The values that a form takes while its counters go over ranges.
-ghost use Rattle.std.specs.Prelude.{◌≡◌, ◌↔◌, ◌≤◌, length, IsNone, IsSome, IfSome};
+ghost use Rattle.std.specs.Prelude.{◌≡◌, ◌↔◌, ◌≤◌, length, IsNone, IsSome, IfSome, IsTrue};
 ghost use Rattle.std.specs.List.{All};
 ghost use Rattle.sp_affine.specs.Interval.{IsCounterRange, IsRange, least_product, greatest_product};
 
 use crate::form::Form;
+
+const GREATEST_END: i64 = 1 << 52;
 
 /// The least and the greatest value of a form, where each counter goes over its range, both ends
 /// included.
@@ -28,6 +30,24 @@ pub fn interval(form: &Form, ranges: &[(i64, i64)]) -> Option<(i128, i128)>
         high += greatest;
     }
     Some((low, high))
+}
+
+/// Whether each range goes up and has both its ends from -2^52 to 2^52, as `interval` asks.
+pub fn are_counter_ranges(ranges: &[(i64, i64)]) -> bool
+    ensures { IsTrue result ↔ All IsCounterRange ranges.now }
+{
+    for range in ranges {
+        if !is_counter_range(*range) {
+            return false;
+        }
+    }
+    true
+}
+
+fn is_counter_range(range: (i64, i64)) -> bool
+    ensures { IsTrue result ↔ IsCounterRange range }
+{
+    range.0 <= range.1 && -GREATEST_END <= range.0 && range.1 <= GREATEST_END
 }
 
 fn product_range(coef: i64, range: (i64, i64)) -> (i128, i128)

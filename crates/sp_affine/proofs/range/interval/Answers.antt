@@ -1,5 +1,7 @@
-use Rattle.std.proofs.Common.{◌≡◌, ◌+◌, ◌<◌, ◌≤◌, ℤ, pos, ◌+ℤ◌, length, get_or, take, ap, sym, ◌∙◌, arith, rules, FitsSigned, to_z}
+use Rattle.std.proofs.Common.{◌≡◌, ◌+◌, ◌<◌, ◌≤◌, ℤ, pos, ◌+ℤ◌, length, get_or, take, ap, sym, ◌∙◌, arith, rules, FitsSigned, to_z, ℕ, Bool, true, false, refl}
 use Rattle.std.specs.Int.{w64, w128}
+use Rattle.std.specs.Prelude.{Option, Some, None}
+use Rattle.std.specs.Option.{is_some}
 use Rattle.std.proofs.lemmas.Int.{ints, to_z-of_z}
 use Rattle.std.proofs.lemmas.List.{take_all}
 use Rattle.sp_affine.specs.Interval.{IsCounterRange, least_product, greatest_product}
@@ -73,11 +75,20 @@ loop-i-preserved c =
       high_reach = rw (to_z-of_z w128 _ high_product_fits, to_z-of_z w128 _ high_fits) (sum_reaches c.loop-i.i _ _ _ c.loop-i.invariant.high_reach greatest high_small);
     }
 
+no_symbol : (o : Option ℕ) (there : Bool) → there ≡ is_some o → there ≡ false → o ≡ None
+no_symbol None there e h = refl
+no_symbol (Some n) there e h = absurd (apart there e h)
+  where
+    apart : (b : Bool) → b ≡ true → b ≡ false → ⊥
+    apart b x y = let z = sym x ∙ y in cc
+
 pub returns-clause-range : goal.returns-clause-range
 returns-clause-range c =
     let coefs : c.deref-coef-items.result.now ≡ c.args.form.now.coefs = cc in
     let past_coefs : length c.args.form.now.coefs ≤ c.loop-i.i = omega (arith, c.loop-i-test.false, ap length coefs) in
     let past_ranges : length c.args.ranges.now ≤ c.loop-i.i = omega arith in
-    range_of c.args.form.now c.args.ranges.now _ _ c.requires.one_each c.requires.in_order
+    let symbol = no_symbol _ _ c.is_some.ensures c.if-is_some.false in
+    let none : c.args.form.now.symbol ≡ None = ap (λ f. f.symbol) (sym c.form.view_is) ∙ symbol in
+    range_of c.args.form.now c.args.ranges.now _ _ none c.requires.one_each c.requires.in_order
     (rw (take_all c.loop-i.i c.args.form.now.coefs past_coefs, take_all c.loop-i.i c.args.ranges.now past_ranges) at c.loop-i.invariant.is_low)
     (rw (take_all c.loop-i.i c.args.form.now.coefs past_coefs, take_all c.loop-i.i c.args.ranges.now past_ranges) at c.loop-i.invariant.is_high)
