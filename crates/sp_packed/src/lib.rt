@@ -1,0 +1,4 @@
+//! Words packed into one raw block.
+#![tactic(auto)]
+
+mod raw;
