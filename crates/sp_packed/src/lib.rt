@@ -1,4 +1,5 @@
 //! Words packed into one raw block.
 #![tactic(auto)]
 
+mod block;
 mod raw;
