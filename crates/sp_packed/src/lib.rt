@@ -5,8 +5,10 @@
 
 mod block;
 mod raw;
+#[cfg(test)]
+mod tests;
 
-ghost use Rattle.std.specs.Prelude.{◌≡◌, ℕ, ◌*◌, ◌^◌, ◌<◌, length, replicate, slice_get, slice_set, Some, IfOk};
+ghost use Rattle.std.specs.Prelude.{◌≡◌, ℕ, ◌*◌, ◌^◌, ◌<◌, length, replicate, slice_get, slice_set, Some, IfOk, IsOk};
 ghost use Rattle.sp_packed.specs.Elements.{IsWidth};
 
 use crate::block::Block;
@@ -18,6 +20,8 @@ pub use std::alloc::AllocError as NoMemory;
 /// The block, by the width of its elements in bytes.
 #[derive(Drop)]
 enum Words {
+    // No number takes no memory.
+    Empty { bytes_each: u8 },
     One(Block<u8>),
     Two(Block<u16>),
     Four(Block<u32>),
@@ -42,14 +46,19 @@ impl Model for Packed {
 }
 
 impl Packed {
-    /// Takes one block of `bytes_each * len` bytes, and sets each number to 0. `NoMemory` also where no
-    /// block can have so many bytes.
+    /// Takes one block of `bytes_each * len` bytes, and sets each number to 0. No block is taken where
+    /// `len` is 0. `NoMemory` also where no block can have so many bytes.
     pub fn new(alloc: Global, bytes_each: u8, len: usize) -> Result<Packed, NoMemory>
         requires { IsWidth bytes_each }
         ensures width { IfOk result (λ p. p.bytes_each ≡ bytes_each) }
         ensures numbers { IfOk result (λ p. p.numbers ≡ replicate len 0) }
         ensures fits { IfOk result (λ _. bytes_each * len < 2 ^ 63) }
+        ensures succeeds { len ≡ 0 → IsOk result }
     {
+        if len == 0 {
+            let words = Words::Empty { bytes_each };
+            return Ok(Packed { words });
+        }
         if len > isize::MAX as usize / bytes_each as usize {
             return Err(NoMemory);
         }
@@ -70,6 +79,7 @@ impl Packed {
         ensures fits { result < 256 ^ self.now.bytes_each }
     {
         match &self.words {
+            Words::Empty { .. } => unreachable!(),
             Words::One(block) => block.get(i) as u64,
             Words::Two(block) => block.get(i) as u64,
             Words::Four(block) => block.get(i) as u64,
@@ -86,6 +96,7 @@ impl Packed {
         ensures width { self.new.bytes_each ≡ self.old.bytes_each }
     {
         match &mut self.words {
+            Words::Empty { .. } => unreachable!(),
             Words::One(block) => block.set(i, v as u8),
             Words::Two(block) => block.set(i, v as u16),
             Words::Four(block) => block.set(i, v as u32),
@@ -100,6 +111,7 @@ impl Packed {
         ensures width { self.new.bytes_each ≡ self.old.bytes_each }
     {
         match &mut self.words {
+            Words::Empty { .. } => {}
             Words::One(block) => block.fill(v as u8),
             Words::Two(block) => block.fill(v as u16),
             Words::Four(block) => block.fill(v as u32),
@@ -113,6 +125,7 @@ impl Packed {
         ensures { result ≡ length self.now.numbers }
     {
         match &self.words {
+            Words::Empty { .. } => 0,
             Words::One(block) => block.len(),
             Words::Two(block) => block.len(),
             Words::Four(block) => block.len(),
