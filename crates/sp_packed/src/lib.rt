@@ -12,10 +12,9 @@ ghost use Rattle.std.specs.Prelude.{◌≡◌, ℕ, ◌*◌, ◌^◌, ◌<◌, l
 ghost use Rattle.sp_packed.specs.Elements.{IsWidth};
 
 use crate::block::Block;
+pub use std::alloc::AllocError as NoMemory;
 use std::alloc::Global;
 use std::marker::Model;
-
-pub use std::alloc::AllocError as NoMemory;
 
 /// The block, by the width of its elements in bytes.
 #[derive(Drop)]

@@ -1,4 +1,4 @@
-use Rattle.std.proofs.Common.{◌≡◌, Some, map, set, length, sym, ap, ◌∙◌, length-set}
+use Rattle.std.proofs.Common.{Some, map, set, length, sym, ap, ◌∙◌, length-set}
 use Rattle.sp_packed.proofs.Places.{all_held, set_map}
 use Rattle.sp_packed.proofs.block.Block.set.Goals as goal
 
