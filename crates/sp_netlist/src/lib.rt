@@ -1,0 +1,7 @@
+//! Netlists: their cells, the rules that they obey, what they do in a cycle and over a run, and a
+//! builder that makes them without loops.
+#![tactic(auto)]
+
+mod cell;
+
+pub use cell::{Cell, CellOp, CellShift, NetId, Port};

@@ -1,0 +1,34 @@
+-- What a type says about its words.
+use Rattle.std.specs.Prelude.{ℕ, ◌+◌, Bool, false}
+use Rattle.sp_words.specs.declared.types.FixTy.{FixTy}
+use Rattle.sp_words.specs.declared.types.Ty.{Ty}
+use Rattle.sp_words.specs.declared.types.Ty.TheVariants.{Fix, Bit}
+
+-- whether a fixed-point type has a sign bit, and how many bits it has before and after the point
+abbrev pub fix_signed : FixTy → Bool
+fix_signed t = t.signed
+
+abbrev pub fix_whole : FixTy → ℕ
+fix_whole t = t.whole
+
+abbrev pub fix_frac : FixTy → ℕ
+fix_frac t = t.frac
+
+-- whether the words of the type have a sign
+abbrev pub signed_of : Ty → Bool
+signed_of (Fix t) = t.signed
+signed_of Bit = false
+
+-- how many of its bits stand before the point, the sign bit among them
+abbrev pub whole_of : Ty → ℕ
+whole_of (Fix t) = t.whole
+whole_of Bit = 1
+
+-- how many stand after it
+abbrev pub frac_of : Ty → ℕ
+frac_of (Fix t) = t.frac
+frac_of Bit = 0
+
+-- how many bits a word of the type has
+abbrev pub width_of : Ty → ℕ
+width_of ty = whole_of ty + frac_of ty

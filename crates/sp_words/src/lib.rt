@@ -1,0 +1,6 @@
+//! Types.
+#![tactic(auto)]
+
+mod types;
+
+pub use types::{FixTy, Ty};
