@@ -1,6 +1,6 @@
 -- A cell without where its name and its dimensions lie in memory. The fields stand in the order of a
 -- listing's line: names are lists of bytes, nets, banks, DRAMs and channels are numbers.
-use Rattle.std.specs.Prelude.{ℕ, List, [], ◌∷◌, Bool, true, false, string_bytes, map}
+use Rattle.std.specs.Prelude.{ℕ, List, string_bytes, map}
 use Rattle.sp_words.specs.declared.types.Ty.{Ty}
 use Rattle.sp_netlist.specs.declared.cell.Cell.{Cell}
 use Rattle.sp_netlist.specs.declared.cell.Cell.TheVariants.{In, Out, Done, Const, Op, Not, Shift, Cast, Mux, Hold, Bank, ReadTap, WriteTap, Dram, LoadUnit, StoreUnit}

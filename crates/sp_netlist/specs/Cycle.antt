@@ -1,11 +1,11 @@
 -- How a run ends. A cycle in which two enabled taps stand on one port of one bank is a conflict; else, where
 -- the done net is 1, the run is done; else it goes on.
-use Rattle.std.specs.Prelude.{◌≡◌, ℕ, ◌+◌, ◌<◌, ◌≤◌, List, [], ◌∷◌, Bool, true, false, ◌&&◌, ◌==◌, IsTrue, map, count_by}
+use Rattle.std.specs.Prelude.{◌≡◌, ℕ, ◌<◌, ◌≤◌, List, [], ◌∷◌, Bool, false, ◌&&◌, ◌==◌, IsTrue, map, count_by, Contains}
 use Rattle.std.specs.List.{range_with_len, list_any}
 use Rattle.sp_netlist.specs.declared.cell.Port.{Port}
 use Rattle.sp_netlist.specs.declared.cell.Port.TheVariants.{Read, Write}
 use Rattle.sp_netlist.specs.Cells.{PlainCell, out_cell, done_cell, read_tap, write_tap, dram_cell}
-use Rattle.sp_netlist.specs.Rules.{size_of_dims}
+use Rattle.sp_netlist.specs.Rules.{is_bank, is_dram, is_unit, driven_nets, size_of_dims}
 use Rattle.sp_netlist.specs.Signals.{Setting, Signals, IsRun}
 
 -- whether a cell is a tap on this port of this bank that is enabled, at the nets' words
@@ -73,3 +73,16 @@ EndsAs g s last not_yet = (t : ℕ) → t ≤ last → GoesOn g s t
 pub record Ends (g : Setting) (last : ℕ) (ending : Ending) : Type 0 where
   pub has_run : (s : Signals) × IsRun g s
   pub every_run : (s : Signals) → IsRun g s → EndsAs g s last ending
+
+-- Two runs are the same on all that a netlist drives and keeps.
+pub record SameRun (cells : List PlainCell) (s u : Signals) : Type 0 where
+  pub nets : (t net width : ℕ) → Contains (driven_nets cells) (net, width) → s.net t net ≡ u.net t net
+  pub banks : (t bank addr : ℕ) → bank < count_by is_bank cells → s.bank t bank addr ≡ u.bank t bank addr
+  pub drams : (t dram addr : ℕ) → dram < count_by is_dram cells → s.dram t dram addr ≡ u.dram t dram addr
+  pub phases : (t channel : ℕ) → channel < count_by is_unit cells → s.phase t channel ≡ u.phase t channel
+  pub asked : (t : ℕ) → s.asked t ≡ u.asked t
+
+-- the setting has exactly one run
+pub record OneRun (g : Setting) : Type 0 where
+  pub some_run : (s : Signals) × IsRun g s
+  pub same_run : (s u : Signals) → IsRun g s → IsRun g u → SameRun g.cells s u

@@ -1,5 +1,5 @@
 -- When a list of cells is a netlist.
-use Rattle.std.specs.Prelude.{◌≡◌, ℕ, ◌^◌, ◌<◌, ◌≤◌, ◌*◌, List, [], ◌∷◌, ◌++◌, Bool, true, false, ◌&&◌, ◌||◌, ◌==◌, nat_le, IsTrue, if◌then◌else◌, length, map, flat_map, filter_map, count_by, All, Contains, Option, Some, None, fold}
+use Rattle.std.specs.Prelude.{◌≡◌, ℕ, ◌^◌, ◌<◌, ◌≤◌, ◌*◌, List, [], ◌∷◌, ◌++◌, Bool, true, false, ◌&&◌, ◌||◌, ◌==◌, nat_le, IsTrue, if◌then◌else◌, length, map, flat_map, filter_map, count_by, All, Contains, Option, Some, None}
 use Rattle.std.specs.List.{list_all}
 use Rattle.sp_words.specs.declared.types.Ty.{Ty}
 use Rattle.sp_words.specs.Types.{width_of}
@@ -172,12 +172,18 @@ pub data Leads (cells : List PlainCell) : ℕ → ℕ → Type 0 where
   one_cell : {a b : ℕ} → Feeds cells a b → Leads cells a b
   more_cells : {a b c : ℕ} → Feeds cells a b → Leads cells b c → Leads cells a c
 
--- The list is a netlist. A net that a unit drives as READY and as its word would be driven twice.
+-- Nets can be ranked so that each computed net stands above those that it is computed from: so no chain leads
+-- from a net back to it.
+abbrev pub IsRanked : List PlainCell → Type 0
+IsRanked cells = (rank : ℕ → ℕ) × ((a net : ℕ) → Feeds cells a net → rank a < rank net)
+
+-- The list is a netlist.
 pub record IsNetlist (cells : List PlainCell) : Type 0 where
   pub right : (before : List PlainCell) (cell : PlainCell) (after : List PlainCell) → cells ≡ before ++ cell ∷ after → IsRight cells before cell
   pub one_done : count_by is_done cells ≡ 1
   pub numbers : All (λ p. p.0 < 2 ^ 64) (driven_nets cells)
-  -- each net that is named is driven, by one cell, and stands everywhere at the width that its driver gives it
+  -- each net that is named is driven once, and stands everywhere at the width that its driver gives it
   pub driven_once : (net : ℕ) → count_by (λ p. p.0 == net) (driven_nets cells) ≤ 1
   pub read_driven : All (Contains (driven_nets cells)) (read_nets cells)
-  pub no_loop : (net : ℕ) → Leads cells net net → ⊥
+  -- no net is computed from itself
+  pub ranked : IsRanked cells
