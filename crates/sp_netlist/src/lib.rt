@@ -2,6 +2,8 @@
 //! builder that makes them without loops.
 #![tactic(auto)]
 
+mod builder;
 mod cell;
 
+pub use builder::Builder;
 pub use cell::{Cell, CellOp, CellShift, NetId, Port};
