@@ -1,0 +1,4 @@
+pub mod InterfaceLemmas
+pub mod OperatorLemmas
+pub mod Residues
+pub mod TypeLemmas
