@@ -1,13 +1,13 @@
 -- A draft stays one when a net is promised or a cell is added, and a complete one is a netlist.
-use Rattle.std.proofs.Common.{◌≡◌, ℕ, zero, suc, ◌+◌, ◌<◌, ◌≤◌, ◌^◌, ◌==◌, Bool, true, false, not, cond, IsTrue, List, [], ◌∷◌, ◌++◌, length, map, flat_map, count_by, sum_by, All, Contains, Option, Some, None, slice_get, option_map, ◌⊎◌, inl, inr, refl, sym, ap, ap₂, subst, ◌∙◌, arith, ltb, lt-ltb, eq-eqb, eqb-true, ne_eqb, length-append, true≢false}
+use Rattle.std.proofs.Common.{◌≡◌, ℕ, zero, suc, ◌+◌, ◌<◌, ◌≤◌, ◌^◌, ◌==◌, Bool, true, false, not, cond, IsTrue, List, [], ◌∷◌, ◌++◌, length, map, flat_map, count_by, sum_by, All, Contains, Some, slice_get, option_map, ◌⊎◌, inl, inr, refl, sym, ap, ap₂, subst, ◌∙◌, arith, ltb, lt-ltb, eq-eqb, ne_eqb, length-append, true≢false}
 use Rattle.std.specs.List.{AllByRecursion as Each}
 use Rattle.std.proofs.lemmas.Bool.{cases_Bool, cases_eq}
-use Rattle.std.proofs.lemmas.List.Elements.{All-from_recursion, All-contains, All-map, All-append, All-nil, All-push, All-weaker, recursion_from_All, Contains-push_cases}
+use Rattle.std.proofs.lemmas.List.Elements.{All-from_recursion, All-contains, All-map, All-append, All-nil, All-push, All-weaker, Contains-push_cases}
 use Rattle.std.proofs.lemmas.List.Sums.{sum_by-append, sum_by-cons, get_or-le-sum_by}
 use Rattle.std.proofs.lemmas.List.Concat.{flat_map-append}
 use Rattle.sp_netlist.specs.Cells.{PlainCell, in_cell, out_cell, done_cell, const_cell, op_cell, not_cell, shift_cell, cast_cell, mux_cell, reg_cell, bank_cell, read_tap, write_tap, dram_cell, load_unit, store_unit}
 use Rattle.sp_netlist.specs.Rules.{IsRight, IsWidth, IsNetlist, IsRanked, Feeds, is_computed, drives, reads, driven_nets, read_nets}
-use Rattle.sp_netlist.specs.Draft.{Draft, IsDraft, CanAdd, IsComplete, IsReady, IsKept, DrivesApart, promised_width, driver_count}
+use Rattle.sp_netlist.specs.Draft.{Draft, IsDraft, CanAdd, IsComplete, IsReady, DrivesApart, promised_width, driver_count}
 use Rattle.sp_netlist.proofs.Lists.{split_at, counted, Contains-here, Contains-later}
 use Rattle.sp_netlist.proofs.LookUps.{AllRight, AllRight-push, Names-all, drives-kept, reads-kept, driven_nets-push, read_nets-push, Names-right}
 

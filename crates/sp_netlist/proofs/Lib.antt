@@ -1,3 +1,4 @@
 pub mod Lists
 pub mod LookUps
 pub mod DraftLemmas
+pub mod PortLemmas

@@ -1,10 +1,10 @@
 -- What a cell drives and reads stays the same when cells are added after it.
-use Rattle.std.proofs.Common.{◌≡◌, ◌≢◌, ℕ, ◌<◌, ◌≤◌, ◌+◌, ◌==◌, Bool, true, false, cond, List, [], ◌∷◌, ◌++◌, map, flat_map, count_by, Contains, refl, sym, ap, ◌∙◌, append-nil, inl, inr, arith, ne_eqb, if◌then◌else◌}
-use Rattle.std.proofs.lemmas.List.Sums.{sum_by-append, sum_by_push}
+use Rattle.std.proofs.Common.{◌≡◌, ℕ, ◌<◌, ◌==◌, cond, List, [], ◌∷◌, ◌++◌, count_by, Contains, refl, ap, ◌∙◌, append-nil, inl, inr, arith, ne_eqb, if◌then◌else◌}
+use Rattle.std.proofs.lemmas.List.Sums.{sum_by-append}
 use Rattle.std.proofs.lemmas.List.Concat.{flat_map-append}
 use Rattle.sp_words.specs.Types.{width_of}
 use Rattle.sp_netlist.specs.Cells.{PlainCell, in_cell, out_cell, done_cell, const_cell, op_cell, not_cell, shift_cell, cast_cell, mux_cell, reg_cell, bank_cell, read_tap, write_tap, dram_cell, load_unit, store_unit}
-use Rattle.sp_netlist.specs.Rules.{IsRight, is_bank, is_dram, bank_width, dram_width, drives, reads, driven_nets, read_nets, Feeds}
+use Rattle.sp_netlist.specs.Rules.{IsRight, is_bank, is_dram, bank_width, dram_width, drives, reads, driven_nets, read_nets}
 use Rattle.sp_netlist.proofs.Lists.{split_at, split_push, flat_map_same}
 
 -- the bank or the DRAM that the cell names stands in the list

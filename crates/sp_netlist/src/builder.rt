@@ -5,6 +5,7 @@ ghost use Rattle.sp_netlist.specs.Cells.{plain_cell};
 ghost use Rattle.sp_netlist.specs.Draft.{CanAdd, IsComplete, IsDraft};
 
 use crate::cell::{Cell, NetId};
+use crate::netlist::Netlist;
 use std::alloc::{AllocError as NoMemory, Global};
 use std::marker::Model;
 
@@ -73,5 +74,13 @@ impl Builder {
     {
         self.cells.push(cell)?;
         Ok(())
+    }
+
+    /// The netlist of the cells that were added. Each promised net is driven, and there is one `done`.
+    pub fn finish(self, alloc: Global) -> Result<Netlist, NoMemory>
+        requires { IsComplete self }
+        ensures { IfOk result (λ netlist. netlist ≡ self.cells) }
+    {
+        Netlist::new(alloc, self.cells)
     }
 }

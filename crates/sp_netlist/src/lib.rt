@@ -4,6 +4,8 @@
 
 mod builder;
 mod cell;
+mod netlist;
 
 pub use builder::Builder;
 pub use cell::{Cell, CellOp, CellShift, NetId, Port};
+pub use netlist::Netlist;
