@@ -5,7 +5,11 @@
 mod builder;
 mod cell;
 mod netlist;
+mod parts;
+#[cfg(test)]
+mod tests;
 
 pub use builder::Builder;
 pub use cell::{Cell, CellOp, CellShift, NetId, Port};
 pub use netlist::Netlist;
+pub use parts::{Child, Ends, Wire};
