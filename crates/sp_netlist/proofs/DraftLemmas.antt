@@ -2,14 +2,14 @@
 use Rattle.std.proofs.Common.{◌≡◌, ℕ, zero, suc, ◌+◌, ◌<◌, ◌≤◌, ◌^◌, ◌==◌, Bool, true, false, not, cond, IsTrue, List, [], ◌∷◌, ◌++◌, length, map, flat_map, count_by, sum_by, All, Contains, Some, slice_get, option_map, ◌⊎◌, inl, inr, refl, sym, ap, ap₂, subst, ◌∙◌, arith, ltb, lt-ltb, eq-eqb, ne_eqb, length-append, true≢false}
 use Rattle.std.specs.List.{AllByRecursion as Each}
 use Rattle.std.proofs.lemmas.Bool.{cases_Bool, cases_eq}
-use Rattle.std.proofs.lemmas.List.Elements.{All-from_recursion, All-contains, All-map, All-append, All-nil, All-push, All-weaker, Contains-push_cases}
+use Rattle.std.proofs.lemmas.List.Elements.{All-from_recursion, All-contains, All-map, All-append, All-nil, All-push, All-weaker, recursion_from_All, Contains-push_cases}
 use Rattle.std.proofs.lemmas.List.Sums.{sum_by-append, sum_by-cons, get_or-le-sum_by}
 use Rattle.std.proofs.lemmas.List.Concat.{flat_map-append}
 use Rattle.sp_netlist.specs.Cells.{PlainCell, in_cell, out_cell, done_cell, const_cell, op_cell, not_cell, shift_cell, cast_cell, mux_cell, reg_cell, bank_cell, read_tap, write_tap, dram_cell, load_unit, store_unit}
 use Rattle.sp_netlist.specs.Rules.{IsRight, IsWidth, IsNetlist, IsRanked, Feeds, is_computed, drives, reads, driven_nets, read_nets}
-use Rattle.sp_netlist.specs.Draft.{Draft, IsDraft, CanAdd, IsComplete, IsReady, DrivesApart, promised_width, driver_count}
+use Rattle.sp_netlist.specs.Draft.{Draft, IsDraft, CanAdd, IsComplete, IsReady, DrivesApart, KeepsWidths, promised_width, driver_count, net_count}
 use Rattle.sp_netlist.proofs.Lists.{split_at, counted, Contains-here, Contains-later}
-use Rattle.sp_netlist.proofs.LookUps.{AllRight, AllRight-push, Names-all, drives-kept, reads-kept, driven_nets-push, read_nets-push, Names-right}
+use Rattle.sp_netlist.proofs.LookUps.{AllRight, AllRight-push, Names-all, drives-kept, reads-kept, driven_nets-push, read_nets-push, Names-right, bank_width-kept, dram_width-kept}
 
 -- what is promised of a net stays when more are promised
 found_grown : {X Y : Type 0} (f : X → Y) (xs ys : List X) (i : ℕ) (y : Y) → option_map f (slice_get xs i) ≡ Some y → option_map f (slice_get (xs ++ ys) i) ≡ Some y
@@ -290,3 +290,22 @@ IsNetlist-complete d h complete short = record {
   read_driven = All-weaker (λ p. promised_width d p.0 ≡ Some p.1) (Contains (driven_nets d.cells)) (read_is_driven d h complete) (read_nets d.cells) h.read_promised;
   ranked = h.ranked;
 }
+
+-- a net that wasn't promised isn't driven
+pub driver_count-beyond : (d : Draft) (net : ℕ) → IsDraft d → length d.promised ≤ net → driver_count d.cells net ≡ 0
+driver_count-beyond d net h beyond =
+    elim (none_or (λ n. n < length d.promised) (driven_nets d.cells) net
+      (recursion_from_All (λ p. p.0 < length d.promised) (driven_nets d.cells)
+        (All-weaker (λ p. promised_width d p.0 ≡ Some p.1) (λ p. p.0 < length d.promised) (λ p e. found_within (λ n. n.0) d.promised p.0 p.1 e) (driven_nets d.cells) h.driven_promised))) [
+      inl none ↦ none
+      | inr within ↦ absurd (omega (arith, beyond, within))
+    ]
+
+pub KeepsWidths-add : (d : Draft) (c : PlainCell) → CanAdd d c → KeepsWidths d.cells (d.cells ++ c ∷ [])
+KeepsWidths-add d c can = record {
+  banks = λ bank within. bank_width-kept d.cells c bank can.right within;
+  drams = λ dram within. dram_width-kept d.cells c dram can.right within;
+}
+
+pub driver_count-add : (d : Draft) (c : PlainCell) (net : ℕ) → IsDraft d → CanAdd d c → driver_count (d.cells ++ c ∷ []) net ≡ driver_count d.cells net + net_count (drives d.cells c) net
+driver_count-add d c net h can = driver_count-push d.cells c net (record { each = h.right }) can.right

@@ -2,7 +2,7 @@
 use Rattle.std.specs.Prelude.{◌≡◌, ◌≢◌, ℕ, ◌≤◌, ◌<◌, ◌==◌, Bool, true, not, IsTrue, ◌⊎◌, List, ◌++◌, ◌∷◌, length, Option, Some, slice_get, option_map, count_by, All}
 use Rattle.std.specs.List.{AllByRecursion as Each}
 use Rattle.sp_netlist.specs.Cells.{PlainCell, load_unit}
-use Rattle.sp_netlist.specs.Rules.{IsRight, IsWidth, IsRanked, Feeds, is_computed, is_done, drives, reads, driven_nets, read_nets}
+use Rattle.sp_netlist.specs.Rules.{IsRight, IsWidth, IsRanked, Feeds, is_computed, is_done, is_bank, is_dram, bank_width, dram_width, drives, reads, driven_nets, read_nets}
 
 -- For each promised net, in the order of the numbers, its width and whether it is kept: the net of an `in`,
 -- `const`, `reg`, `read`, `load` or `store` cell is. Then the cells in order.
@@ -18,9 +18,12 @@ promised_width d net = option_map (λ p. p.0) (slice_get d.promised net)
 abbrev pub IsKept : Draft → ℕ → Type 0
 IsKept d net = option_map (λ p. p.1) (slice_get d.promised net) ≡ Some true
 
--- how often the cells drive a net
+-- how often a net stands in a list of nets with their widths, and how often the cells drive it
+abbrev pub net_count : List (ℕ × ℕ) → ℕ → ℕ
+net_count nets net = count_by (λ p. p.0 == net) nets
+
 abbrev pub driver_count : List PlainCell → ℕ → ℕ
-driver_count cells net = count_by (λ p. p.0 == net) (driven_nets cells)
+driver_count cells net = net_count (driven_nets cells) net
 
 -- the word of the net stands before any cell that is added next: it is kept, or driven already
 abbrev pub IsReady : Draft → ℕ → Type 0
@@ -58,3 +61,8 @@ pub record IsDraft (d : Draft) : Type 0 where
   pub read_promised : All (λ p. promised_width d p.0 ≡ Some p.1) (read_nets d.cells)
   pub fed_ready : (a net : ℕ) → Feeds d.cells a net → IsReady d a
   pub ranked : IsRanked d.cells
+
+-- When cells are added, the words of a bank or a DRAM that stands keep their width.
+pub record KeepsWidths (old new : List PlainCell) : Type 0 where
+  pub banks : (bank : ℕ) → bank < count_by is_bank old → bank_width new bank ≡ bank_width old bank
+  pub drams : (dram : ℕ) → dram < count_by is_dram old → dram_width new dram ≡ dram_width old dram
