@@ -1,0 +1,4 @@
+pub mod Lists
+pub mod LookUps
+pub mod DraftLemmas
+pub mod PortLemmas

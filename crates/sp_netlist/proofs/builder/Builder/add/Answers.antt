@@ -1,0 +1,24 @@
+use Rattle.std.proofs.Common.{subst, sym, ap, ◌∙◌}
+use Rattle.std.proofs.lemmas.List.{map_push}
+use Rattle.sp_netlist.specs.Cells.{plain_cell, plain_cells}
+use Rattle.sp_netlist.specs.Draft.{CanAdd, IsDraft, KeepsWidths, driver_count}
+use Rattle.sp_netlist.proofs.DraftLemmas.{IsDraft-add, KeepsWidths-add, driver_count-add}
+use Rattle.sp_netlist.proofs.builder.Builder.add.Goals as goal
+
+pub invariant_of-self-2 : goal.invariant_of-self-2
+invariant_of-self-2 c =
+    let can = subst (λ d. CanAdd d (plain_cell c.args.cell)) (sym c.self.view_is) c.requires in
+    rw (c.in_ok-push.ensures.items, map_push) (IsDraft-add _ _ c.self.invariant can)
+
+pub returns-clause-draft : goal.returns-clause-draft
+returns-clause-draft c =
+    let can = subst (λ d. CanAdd d (plain_cell c.args.cell)) (sym c.self.view_is) c.requires in
+    rw (c.in_ok-push.ensures.items, map_push) (IsDraft-add _ _ c.self.invariant can)
+
+pub returns-clause-drivers : goal.returns-clause-drivers
+returns-clause-drivers c =
+    λ net. rw (c.in_ok-push.ensures.items, map_push, ← c.self.view_is) (driver_count-add _ _ net c.self.invariant (subst (λ d. CanAdd d (plain_cell c.args.cell)) (sym c.self.view_is) c.requires))
+
+pub returns-clause-widths : goal.returns-clause-widths
+returns-clause-widths c =
+    rw (c.in_ok-push.ensures.items, map_push, ← c.self.view_is) (KeepsWidths-add _ _ (subst (λ d. CanAdd d (plain_cell c.args.cell)) (sym c.self.view_is) c.requires))

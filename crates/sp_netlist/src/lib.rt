@@ -1,0 +1,15 @@
+//! Netlists: their cells, the rules that they obey, what they do in a cycle and over a run, and a
+//! builder that makes them without loops.
+#![tactic(auto)]
+
+mod builder;
+mod cell;
+mod netlist;
+mod parts;
+#[cfg(test)]
+mod tests;
+
+pub use builder::Builder;
+pub use cell::{Cell, CellOp, CellShift, NetId, Port};
+pub use netlist::Netlist;
+pub use parts::{Child, Ends, Wire};
