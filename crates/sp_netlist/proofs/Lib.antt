@@ -4,3 +4,4 @@ pub mod Drivers
 pub mod SomeRun
 pub mod SameRun
 pub mod OneRun
+pub mod Endings
