@@ -2,3 +2,10 @@ pub mod Lists
 pub mod LookUps
 pub mod DraftLemmas
 pub mod PortLemmas
+pub mod Splits
+pub mod Machine
+pub mod Drivers
+pub mod SomeRun
+pub mod SameRun
+pub mod OneRun
+pub mod Endings

@@ -4,3 +4,4 @@ pub mod Signals
 pub mod Cycle
 pub mod Draft
 pub mod Ports
+pub mod Laws

@@ -8,8 +8,10 @@ mod netlist;
 mod parts;
 #[cfg(test)]
 mod tests;
+mod laws;
 
 pub use builder::Builder;
 pub use cell::{Cell, CellOp, CellShift, NetId, Port};
 pub use netlist::Netlist;
 pub use parts::{Child, Ends, Wire};
+pub use laws::{ending_kept, no_loop, one_ending, one_run};
