@@ -1,3 +1,4 @@
+pub mod Interface
 pub mod Types
 pub mod WholeNumbers
 pub mod Words

@@ -9,10 +9,13 @@ use Rattle.sp_words.specs.WholeNumbers.{modulo, floor_div, quotient, remainder}
 abbrev pub IsWord : Ty → ℕ → Type 0
 IsWord ty w = w < 2 ^ width_of ty
 
+-- whether a word has a sign bit that is set
+unfoldable pub has_sign : Ty → ℕ → Bool
+has_sign ty w = signed_of ty && nat_le (2 ^ (width_of ty - 1)) w
+
 -- what a word stands for, in two's complement where the type has a sign; the number meant is that over 2 ^ frac
 unfoldable pub value_of : Ty → ℕ → ℤ
-value_of ty w =
-    if signed_of ty && nat_le (2 ^ (width_of ty - 1)) w then pos w -ℤ pos (2 ^ width_of ty) else pos w
+value_of ty w = if has_sign ty w then pos w -ℤ pos (2 ^ width_of ty) else pos w
 
 -- the word that a whole number leaves, modulo 2 ^ width
 unfoldable pub wrap : Ty → ℤ → ℕ

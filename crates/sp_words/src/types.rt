@@ -19,7 +19,7 @@ pub enum Ty {
 }
 
 impl FixTy {
-    ghost use Rattle.std.specs.Prelude.{◌≡◌, ◌<◌, ◌↔◌, IsSome, IfSome};
+    ghost use Rattle.std.specs.Prelude.{◌≡◌, ◌↔◌, IsSome, IfSome};
     ghost use Rattle.sp_words.specs.Types.{fix_signed, fix_whole, fix_frac};
 
     /// The type of `whole` and `frac` bits, if that is 1 to 64 bits together.
@@ -38,5 +38,85 @@ impl FixTy {
             whole,
             frac,
         })
+    }
+
+    /// Whether the first of the whole bits is a sign bit.
+    pub fn signed(self) -> bool
+        ensures { result ≡ fix_signed self }
+    {
+        self.signed
+    }
+
+    /// How many bits stand before the point, the sign bit among them.
+    pub fn whole(self) -> u8
+        ensures { result ≡ fix_whole self }
+    {
+        self.whole
+    }
+
+    /// How many bits stand after the point.
+    pub fn frac(self) -> u8
+        ensures { result ≡ fix_frac self }
+    {
+        self.frac
+    }
+}
+
+impl Ty {
+    ghost use Rattle.std.specs.Prelude.{◌≡◌};
+    ghost use Rattle.sp_words.specs.Types.{signed_of, whole_of, frac_of, width_of, int_type};
+
+    /// `Int`, which is signed and has 32 whole bits.
+    pub fn int() -> Ty
+        ensures { result ≡ int_type }
+    {
+        Ty::Fix(FixTy {
+            signed: true,
+            whole: 32,
+            frac: 0,
+        })
+    }
+
+    /// How many bits a word of the type has.
+    pub fn width(self) -> u8
+        ensures value { result ≡ width_of self }
+        ensures has_bits { 1 ≤ result }
+        ensures in_a_word { result ≤ 64 }
+    {
+        match self {
+            Ty::Fix(fix) => fix.whole + fix.frac,
+            Ty::Bit => 1,
+        }
+    }
+
+    /// Whether its values have a sign.
+    pub fn signed(self) -> bool
+        ensures { result ≡ signed_of self }
+    {
+        match self {
+            Ty::Fix(fix) => fix.signed,
+            Ty::Bit => false,
+        }
+    }
+
+    /// How many bits stand before the point, a sign bit among them.
+    pub fn whole(self) -> u8
+        ensures { result ≡ whole_of self }
+    {
+        match self {
+            Ty::Fix(fix) => fix.whole,
+            Ty::Bit => 1,
+        }
+    }
+
+    /// How many bits stand after the point.
+    pub fn frac(self) -> u8
+        ensures value { result ≡ frac_of self }
+        ensures within { result ≤ width_of self }
+    {
+        match self {
+            Ty::Fix(fix) => fix.frac,
+            Ty::Bit => 0,
+        }
     }
 }

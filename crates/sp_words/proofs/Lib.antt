@@ -1,0 +1,3 @@
+pub mod OperatorLemmas
+pub mod Residues
+pub mod TypeLemmas
