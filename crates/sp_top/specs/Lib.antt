@@ -1,0 +1,5 @@
+pub mod Straight
+pub mod Form
+pub mod IntType
+pub mod Meaning
+pub mod Carries
