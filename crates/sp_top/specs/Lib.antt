@@ -1,5 +1,4 @@
 pub mod Straight
 pub mod Form
-pub mod IntType
 pub mod Meaning
 pub mod Carries
