@@ -1,5 +1,6 @@
 -- What a straight-line program means: one statement at a time, each taking a turn.
 use Rattle.std.specs.Prelude.{ℕ, zero, suc, ◌+◌, List, [], ◌∷◌, replicate, length, slice_index, slice_set}
+use Rattle.sp_words.specs.Types.{int_type}
 use Rattle.sp_words.specs.Words.{word_add, word_sub, word_mul}
 use Rattle.sp_top.specs.declared.straight.program.Operator.{Operator}
 use Rattle.sp_top.specs.declared.straight.program.Operator.TheVariants.{Add, Sub, Mul}
@@ -9,16 +10,15 @@ use Rattle.sp_top.specs.declared.straight.program.Value.{Value}
 use Rattle.sp_top.specs.declared.straight.program.Value.TheVariants.{One, Two}
 use Rattle.sp_top.specs.declared.straight.program.Statement.{Statement}
 use Rattle.sp_top.specs.Straight.{PlainProgram}
-use Rattle.sp_top.specs.IntType.{int}
 
 abbrev pub atom_value : List ℕ → Atom → ℕ
 atom_value args (Arg i) = slice_index args i
 atom_value args (Literal n) = n
 
 abbrev pub operator_value : Operator → ℕ → ℕ → ℕ
-operator_value Add = word_add int
-operator_value Sub = word_sub int
-operator_value Mul = word_mul int
+operator_value Add = word_add int_type
+operator_value Sub = word_sub int_type
+operator_value Mul = word_mul int_type
 
 -- operands from left to right, before their operator
 abbrev pub value_value : List ℕ → Value → ℕ
