@@ -2,3 +2,4 @@ pub mod Straight
 pub mod Form
 pub mod Meaning
 pub mod Carries
+pub mod StraightCells
