@@ -2,3 +2,4 @@ pub mod Cells
 pub mod Rules
 pub mod Signals
 pub mod Cycle
+pub mod Laws

@@ -3,5 +3,7 @@
 #![tactic(auto)]
 
 mod cell;
+mod laws;
 
 pub use cell::{Cell, CellOp, CellShift, NetId, Port};
+pub use laws::{ending_kept, no_loop, one_ending, one_run};

@@ -1,0 +1,26 @@
+//! Laws of netlists.
+
+ghost use Rattle.sp_netlist.specs.Laws.{HasOneRun, HasOneEnding, EndingKept, NoLoop};
+
+/// Every netlist has exactly one run for each list of arguments, contents of its DRAMs and list of
+/// delays: words are compared on the nets that are driven and on what is kept.
+pub fn one_run()
+    ensures { HasOneRun }
+{}
+
+/// Within the cycles 0 to any last one every netlist ends in exactly one way: done in a cycle with
+/// its outputs, at a conflict in a cycle, or not yet.
+pub fn one_ending()
+    ensures { HasOneEnding }
+{}
+
+/// A run that is done in a cycle, or has a conflict there, ends so for every last cycle from that
+/// one on.
+pub fn ending_kept()
+    ensures { EndingKept }
+{}
+
+/// In a netlist no chain of `op`, `not`, `shift`, `cast` and `mux` cells leads from a net back to it.
+pub fn no_loop()
+    ensures { NoLoop }
+{}
