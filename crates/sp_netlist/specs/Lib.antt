@@ -3,3 +3,5 @@ pub mod Rules
 pub mod Signals
 pub mod Cycle
 pub mod Laws
+pub mod Draft
+pub mod Ports

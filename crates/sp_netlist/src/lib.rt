@@ -2,8 +2,12 @@
 //! builder that makes them without loops.
 #![tactic(auto)]
 
+mod builder;
 mod cell;
 mod laws;
+mod netlist;
 
+pub use builder::Builder;
 pub use cell::{Cell, CellOp, CellShift, NetId, Port};
 pub use laws::{ending_kept, no_loop, one_ending, one_run};
+pub use netlist::Netlist;

@@ -1,3 +1,4 @@
+pub mod InterfaceLemmas
 pub mod OperatorLemmas
 pub mod Residues
 pub mod TypeLemmas

@@ -6,7 +6,7 @@ mod operators;
 mod types;
 mod words;
 
-pub use interface::{Input, Output, PortDecl, Ports};
+pub use interface::{Input, Output, PortDecl, Ports, fits};
 pub use operators::{add, mul, sub};
 pub use types::{FixTy, Ty};
 pub use words::is_word;

@@ -1,0 +1,86 @@
+//! A builder of netlists in which no loop can stand.
+ghost use Rattle.std.specs.Prelude.{◌≡◌, ◌++◌, ◌∷◌, [], length, IfOk, OnOk, OnErr};
+ghost use Rattle.sp_netlist.specs.Rules.{IsWidth};
+ghost use Rattle.sp_netlist.specs.Cells.{plain_cell};
+ghost use Rattle.sp_netlist.specs.Draft.{CanAdd, IsComplete, IsDraft};
+
+use crate::cell::{Cell, NetId};
+use crate::netlist::Netlist;
+use std::alloc::{AllocError as NoMemory, Global};
+use std::marker::Model;
+
+/// A promised net: its width, and whether it is kept.
+#[derive(Clone, Copy, Debug, Drop)]
+struct Net {
+    width: u8,
+    kept: bool,
+}
+
+/// The nets that were promised and the cells that were added so far. A net that is kept has its word
+/// at the start of a cycle; any other is computed from nets whose words stand before it.
+#[derive(Debug, Drop)]
+pub struct Builder {
+    nets: Vec<Net>,
+    cells: Vec<Cell>,
+}
+
+impl Model for Builder {
+    ghost use Rattle.sp_netlist.specs.Cells.{plain_cells};
+    ghost use Rattle.sp_netlist.specs.Draft.{Draft, IsDraft};
+    ghost use Rattle.std.specs.Prelude.{map};
+
+    ghost Value = { Draft };
+
+    ghost view = { λ b. record { promised = map (λ n. (n.width, n.kept)) b.nets.items; cells = plain_cells b.cells.items } };
+
+    ghost invariant = { λ b. IsDraft (record { promised = map (λ n. (n.width, n.kept)) b.nets.items; cells = plain_cells b.cells.items }) };
+}
+
+impl Builder {
+    /// A builder that holds nothing.
+    pub fn new(alloc: Global) -> Builder
+        ensures no_nets { result.promised ≡ [] }
+        ensures no_cells { result.cells ≡ [] }
+        ensures draft { IsDraft result }
+    {
+        Builder {
+            nets: Vec::new(alloc),
+            cells: Vec::new(alloc),
+        }
+    }
+
+    /// The next net, of 1 to 64 bits. A kept net is to be driven by an `in`, `const`, `reg`, `read`, `load` or
+    /// `store` cell, any other by an `op`, `not`, `shift`, `cast` or `mux` cell.
+    pub fn promise(&mut self, width: u8, kept: bool) -> Result<NetId, NoMemory>
+        requires { IsWidth width }
+        ensures net { IfOk result (λ net. net ≡ length self.old.promised) }
+        ensures promised { OnOk result (self.new.promised ≡ self.old.promised ++ (width, kept) ∷ []) }
+        ensures same_cells { self.new.cells ≡ self.old.cells }
+        ensures draft { IsDraft self.new }
+        ensures unchanged { OnErr result (self.new ≡ self.old) }
+    {
+        let net = NetId::new(self.nets.len() as u64);
+        self.nets.push(Net { width, kept })?;
+        Ok(net)
+    }
+
+    /// Adds a cell after those that were added before. On want of memory the builder stays as it was.
+    pub fn add(&mut self, cell: Cell) -> Result<(), NoMemory>
+        requires { CanAdd self.old (plain_cell cell) }
+        ensures added { OnOk result (self.new.cells ≡ self.old.cells ++ plain_cell cell ∷ []) }
+        ensures same_nets { self.new.promised ≡ self.old.promised }
+        ensures draft { IsDraft self.new }
+        ensures unchanged { OnErr result (self.new ≡ self.old) }
+    {
+        self.cells.push(cell)?;
+        Ok(())
+    }
+
+    /// The netlist of the cells that were added. Each promised net is driven, and there is one `done`.
+    pub fn finish(self, alloc: Global) -> Result<Netlist, NoMemory>
+        requires { IsComplete self }
+        ensures { IfOk result (λ netlist. netlist ≡ self.cells) }
+    {
+        Netlist::new(alloc, self.cells)
+    }
+}
