@@ -1,6 +1,7 @@
 -- A straight-line program's netlist carries it.
 use Rattle.std.proofs.Common.{◌≡◌, ℕ, zero, suc, ◌+◌, ◌*◌, ◌<◌, ◌≤◌, List, [], ◌∷◌, ◌++◌, true, false, ◌||◌, ◌==◌, if◌then◌else◌, length, map, replicate, refl, sym, ap, ◌∙◌, arith, slice_index, Option, None}
 use Rattle.std.proofs.lemmas.List.{length-set, length-replicate}
+use Rattle.std.proofs.lemmas.List.FromFn.{length-range_with_len}
 use Rattle.std.proofs.lemmas.Nat.{mul-le}
 use Rattle.sp_netlist.specs.Cells.{PlainCell}
 use Rattle.sp_netlist.specs.Rules.{IsNetlist}
@@ -12,7 +13,7 @@ use Rattle.sp_top.specs.Meaning.{meaning, run_statements, ended}
 use Rattle.sp_top.specs.Carries.{Carries, limit, unit_count, greatest_delay}
 use Rattle.sp_top.specs.StraightCells.{arg_cells, statement_nets, statement_cells, writers, result_cells, done_cells, straight_cells, first_result, one_net}
 use Rattle.sp_top.proofs.Runs.{AllObey, all_obey, first_obeys, rest_obey, left_obey, right_obey, arg_words, statement_words, result_words, word_of}
-use Rattle.sp_top.proofs.Shape.{outs_shown, over_at, no_drams, no_taps, in_ports, out_ports}
+use Rattle.sp_top.proofs.Shape.{outs_shown, over_at, no_drams, no_taps, in_ports, out_ports, dram_ports}
 
 -- each result has one writer at most
 length-writers : (next : ℕ) (statements : List Statement) (nets : List (Option ℕ)) → length (writers next statements nets) ≡ length nets
@@ -41,18 +42,15 @@ module _ (p : PlainProgram) (args delays : List ℕ) (s : Signals) where
   abbrev all_statements : List PlainCell
   all_statements = statement_cells (length p.args) p.statements
 
-  abbrev nets : List (Option ℕ)
-  nets = writers (length p.args) p.statements (replicate (length p.outs) None)
-
   abbrev all_results : List PlainCell
-  all_results = result_cells (first_result p) (one_net p) nets
+  all_results = result_cells (one_net p) (result_nets p) (all_writers p)
 
   -- its parts obey their equations
   record PartsObey : Type 0 where
     args_obey : AllObey setting s [] all_args
     statements_obey : AllObey setting s all_args all_statements
     results_obey : AllObey setting s (all_args ++ all_statements) all_results
-    done_obey : AllObey setting s (all_args ++ all_statements ++ all_results) (done_cells (one_net p))
+    done_obey : AllObey setting s (all_args ++ all_statements ++ all_results) (done_cells (one_net p) (done_net p))
 
   parts_obey : IsRun setting s → PartsObey
   parts_obey run =
@@ -64,7 +62,7 @@ module _ (p : PlainProgram) (args delays : List ℕ) (s : Signals) where
         args_obey = left_obey setting s [] all_args _ whole;
         statements_obey = left_obey setting s all_args all_statements _ after_args;
         results_obey = left_obey setting s (all_args ++ all_statements) all_results _ after_statements;
-        done_obey = left_obey setting s (all_args ++ all_statements ++ all_results) (done_cells (one_net p)) _ after_results;
+        done_obey = left_obey setting s (all_args ++ all_statements ++ all_results) (done_cells (one_net p) (done_net p)) _ after_results;
       }
 
   module _ (parts : PartsObey) where
@@ -74,13 +72,13 @@ module _ (p : PlainProgram) (args delays : List ℕ) (s : Signals) where
     one_word : (t : ℕ) → s.net t (one_net p) ≡ 1
     one_word t = first_obeys parts.done_obey t
 
-    not_done_first : s.net 0 (one_net p + 1) ≡ 0
+    not_done_first : s.net 0 (done_net p) ≡ 0
     not_done_first = (first_obeys (rest_obey parts.done_obey)).0
 
-    done_next : s.net 1 (one_net p + 1) ≡ 1
+    done_next : s.net 1 (done_net p) ≡ 1
     done_next =
         (first_obeys (rest_obey parts.done_obey)).1 0
-        ∙ ap (λ (w : ℕ). if w == 1 then s.net 0 (one_net p) else s.net 0 (one_net p + 1)) (one_word 0)
+        ∙ ap (λ (w : ℕ). if w == 1 then s.net 0 (one_net p) else s.net 0 (done_net p)) (one_word 0)
         ∙ one_word 0
 
     shares_none : (t : ℕ) → SharesNone (straight_cells p) (s.net t)
@@ -99,7 +97,7 @@ module _ (p : PlainProgram) (args delays : List ℕ) (s : Signals) where
         let start = ap (λ (ws : List ℕ). run_statements left 1 args p.statements ws) (unwritten (s.net 0) (length p.outs)) in
         let left_words = statement_words p setting s given 0 all_args (length p.args) p.statements (replicate (length p.outs) None) left 1 outs turns sound.statements parts.statements_obey (start ∙ e) in
         let counts = length-writers (length p.args) p.statements (replicate (length p.outs) None) ∙ length-replicate (length p.outs) None in
-        let shown = result_words setting s (all_args ++ all_statements) (first_result p) (one_net p) (one_net p + 1) p.outs nets parts.results_obey (one_word 0) (sym counts) in
+        let shown = result_words setting s (all_args ++ all_statements) (one_net p) (done_net p) (result_nets p) (all_writers p) p.outs parts.results_obey (one_word 0) (length-range_with_len _ (length p.outs) ∙ sym counts) (sym counts) in
         left_words ∙ sym shown ∙ sym (outs_shown p (s.net 1))
 
     ends_so : IsSound p → (n : ℕ) (outs : List ℕ) (turns : ℕ) → meaning n p args ≡ ended outs turns → EndsAs setting s (limit p n (greatest_delay delays)) (done_in 1 outs [])
@@ -110,8 +108,7 @@ module _ (p : PlainProgram) (args delays : List ℕ) (s : Signals) where
 -- program: the results stand and done is raised in cycle 1.
 pub carried : (p : PlainProgram) → IsSound p → IsNetlist (straight_cells p) → ((g : Setting) → IsNetlist g.cells → OneRun g) → Carries p (straight_cells p)
 carried p sound netlist one_run = record {
-  arg_ports = in_ports p;
-  out_ports = out_ports p;
+  ports = λ k. record { args = in_ports p k; outs = out_ports p k; drams = dram_ports p k };
   carries = λ args delays n outs turns fits e. (
     1,
     record {

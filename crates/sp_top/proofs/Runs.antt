@@ -95,15 +95,16 @@ module _ (p : PlainProgram) (g : Setting) (s : Signals) (given : (t i : ℕ) →
       (All-tail (StatementStands p) statement rest stand) others (ap (λ (ws : List ℕ). run_statements left (taken + 1) g.args rest ws) written ∙ e)
 
 -- in cycle 1 each result's register holds what its writer had in cycle 0
-pub result_words : (g : Setting) (s : Signals) (before : List PlainCell) (net one done : ℕ) (names : List (List ℕ)) (nets : List (Option ℕ)) → AllObey g s before (result_cells net one nets)
-    → s.net 0 one ≡ 1 → length names ≡ length nets → out_words (out_cells net names ++ done_cell done ∷ []) (s.net 1) ≡ map (word_of (s.net 0)) nets
-result_words g s before net one done [] [] h on e = refl
-result_words g s before net one done [] (writer ∷ nets) h on e = absurd (omega arith)
-result_words g s before net one done (name ∷ names) [] h on e = absurd (omega arith)
-result_words g s before net one done (name ∷ names) (writer ∷ nets) h on e =
+pub result_words : (g : Setting) (s : Signals) (before : List PlainCell) (one done : ℕ) (nets : List ℕ) (writers : List (Option ℕ)) (names : List (List ℕ)) → AllObey g s before (result_cells one nets writers)
+    → s.net 0 one ≡ 1 → length nets ≡ length writers → length names ≡ length writers → out_words (out_cells nets names ++ done_cell done ∷ []) (s.net 1) ≡ map (word_of (s.net 0)) writers
+result_words g s before one done [] [] names h on e f = refl
+result_words g s before one done [] (writer ∷ writers) names h on e f = absurd (omega arith)
+result_words g s before one done (net ∷ nets) [] names h on e f = absurd (omega arith)
+result_words g s before one done (net ∷ nets) (writer ∷ writers) [] h on e f = absurd (omega arith)
+result_words g s before one done (net ∷ nets) (writer ∷ writers) (name ∷ names) h on e f =
     let own = first_obeys h in
     let taken : s.net 1 net ≡ s.net 0 (unwrap_or writer net) = own.1 0 ∙ ap (λ (w : ℕ). if w == 1 then s.net 0 (unwrap_or writer net) else s.net 0 net) on in
-    let rest = result_words g s (before ++ reg_cell net 32 0 (unwrap_or writer net) one ∷ []) (net + 1) one done names nets (rest_obey h) on (omega arith) in
+    let rest = result_words g s (before ++ reg_cell net 32 0 (unwrap_or writer net) one ∷ []) one done nets writers names (rest_obey h) on (omega arith) (omega arith) in
     (λ k. (taken ∙ shown own.0 writer) k ∷ rest k)
   where
     shown : s.net 0 net ≡ 0 → (w : Option ℕ) → s.net 0 (unwrap_or w net) ≡ word_of (s.net 0) w

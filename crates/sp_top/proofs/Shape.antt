@@ -2,6 +2,7 @@
 -- stand at a bank or have a DRAM.
 use Rattle.std.proofs.Common.{◌≡◌, ℕ, ◌+◌, List, [], ◌∷◌, ◌++◌, Bool, false, cond, ◌||◌, ◌==◌, length, map, refl, ap, ◌∙◌, count_by, filter_map, zero-add, replicate, Option, None}
 use Rattle.std.proofs.lemmas.List.Sums.{sum_by-cons}
+use Rattle.std.proofs.lemmas.List.FromFn.{length-range_with_len}
 use Rattle.sp_words.specs.declared.types.Ty.{Ty}
 use Rattle.sp_words.specs.Types.{int_type}
 use Rattle.sp_netlist.specs.declared.cell.CellOp.{CellOp}
@@ -9,14 +10,15 @@ use Rattle.sp_netlist.specs.declared.cell.Port.{Port}
 use Rattle.sp_netlist.specs.declared.cell.Port.TheVariants.{Read, Write}
 use Rattle.sp_netlist.specs.Cells.{PlainCell, in_cell, out_cell, done_cell, const_cell, op_cell, reg_cell}
 use Rattle.sp_netlist.specs.Cycle.{is_enabled_tap, is_over, out_words, dram_lists}
+use Rattle.sp_netlist.specs.Ports.{in_port, out_port, dram_port}
 use Rattle.sp_top.specs.declared.straight.program.Atom.{Atom}
 use Rattle.sp_top.specs.declared.straight.program.Atom.TheVariants.{Arg, Literal}
 use Rattle.sp_top.specs.declared.straight.program.Value.{Value}
 use Rattle.sp_top.specs.declared.straight.program.Value.TheVariants.{One, Two}
 use Rattle.sp_top.specs.declared.straight.program.Statement.{Statement}
 use Rattle.sp_top.specs.Straight.{PlainProgram}
-use Rattle.sp_top.specs.Carries.{in_port, out_port, int_port}
-use Rattle.sp_top.specs.StraightCells.{arg_cells, atom_nets, atom_cells, value_cells, statement_nets, statement_cells, writers, result_cells, done_cells, out_cells, straight_cells, first_result, one_net}
+use Rattle.sp_top.specs.Carries.{int_port}
+use Rattle.sp_top.specs.StraightCells.{arg_cells, atom_nets, atom_cells, value_cells, statement_nets, statement_cells, writers, result_cells, done_cells, out_cells, straight_cells, all_writers, result_nets, one_net, done_net}
 
 -- cells that are seen through the nets that they drive alone
 pub data IsInner : PlainCell → Type 0 where
@@ -44,12 +46,13 @@ inner_statements : (next : ℕ) (statements : List Statement) → AllInner (stat
 inner_statements next [] = no_cell
 inner_statements next (statement ∷ rest) = both_inner (inner_value next statement.value) (inner_statements (next + statement_nets statement) rest)
 
-inner_results : (net one : ℕ) (nets : List (Option ℕ)) → AllInner (result_cells net one nets)
-inner_results net one [] = no_cell
-inner_results net one (writer ∷ rest) = one_cell inner_reg (inner_results (net + 1) one rest)
+inner_results : (one : ℕ) (nets : List ℕ) (writers : List (Option ℕ)) → AllInner (result_cells one nets writers)
+inner_results one [] writers = no_cell
+inner_results one (net ∷ nets) [] = no_cell
+inner_results one (net ∷ nets) (writer ∷ rest) = one_cell inner_reg (inner_results one nets rest)
 
-inner_done : (one : ℕ) → AllInner (done_cells one)
-inner_done one = one_cell inner_const (one_cell inner_reg no_cell)
+inner_done : (one done : ℕ) → AllInner (done_cells one done)
+inner_done one done = one_cell inner_const (one_cell inner_reg no_cell)
 
 -- what passes over a kind of cell passes over a list of them
 past_inner : {X : Type 0} (f : List PlainCell → X) → ((cell : PlainCell) (cells : List PlainCell) → IsInner cell → f (cell ∷ cells) ≡ f cells)
@@ -63,9 +66,10 @@ past_args f step net [] ys = refl
 past_args f step net (name ∷ names) ys = step name net (arg_cells (net + 1) names ++ ys) ∙ past_args f step (net + 1) names ys
 
 past_outs : {X : Type 0} (f : List PlainCell → X) → ((name : List ℕ) (net : ℕ) (cells : List PlainCell) → f (out_cell name net int_type ∷ cells) ≡ f cells)
-    → (net : ℕ) (names : List (List ℕ)) (ys : List PlainCell) → f (out_cells net names ++ ys) ≡ f ys
-past_outs f step net [] ys = refl
-past_outs f step net (name ∷ names) ys = step name net (out_cells (net + 1) names ++ ys) ∙ past_outs f step (net + 1) names ys
+    → (nets : List ℕ) (names : List (List ℕ)) (ys : List PlainCell) → f (out_cells nets names ++ ys) ≡ f ys
+past_outs f step [] names ys = refl
+past_outs f step (net ∷ nets) [] ys = refl
+past_outs f step (net ∷ nets) (name ∷ names) ys = step name net (out_cells nets names ++ ys) ∙ past_outs f step nets names ys
 
 -- how many enabled taps stand on a port
 abbrev taps : (ℕ → ℕ) → Port → ℕ → List PlainCell → ℕ
@@ -73,18 +77,15 @@ taps words port bank = count_by (is_enabled_tap words port bank)
 
 -- the cells of a program: arguments, inner cells, results, done
 module _ (p : PlainProgram) where
-  abbrev nets : List (Option ℕ)
-  nets = writers (length p.args) p.statements (replicate (length p.outs) None)
-
   abbrev pub last_cells : List PlainCell
-  last_cells = out_cells (first_result p) p.outs ++ done_cell (one_net p + 1) ∷ []
+  last_cells = out_cells (result_nets p) p.outs ++ done_cell (done_net p) ∷ []
 
   past_middle : {X : Type 0} (f : List PlainCell → X) → ((cell : PlainCell) (cells : List PlainCell) → IsInner cell → f (cell ∷ cells) ≡ f cells)
-      → f (statement_cells (length p.args) p.statements ++ (result_cells (first_result p) (one_net p) nets ++ (done_cells (one_net p) ++ last_cells))) ≡ f last_cells
+      → f (statement_cells (length p.args) p.statements ++ (result_cells (one_net p) (result_nets p) (all_writers p) ++ (done_cells (one_net p) (done_net p) ++ last_cells))) ≡ f last_cells
   past_middle f step =
-      past_inner f step (statement_cells (length p.args) p.statements) (result_cells (first_result p) (one_net p) nets ++ (done_cells (one_net p) ++ last_cells)) (inner_statements (length p.args) p.statements)
-      ∙ past_inner f step (result_cells (first_result p) (one_net p) nets) (done_cells (one_net p) ++ last_cells) (inner_results (first_result p) (one_net p) nets)
-      ∙ past_inner f step (done_cells (one_net p)) last_cells (inner_done (one_net p))
+      past_inner f step (statement_cells (length p.args) p.statements) (result_cells (one_net p) (result_nets p) (all_writers p) ++ (done_cells (one_net p) (done_net p) ++ last_cells)) (inner_statements (length p.args) p.statements)
+      ∙ past_inner f step (result_cells (one_net p) (result_nets p) (all_writers p)) (done_cells (one_net p) (done_net p) ++ last_cells) (inner_results (one_net p) (result_nets p) (all_writers p))
+      ∙ past_inner f step (done_cells (one_net p) (done_net p)) last_cells (inner_done (one_net p) (done_net p))
 
   past_front : {X : Type 0} (f : List PlainCell → X) → ((name : List ℕ) (net : ℕ) (cells : List PlainCell) → f (in_cell name net int_type ∷ cells) ≡ f cells)
       → ((cell : PlainCell) (cells : List PlainCell) → IsInner cell → f (cell ∷ cells) ≡ f cells) → f (straight_cells p) ≡ f last_cells
@@ -100,8 +101,8 @@ module _ (p : PlainProgram) where
       over_inner _ cells inner_reg = refl
 
   -- it is over exactly where the done net is 1
-  pub over_at : (words : ℕ → ℕ) → is_over (straight_cells p) words ≡ ((words (one_net p + 1) == 1) || false)
-  over_at words = past_front (λ cells. is_over cells words) (λ name net cells. refl) over_inner ∙ past_outs (λ cells. is_over cells words) (λ name net cells. refl) (first_result p) p.outs _
+  pub over_at : (words : ℕ → ℕ) → is_over (straight_cells p) words ≡ ((words (done_net p) == 1) || false)
+  over_at words = past_front (λ cells. is_over cells words) (λ name net cells. refl) over_inner ∙ past_outs (λ cells. is_over cells words) (λ name net cells. refl) (result_nets p) p.outs _
     where
       over_inner : (cell : PlainCell) (cells : List PlainCell) → IsInner cell → is_over (cell ∷ cells) words ≡ is_over cells words
       over_inner _ cells inner_const = refl
@@ -110,7 +111,7 @@ module _ (p : PlainProgram) where
 
   -- there is no DRAM, and no tap
   pub no_drams : (drams : ℕ → ℕ → ℕ) → dram_lists (straight_cells p) drams ≡ []
-  no_drams drams = past_front (λ cells. dram_lists cells drams) (λ name net cells. refl) over_inner ∙ past_outs (λ cells. dram_lists cells drams) (λ name net cells. refl) (first_result p) p.outs _
+  no_drams drams = past_front (λ cells. dram_lists cells drams) (λ name net cells. refl) over_inner ∙ past_outs (λ cells. dram_lists cells drams) (λ name net cells. refl) (result_nets p) p.outs _
     where
       over_inner : (cell : PlainCell) (cells : List PlainCell) → IsInner cell → dram_lists (cell ∷ cells) drams ≡ dram_lists cells drams
       over_inner _ cells inner_const = refl
@@ -120,8 +121,8 @@ module _ (p : PlainProgram) where
   pub no_taps : (words : ℕ → ℕ) (port : Port) (bank : ℕ) → count_by (is_enabled_tap words port bank) (straight_cells p) ≡ 0
   no_taps words port bank =
       past_front (taps words port bank) (λ name net cells. over (in_cell name net int_type) cells (in_none port name net)) (λ cell cells h. over cell cells (inner_none port cell h))
-      ∙ past_outs (taps words port bank) (λ name net cells. over (out_cell name net int_type) cells (out_none port name net)) (first_result p) p.outs (done_cell (one_net p + 1) ∷ [])
-      ∙ over (done_cell (one_net p + 1)) [] (done_none port)
+      ∙ past_outs (taps words port bank) (λ name net cells. over (out_cell name net int_type) cells (out_none port name net)) (result_nets p) p.outs (done_cell (done_net p) ∷ [])
+      ∙ over (done_cell (done_net p)) [] (done_none port)
     where
       over : (cell : PlainCell) (cells : List PlainCell) → is_enabled_tap words port bank cell ≡ false → taps words port bank (cell ∷ cells) ≡ taps words port bank cells
       over cell cells e = sum_by-cons (λ c. cond (is_enabled_tap words port bank c) 1 0) cell cells ∙ ap (λ (b : Bool). cond b 1 0 + taps words port bank cells) e ∙ zero-add (taps words port bank cells)
@@ -134,7 +135,7 @@ module _ (p : PlainProgram) where
       out_none Read name net = refl
       out_none Write name net = refl
 
-      done_none : (q : Port) → is_enabled_tap words q bank (done_cell (one_net p + 1)) ≡ false
+      done_none : (q : Port) → is_enabled_tap words q bank (done_cell (done_net p)) ≡ false
       done_none Read = refl
       done_none Write = refl
 
@@ -148,7 +149,7 @@ module _ (p : PlainProgram) where
 
   -- its ports are those of the program
   pub in_ports : filter_map in_port (straight_cells p) ≡ map int_port p.args
-  in_ports = args 0 p.args _ (past_middle (filter_map in_port) over_inner ∙ past_outs (filter_map in_port) (λ name net cells. refl) (first_result p) p.outs _)
+  in_ports = args 0 p.args _ (past_middle (filter_map in_port) over_inner ∙ past_outs (filter_map in_port) (λ name net cells. refl) (result_nets p) p.outs _)
     where
       over_inner : (cell : PlainCell) (cells : List PlainCell) → IsInner cell → filter_map in_port (cell ∷ cells) ≡ filter_map in_port cells
       over_inner _ cells inner_const = refl
@@ -160,13 +161,22 @@ module _ (p : PlainProgram) where
       args net (name ∷ names) cells none = ap (λ ports. int_port name ∷ ports) (args (net + 1) names cells none)
 
   pub out_ports : filter_map out_port (straight_cells p) ≡ map int_port p.outs
-  out_ports = past_front (filter_map out_port) (λ name net cells. refl) over_inner ∙ outs (first_result p) p.outs
+  out_ports = past_front (filter_map out_port) (λ name net cells. refl) over_inner ∙ outs (result_nets p) p.outs (length-range_with_len _ (length p.outs))
     where
       over_inner : (cell : PlainCell) (cells : List PlainCell) → IsInner cell → filter_map out_port (cell ∷ cells) ≡ filter_map out_port cells
       over_inner _ cells inner_const = refl
       over_inner _ cells inner_op = refl
       over_inner _ cells inner_reg = refl
+      outs : (nets : List ℕ) (names : List (List ℕ)) → length nets ≡ length names → filter_map out_port (out_cells nets names ++ done_cell (done_net p) ∷ []) ≡ map int_port names
+      outs [] [] e = refl
+      outs [] (name ∷ names) e = absurd (omega arith)
+      outs (net ∷ nets) [] e = absurd (omega arith)
+      outs (net ∷ nets) (name ∷ names) e = ap (λ ports. int_port name ∷ ports) (outs nets names (omega arith))
 
-      outs : (net : ℕ) (names : List (List ℕ)) → filter_map out_port (out_cells net names ++ done_cell (one_net p + 1) ∷ []) ≡ map int_port names
-      outs net [] = refl
-      outs net (name ∷ names) = ap (λ ports. int_port name ∷ ports) (outs (net + 1) names)
+  pub dram_ports : filter_map dram_port (straight_cells p) ≡ []
+  dram_ports = past_front (filter_map dram_port) (λ name net cells. refl) over_inner ∙ past_outs (filter_map dram_port) (λ name net cells. refl) (result_nets p) p.outs _
+    where
+      over_inner : (cell : PlainCell) (cells : List PlainCell) → IsInner cell → filter_map dram_port (cell ∷ cells) ≡ filter_map dram_port cells
+      over_inner _ cells inner_const = refl
+      over_inner _ cells inner_op = refl
+      over_inner _ cells inner_reg = refl

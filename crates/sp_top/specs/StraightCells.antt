@@ -2,6 +2,7 @@
 -- for each result that takes its last word in cycle 0, and a register that tells in cycle 1 that all is done.
 -- Nets are numbered in the order: arguments, statements, results, the net that is always 1, the done net.
 use Rattle.std.specs.Prelude.{ℕ, ◌+◌, List, [], ◌∷◌, ◌++◌, length, replicate, slice_set, sum_by, Option, Some, None, unwrap_or}
+use Rattle.std.specs.List.{range_with_len}
 use Rattle.sp_words.specs.Types.{int_type}
 use Rattle.sp_netlist.specs.declared.cell.CellOp.{CellOp}
 use Rattle.sp_netlist.specs.declared.cell.CellOp.TheVariants.{Add as CellAdd, Sub as CellSub, Mul as CellMul}
@@ -61,35 +62,44 @@ abbrev pub statement_cells : ℕ → List Statement → List PlainCell
 statement_cells next [] = []
 statement_cells next (statement ∷ rest) = value_cells next statement.value ++ statement_cells (next + statement_nets statement) rest
 
--- for each result, the net of the last statement that writes it, if any does; before them these wrote it
+-- for each result, the net of the last statement that writes it, if any does, where `nets` are those before
 abbrev pub writers : ℕ → List Statement → List (Option ℕ) → List (Option ℕ)
 writers next [] nets = nets
 writers next (statement ∷ rest) nets =
     writers (next + statement_nets statement) rest (slice_set nets statement.out (Some (value_net next statement.value)))
 
--- a register for each result, from this net on; one that nothing writes keeps its 0
-abbrev pub result_cells : ℕ → ℕ → List (Option ℕ) → List PlainCell
-result_cells net one [] = []
-result_cells net one (writer ∷ rest) = reg_cell net 32 0 (unwrap_or writer net) one ∷ result_cells (net + 1) one rest
+-- a register for each result, on these nets; one that nothing writes keeps its 0
+abbrev pub result_cells : ℕ → List ℕ → List (Option ℕ) → List PlainCell
+result_cells one [] writers = []
+result_cells one (net ∷ nets) [] = []
+result_cells one (net ∷ nets) (writer ∷ rest) = reg_cell net 32 0 (unwrap_or writer net) one ∷ result_cells one nets rest
 
 -- the net that is always 1, and the register that tells that all is done
-abbrev pub done_cells : ℕ → List PlainCell
-done_cells one = const_cell one 1 1 ∷ reg_cell (one + 1) 1 0 one one ∷ []
+abbrev pub done_cells : ℕ → ℕ → List PlainCell
+done_cells one done = const_cell one 1 1 ∷ reg_cell done 1 0 one one ∷ []
 
--- the results, from this net on
-abbrev pub out_cells : ℕ → List (List ℕ) → List PlainCell
-out_cells net [] = []
-out_cells net (name ∷ names) = out_cell name net int_type ∷ out_cells (net + 1) names
+-- the results, on these nets
+abbrev pub out_cells : List ℕ → List (List ℕ) → List PlainCell
+out_cells [] names = []
+out_cells (net ∷ nets) [] = []
+out_cells (net ∷ nets) (name ∷ names) = out_cell name net int_type ∷ out_cells nets names
 
--- the first net of the results
-abbrev pub first_result : PlainProgram → ℕ
-first_result p = length p.args + sum_by statement_nets p.statements
+-- the nets of the results, the one that is always 1, and the done net
+abbrev pub result_nets : PlainProgram → List ℕ
+result_nets p = range_with_len (length p.args + sum_by statement_nets p.statements) (length p.outs)
 
 abbrev pub one_net : PlainProgram → ℕ
-one_net p = first_result p + length p.outs
+one_net p = length p.args + sum_by statement_nets p.statements + length p.outs
+
+abbrev pub done_net : PlainProgram → ℕ
+done_net p = one_net p + 1
+
+-- for each result, the net that it takes in cycle 0
+abbrev pub all_writers : PlainProgram → List (Option ℕ)
+all_writers p = writers (length p.args) p.statements (replicate (length p.outs) None)
 
 abbrev pub straight_cells : PlainProgram → List PlainCell
 straight_cells p =
     arg_cells 0 p.args ++ (statement_cells (length p.args) p.statements
-    ++ (result_cells (first_result p) (one_net p) (writers (length p.args) p.statements (replicate (length p.outs) None))
-    ++ (done_cells (one_net p) ++ (out_cells (first_result p) p.outs ++ done_cell (one_net p + 1) ∷ []))))
+    ++ (result_cells (one_net p) (result_nets p) (all_writers p)
+    ++ (done_cells (one_net p) (done_net p) ++ (out_cells (result_nets p) p.outs ++ done_cell (done_net p) ∷ []))))
