@@ -6,12 +6,13 @@ use Rattle.std.proofs.lemmas.Nat.{mul-le}
 use Rattle.sp_netlist.specs.Cells.{PlainCell}
 use Rattle.sp_netlist.specs.Rules.{IsNetlist}
 use Rattle.sp_netlist.specs.Signals.{Setting, Signals, IsRun}
-use Rattle.sp_netlist.specs.Cycle.{SharesNone, GoesOn, EndsAs, done_in, OneRun, is_over, out_words}
+use Rattle.sp_netlist.specs.Laws.{HasOneRun}
+use Rattle.sp_netlist.specs.Cycle.{SharesNone, GoesOn, EndsAs, done_in, is_over, out_words}
 use Rattle.sp_top.specs.declared.straight.program.Statement.{Statement}
 use Rattle.sp_top.specs.Straight.{PlainProgram, IsSound}
 use Rattle.sp_top.specs.Meaning.{meaning, run_statements, ended}
 use Rattle.sp_top.specs.Carries.{Carries, limit, unit_count, greatest_delay}
-use Rattle.sp_top.specs.StraightCells.{arg_cells, statement_nets, statement_cells, writers, result_cells, done_cells, straight_cells, first_result, one_net}
+use Rattle.sp_top.specs.StraightCells.{arg_cells, statement_nets, statement_cells, writers, result_cells, done_cells, straight_cells, all_writers, result_nets, one_net, done_net}
 use Rattle.sp_top.proofs.Runs.{AllObey, all_obey, first_obeys, rest_obey, left_obey, right_obey, arg_words, statement_words, result_words, word_of}
 use Rattle.sp_top.proofs.Shape.{outs_shown, over_at, no_drams, no_taps, in_ports, out_ports, dram_ports}
 
@@ -104,9 +105,8 @@ module _ (p : PlainProgram) (args delays : List ℕ) (s : Signals) where
     ends_so sound n outs turns e =
         (one_below p n (greatest_delay delays), goes_on, shares_none 1, over_next, outs_next sound n outs turns e, sym (no_drams p (s.dram 1)))
 
--- Where the cells are a netlist, so that they have exactly one run however they are set up, they carry the
--- program: the results stand and done is raised in cycle 1.
-pub carried : (p : PlainProgram) → IsSound p → IsNetlist (straight_cells p) → ((g : Setting) → IsNetlist g.cells → OneRun g) → Carries p (straight_cells p)
+-- Where the cells are a netlist they carry the program: the results stand and done is raised in cycle 1.
+pub carried : (p : PlainProgram) → IsSound p → IsNetlist (straight_cells p) → HasOneRun → Carries p (straight_cells p)
 carried p sound netlist one_run = record {
   ports = λ k. record { args = in_ports p k; outs = out_ports p k; drams = dram_ports p k };
   carries = λ args delays n outs turns fits e. (

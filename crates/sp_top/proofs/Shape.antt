@@ -1,6 +1,6 @@
 -- What stands at the ends of a straight-line program's cells: which of them are ports, tell that all is done,
 -- stand at a bank or have a DRAM.
-use Rattle.std.proofs.Common.{◌≡◌, ℕ, ◌+◌, List, [], ◌∷◌, ◌++◌, Bool, false, cond, ◌||◌, ◌==◌, length, map, refl, ap, ◌∙◌, count_by, filter_map, zero-add, replicate, Option, None}
+use Rattle.std.proofs.Common.{◌≡◌, ℕ, ◌+◌, List, [], ◌∷◌, ◌++◌, Bool, false, cond, ◌||◌, ◌==◌, length, map, refl, ap, ◌∙◌, count_by, filter_map, zero-add, arith, Option}
 use Rattle.std.proofs.lemmas.List.Sums.{sum_by-cons}
 use Rattle.std.proofs.lemmas.List.FromFn.{length-range_with_len}
 use Rattle.sp_words.specs.declared.types.Ty.{Ty}
