@@ -5,3 +5,6 @@ pub mod Cycle
 pub mod Draft
 pub mod Ports
 pub mod Laws
+pub mod Laws
+pub mod Draft
+pub mod Ports

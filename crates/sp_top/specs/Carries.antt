@@ -1,5 +1,5 @@
 -- What it is for a netlist to carry a straight-line program.
-use Rattle.std.specs.Prelude.{◌≡◌, ℕ, ◌+◌, ◌*◌, ◌<◌, ◌^◌, List, [], length, map, filter_map, fold, max, sum_by, All, Option, Some, None}
+use Rattle.std.specs.Prelude.{◌≡◌, ℕ, ◌+◌, ◌*◌, ◌<◌, ◌^◌, List, [], length, map, fold, max, sum_by, All}
 use Rattle.sp_top.specs.declared.straight.program.Operator.{Operator}
 use Rattle.sp_top.specs.declared.straight.program.Operator.TheVariants.{Add, Sub, Mul}
 use Rattle.sp_top.specs.declared.straight.program.Atom.{Atom}
@@ -7,9 +7,9 @@ use Rattle.sp_top.specs.declared.straight.program.Atom.TheVariants.{Arg, Literal
 use Rattle.sp_top.specs.declared.straight.program.Value.{Value}
 use Rattle.sp_top.specs.declared.straight.program.Value.TheVariants.{One, Two}
 use Rattle.sp_top.specs.declared.straight.program.Statement.{Statement}
-use Rattle.sp_words.specs.declared.types.Ty.{Ty}
 use Rattle.sp_words.specs.Types.{int_type}
-use Rattle.sp_netlist.specs.Cells.{PlainCell, in_cell, out_cell}
+use Rattle.sp_netlist.specs.Cells.{PlainCell}
+use Rattle.sp_netlist.specs.Ports.{PlainPort, PlainPorts, ports_of}
 use Rattle.sp_netlist.specs.Cycle.{Ends, done_in}
 use Rattle.sp_top.specs.Straight.{PlainProgram}
 use Rattle.sp_top.specs.Meaning.{meaning, ended}
@@ -49,25 +49,19 @@ pub record FitsArgs (p : PlainProgram) (args : List ℕ) : Type 0 where
   pub count : length args ≡ length p.args
   pub words : All (λ w. w < 2 ^ 32) args
 
--- the name and the type of a port
-abbrev pub in_port : PlainCell → Option (List ℕ × Ty)
-in_port (in_cell name net ty) = Some (name, ty)
-in_port cell = None
+-- a port of type Int
+abbrev pub int_port : List ℕ → PlainPort
+int_port name = record { name = name; ty = int_type; dims = [] }
 
-abbrev pub out_port : PlainCell → Option (List ℕ × Ty)
-out_port (out_cell name net ty) = Some (name, ty)
-out_port cell = None
+abbrev pub ports_of_program : PlainProgram → PlainPorts
+ports_of_program p = record { args = map int_port p.args; outs = map int_port p.outs; drams = [] }
 
-abbrev pub int_port : List ℕ → List ℕ × Ty
-int_port name = (name, int_type)
-
--- The ports of the netlist are those of the program, in order, each an Int.
+-- The ports of the netlist are those of the program.
 --
 -- For every input, every list of delays and every number of turns: where the meaning ends within the turns,
 -- the netlist is done within the limit, its results are those that the meaning leaves, and up to then no two
 -- taps share a port of a bank.
 pub record Carries (p : PlainProgram) (cells : List PlainCell) : Type 0 where
-  pub arg_ports : filter_map in_port cells ≡ map int_port p.args
-  pub out_ports : filter_map out_port cells ≡ map int_port p.outs
+  pub ports : ports_of cells ≡ ports_of_program p
   pub carries : (args delays : List ℕ) (n : ℕ) (outs : List ℕ) (turns : ℕ) → FitsArgs p args → meaning n p args ≡ ended outs turns
       → (cycle : ℕ) × Ends (record { cells = cells; args = args; drams = []; delays = delays }) (limit p n (greatest_delay delays)) (done_in cycle outs [])

@@ -6,3 +6,4 @@ pub mod Status
 pub mod Commands
 pub mod Said
 pub mod Record
+pub mod StraightCells
