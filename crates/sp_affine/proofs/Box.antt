@@ -1,11 +1,11 @@
 -- The least and the greatest value of a form over a box, coefficient by coefficient.
-use Rattle.std.proofs.Common.{◌≡◌, ℕ, zero, suc, ◌+◌, ◌*◌, ◌<◌, ◌≤◌, ◌^◌, ℤ, pos, negsuc, neg_ℤ, ◌+ℤ◌, ◌*ℤ◌, ◌≤ℤ◌, List, [], ◌∷◌, length, get_or, take, refl, ap, sym, ◌∙◌, arith, FitsSigned, add-one}
+use Rattle.std.proofs.Common.{◌≡◌, ℕ, zero, suc, ◌+◌, ◌*◌, ◌<◌, ◌^◌, ℤ, pos, negsuc, neg_ℤ, ◌+ℤ◌, ◌*ℤ◌, ◌≤ℤ◌, List, [], ◌∷◌, length, get_or, take, refl, ap, ◌∙◌, arith, FitsSigned, add-one}
 use Rattle.std.specs.Int.{w64, w128}
-use Rattle.std.specs.Prelude.{Option, Some, None}
+use Rattle.std.specs.Prelude.{None}
 use Rattle.std.specs.List.{All}
 use Rattle.std.proofs.lemmas.Int.{ints}
 use Rattle.sp_affine.specs.Affine.{Affine, dot, value_of, symbol_value}
-use Rattle.sp_affine.specs.Interval.{IsCounterRange, InBox, IsReached, IsRange, least_product, greatest_product}
+use Rattle.sp_affine.specs.Interval.{IsCounterRange, InBox, IsRange, least_product, greatest_product}
 use Rattle.sp_affine.proofs.Integers.{mul-le_ℤ, mul-le_down_ℤ}
 
 -- the sums of the least and of the greatest products

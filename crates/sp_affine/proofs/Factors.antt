@@ -1,10 +1,10 @@
 -- What the factors of symbols say about the symbols.
-use Rattle.std.proofs.Common.{◌≡◌, ◌≢◌, ℕ, ℤ, pos, ◌+ℤ◌, ◌-ℤ◌, ◌*ℤ◌, ◌≤ℤ◌, ◌==◌, Bool, true, false, refl, ap, sym, ◌∙◌, arith, ◌⊎◌, inl, inr, cond}
-use Rattle.std.specs.Prelude.{Option, Some, None, if◌then◌else◌}
+use Rattle.std.proofs.Common.{◌≡◌, ◌≢◌, ℕ, ℤ, pos, ◌+ℤ◌, ◌-ℤ◌, ◌*ℤ◌, ◌≤ℤ◌, refl, ap, sym, ◌∙◌, arith, ◌⊎◌, inl, inr}
+use Rattle.std.specs.Prelude.{Option, Some, None}
 use Rattle.std.proofs.lemmas.Int.{ints}
 use Rattle.std.proofs.lemmas.Bool.Decides.{eqb_tells, nat_tests}
 use Rattle.std.proofs.Math.IntN.{+ℤ_idl, +ℤ_idr, *ℤ-zero, zero-*ℤ}
-use Rattle.sp_affine.specs.Affine.{factor_of, symbol_value}
+use Rattle.sp_affine.specs.Affine.{factor_of}
 use Rattle.sp_affine.specs.Combination.{HasFactors, HasOneSymbol, factors_of_sum, factors_of_difference, factors_of_multiple}
 
 pub factor-same : (m n : ℕ) → m ≡ n → factor_of (Some m) n ≡ pos 1

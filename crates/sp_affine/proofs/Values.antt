@@ -1,13 +1,13 @@
 -- The value of a sum, a difference and a multiple of forms.
-use Rattle.std.proofs.Common.{◌≡◌, ◌≢◌, ℕ, ℤ, pos, ◌+ℤ◌, ◌-ℤ◌, ◌*ℤ◌, List, [], ◌∷◌, length, refl, ap, sym, ◌∙◌, arith, ◌⊎◌, inl, inr}
+use Rattle.std.proofs.Common.{◌≡◌, ℕ, ℤ, pos, ◌+ℤ◌, ◌-ℤ◌, ◌*ℤ◌, List, [], ◌∷◌, length, refl, ap, sym, ◌∙◌, arith, inl, inr}
 use Rattle.std.specs.Prelude.{Option, Some, None}
 use Rattle.std.proofs.lemmas.Int.{ints}
 use Rattle.std.proofs.lemmas.Bool.Decides.{eqb_tells}
 use Rattle.std.proofs.Math.IntN.{zero-*ℤ}
-use Rattle.sp_affine.specs.Affine.{Affine, dot, symbol_value, value_of, factor_of}
+use Rattle.sp_affine.specs.Affine.{Affine, dot, symbol_value, value_of}
 use Rattle.sp_affine.specs.Combination.{Equals, HasFactors, sum_of, difference_of, multiple_of, sums, differences, multiples, factors_of_sum, factors_of_difference, factors_of_multiple}
-use Rattle.sp_affine.proofs.Integers.{add-mul_ℤ, sub-mul_ℤ, mul_assoc_ℤ, mul_right_comm_ℤ}
-use Rattle.sp_affine.proofs.Factors.{factor-same, factor-other, factor_cases, same_symbol, sum-none, none-sum, sum-two, difference-none, difference-same, difference-other}
+use Rattle.sp_affine.proofs.Integers.{add-mul_ℤ, sub-mul_ℤ, mul_right_comm_ℤ}
+use Rattle.sp_affine.proofs.Factors.{factor-same, factor-other, same_symbol, sum-none, none-sum, sum-two, difference-none, difference-same, difference-other}
 
 dot-sums : (a b xs : List ℤ) → length a ≡ length b → dot (sums a b) xs ≡ dot a xs +ℤ dot b xs
 dot-sums [] [] xs e = refl

@@ -1,5 +1,5 @@
 -- The values that a form without a symbol takes over a box, which gives each counter a range with both its ends.
-use Rattle.std.specs.Prelude.{◌≡◌, ℕ, ℤ, pos, negsuc, neg_ℤ, ◌+ℤ◌, ◌*ℤ◌, ◌≤ℤ◌, ◌^◌, List, [], ◌∷◌}
+use Rattle.std.specs.Prelude.{◌≡◌, ℕ, ℤ, pos, negsuc, neg_ℤ, ◌*ℤ◌, ◌≤ℤ◌, ◌^◌, List, [], ◌∷◌}
 use Rattle.sp_affine.specs.Affine.{Affine, value_of}
 
 -- the range of a counter: its ends in order, and neither past 2 ^ 52

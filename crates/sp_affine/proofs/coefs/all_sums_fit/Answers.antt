@@ -1,4 +1,4 @@
-use Rattle.std.proofs.Common.{◌≡◌, ◌<◌, length, arith, rules, FitsSigned, ◌+ℤ◌, refl, get_or, pos}
+use Rattle.std.proofs.Common.{◌<◌, arith, rules, FitsSigned, ◌+ℤ◌, refl, get_or, pos}
 use Rattle.std.specs.Int.{w64}
 use Rattle.std.proofs.lemmas.Int.{to_z-of_z}
 use Rattle.sp_affine.proofs.Checked.{refused}

@@ -1,4 +1,4 @@
-use Rattle.std.proofs.Common.{◌≡◌, ◌<◌, ◌≤◌, length, arith, rules, FitsSigned, ◌+ℤ◌, get_or, pos, ap, ◌∙◌, ◌++◌, ◌∷◌, [], ℤ, List, sym}
+use Rattle.std.proofs.Common.{◌≤◌, length, arith, rules, FitsSigned, ◌+ℤ◌, get_or, pos, ap, ◌∙◌, ◌++◌, ◌∷◌, [], ℤ, List, sym}
 use Rattle.std.specs.Int.{w64}
 use Rattle.std.proofs.lemmas.Int.{to_z-of_z}
 use Rattle.sp_affine.proofs.Lists.{All-map_zip_at, take-map_zip, take_all-map_zip}

@@ -1,10 +1,10 @@
-use Rattle.std.proofs.Common.{◌≡◌, ◌+◌, ◌<◌, ◌≤◌, ℤ, pos, ◌+ℤ◌, length, get_or, take, ap, sym, ◌∙◌, arith, rules, FitsSigned, to_z, ℕ, Bool, true, false, refl}
+use Rattle.std.proofs.Common.{◌≡◌, ◌+◌, ◌<◌, ◌≤◌, pos, length, get_or, take, ap, sym, ◌∙◌, arith, rules, FitsSigned, to_z, ℕ, Bool, true, false, refl}
 use Rattle.std.specs.Int.{w64, w128}
 use Rattle.std.specs.Prelude.{Option, Some, None}
 use Rattle.std.specs.Option.{is_some}
-use Rattle.std.proofs.lemmas.Int.{ints, to_z-of_z}
+use Rattle.std.proofs.lemmas.Int.{to_z-of_z}
 use Rattle.std.proofs.lemmas.List.{take_all}
-use Rattle.sp_affine.specs.Interval.{IsCounterRange, least_product, greatest_product}
+use Rattle.sp_affine.specs.Interval.{least_product, greatest_product}
 use Rattle.sp_affine.proofs.Box.{lows, highs, lows-take, highs-take, least_product_small, greatest_product_small, product_fits, sum_fits, sum_reaches, more, range_of}
 use Rattle.sp_affine.proofs.range.interval.Goals as goal
 

@@ -1,6 +1,6 @@
-use Rattle.std.proofs.Common.{rules, arith}
+use Rattle.std.proofs.Common.{arith}
 use Rattle.std.proofs.lemmas.Bool.Decides.{Decides-at}
-use Rattle.sp_affine.specs.Equality.{linear_parts_equal, Decides-linear_parts_equal}
+use Rattle.sp_affine.specs.Equality.{Decides-linear_parts_equal}
 use Rattle.sp_affine.proofs.form.Form.has_linear_part_of.Goals as goal
 
 pub returns-then-eq : goal.returns-then-eq

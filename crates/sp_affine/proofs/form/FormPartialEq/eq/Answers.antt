@@ -1,4 +1,4 @@
-use Rattle.std.proofs.Common.{rules, arith}
+use Rattle.std.proofs.Common.{arith}
 use Rattle.std.proofs.lemmas.Bool.Decides.{Decides-at}
 use Rattle.sp_affine.specs.Equality.{Decides-forms_equal}
 use Rattle.sp_affine.proofs.form.FormPartialEq.eq.Goals as goal
