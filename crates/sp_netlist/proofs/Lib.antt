@@ -9,7 +9,3 @@ pub mod SomeRun
 pub mod SameRun
 pub mod OneRun
 pub mod Endings
-pub mod Lists
-pub mod LookUps
-pub mod DraftLemmas
-pub mod PortLemmas

@@ -5,6 +5,3 @@ pub mod Cycle
 pub mod Draft
 pub mod Ports
 pub mod Laws
-pub mod Laws
-pub mod Draft
-pub mod Ports

@@ -3,10 +3,6 @@ ghost use Rattle.std.specs.Prelude.{◌≡◌, ℕ, ◌+◌, ◌++◌, ◌∷◌
 ghost use Rattle.sp_netlist.specs.Rules.{IsWidth, drives};
 ghost use Rattle.sp_netlist.specs.Cells.{plain_cell};
 ghost use Rattle.sp_netlist.specs.Draft.{CanAdd, IsComplete, IsDraft, KeepsWidths, driver_count, net_count};
-ghost use Rattle.std.specs.Prelude.{◌≡◌, ◌++◌, ◌∷◌, [], length, IfOk, OnOk, OnErr};
-ghost use Rattle.sp_netlist.specs.Rules.{IsWidth, drives};
-ghost use Rattle.sp_netlist.specs.Cells.{plain_cell};
-ghost use Rattle.sp_netlist.specs.Draft.{CanAdd, DrivesMore, IsComplete, IsDraft};
 
 use crate::cell::{Cell, NetId};
 use crate::netlist::Netlist;
@@ -75,7 +71,6 @@ impl Builder {
         ensures added { OnOk result (self.new.cells ≡ self.old.cells ++ plain_cell cell ∷ []) }
         ensures drivers { OnOk result ((net : ℕ) → driver_count self.new.cells net ≡ driver_count self.old.cells net + net_count (drives self.old.cells (plain_cell cell)) net) }
         ensures widths { KeepsWidths self.old.cells self.new.cells }
-        ensures drivers { OnOk result (DrivesMore self.old.cells self.new.cells (drives self.old.cells (plain_cell cell))) }
         ensures same_nets { self.new.promised ≡ self.old.promised }
         ensures draft { IsDraft self.new }
         ensures unchanged { OnErr result (self.new ≡ self.old) }

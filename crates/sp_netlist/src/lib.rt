@@ -15,10 +15,3 @@ pub use cell::{Cell, CellOp, CellShift, NetId, Port};
 pub use netlist::Netlist;
 pub use parts::{Child, Ends, Wire};
 pub use laws::{ending_kept, no_loop, one_ending, one_run};
-mod laws;
-mod netlist;
-
-pub use builder::Builder;
-pub use cell::{Cell, CellOp, CellShift, NetId, Port};
-pub use laws::{ending_kept, no_loop, one_ending, one_run};
-pub use netlist::Netlist;

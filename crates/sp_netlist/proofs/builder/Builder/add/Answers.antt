@@ -3,12 +3,6 @@ use Rattle.std.proofs.lemmas.List.{map_push}
 use Rattle.sp_netlist.specs.Cells.{plain_cell, plain_cells}
 use Rattle.sp_netlist.specs.Draft.{CanAdd, IsDraft, KeepsWidths, driver_count}
 use Rattle.sp_netlist.proofs.DraftLemmas.{IsDraft-add, KeepsWidths-add, driver_count-add}
-use Rattle.std.proofs.Common.{subst, sym, List, [], ◌∷◌, ◌++◌}
-use Rattle.std.proofs.lemmas.List.{map_push}
-use Rattle.sp_netlist.specs.Cells.{plain_cell, plain_cells}
-use Rattle.sp_netlist.specs.Rules.{drives}
-use Rattle.sp_netlist.specs.Draft.{Draft, CanAdd, DrivesMore}
-use Rattle.sp_netlist.proofs.DraftLemmas.{IsDraft-add, DrivesMore-add}
 use Rattle.sp_netlist.proofs.builder.Builder.add.Goals as goal
 
 pub invariant_of-self-2 : goal.invariant_of-self-2
@@ -28,6 +22,3 @@ returns-clause-drivers c =
 pub returns-clause-widths : goal.returns-clause-widths
 returns-clause-widths c =
     rw (c.in_ok-push.ensures.items, map_push, ← c.self.view_is) (KeepsWidths-add _ _ (subst (λ d. CanAdd d (plain_cell c.args.cell)) (sym c.self.view_is) c.requires))
-    let can = subst (λ d. CanAdd d (plain_cell c.args.cell)) (sym c.self.view_is) c.requires in
-    let new = plain_cells c.self.inside.cells.items ++ plain_cell c.args.cell ∷ [] in
-    rw (c.in_ok-push.ensures.items, map_push) (subst (λ (d : Draft). DrivesMore d.cells new (drives d.cells (plain_cell c.args.cell))) c.self.view_is (DrivesMore-add _ _ c.self.invariant can))
