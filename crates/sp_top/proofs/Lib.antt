@@ -2,3 +2,4 @@ pub mod Listing
 pub mod Runs
 pub mod Shape
 pub mod Carried
+pub mod RecordLemmas

@@ -39,18 +39,24 @@ TooLongOrMemory name memory = Unit {0}
 TooLongOrMemory name (too_long said) = said ≡ name
 TooLongOrMemory name status = ⊥
 
+-- the text is the listing of a netlist that carries the program which these bytes are
+abbrev pub ListsProgram : (bytes text : List ℕ) → Type 0
+ListsProgram bytes text =
+    (lines : List Line) × IsStraight bytes lines × (cells : List PlainCell) × IsNetlist cells × Carries (program_of lines) cells × (text ≡ listing_text cells)
+
+-- why these bytes give none: they aren't of the straight form, or memory ran out
+abbrev pub RefusesProgram : List ℕ → PlainStatus → Type 0
+RefusesProgram bytes memory = Unit {0}
+RefusesProgram bytes (unbuilt line) = BreaksAt bytes line
+RefusesProgram bytes status = ⊥
+
 -- The texts that a command puts on `out` and on `aside` where it is done.
 --
 -- `compile` puts the listing of a netlist that carries the program which the text is.
 pub record Compiles (told : List ℕ → Standing) (program out aside : List ℕ) : Type 0 where
   pub bytes : List ℕ
-  pub lines : List Line
-  pub cells : List PlainCell
   pub given : GivesProgram told program bytes
-  pub straight : IsStraight bytes lines
-  pub netlist : IsNetlist cells
-  pub carries : Carries (program_of lines) cells
-  pub listing : out ≡ listing_text cells
+  pub lists : ListsProgram bytes out
   pub nothing_aside : aside ≡ []
 
 abbrev pub DoneTexts : (List ℕ → Standing) → Command → (out aside : List ℕ) → Type 0

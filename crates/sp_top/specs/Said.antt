@@ -1,4 +1,7 @@
--- A command as the words say it.
+-- What the code's values stand for: a command as the words say it, and the status of an error.
+use Rattle.sp_top.specs.declared.straight.parse.ParseError.{ParseError}
+use Rattle.sp_top.specs.declared.straight.parse.ParseError.TheVariants.{Breaks, Memory}
+use Rattle.sp_top.specs.Status.{PlainStatus, memory, unbuilt}
 use Rattle.sp_top.specs.declared.command.Command.{Command}
 use Rattle.sp_top.specs.declared.command.Command.TheVariants.{Compile}
 use Rattle.sp_top.specs.Commands.{compile}
@@ -6,3 +9,7 @@ use Rattle.sp_top.specs.Commands as commands
 
 abbrev pub plain_command : Command → commands.Command
 plain_command (Compile program) = compile program.now
+
+abbrev pub status_of_error : ParseError → PlainStatus
+status_of_error (Breaks line) = unbuilt line
+status_of_error Memory = memory

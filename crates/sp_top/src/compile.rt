@@ -1,12 +1,17 @@
 //! `compile P`: from a name to the listing of its program's netlist.
-ghost use Rattle.std.specs.Prelude.{◌≡◌, ℕ, IfOk, IfErr};
+ghost use Rattle.std.specs.Prelude.{◌≡◌, ℕ, IfOk, IfErr, string_bytes};
 ghost use Rattle.sp_edges.specs.Counts.{Rose};
-ghost use Rattle.sp_top.specs.Status.{plain_status, read_fault};
-ghost use Rattle.sp_top.specs.Commands.{compile, GivesProgram, MayRefuse, TooLongOrMemory};
+ghost use Rattle.sp_top.specs.Status.{plain_status, read_fault, memory};
+ghost use Rattle.sp_top.specs.Said.{status_of_error};
+ghost use Rattle.sp_top.specs.Commands.{compile, AsksFor, DoneTexts, ListsProgram, RefusesProgram, GivesProgram, MayRefuse, TooLongOrMemory};
 
+use crate::sinks::Texts;
 use crate::status::Status;
+use crate::straight::lower::lower;
+use crate::straight::parse::{ParseError, parse};
 use sp_edges::{InputFault, Inputs};
-use std::alloc::Global;
+use sp_listing::write;
+use std::alloc::{AllocError, Global};
 
 /// The longest text of a program that is read, in bytes.
 pub const LONGEST_PROGRAM: usize = 1_048_576;
@@ -34,4 +39,48 @@ fn read_program<I: Inputs>(alloc: Global, name: &str, inputs: &mut I) -> Result<
         Err(InputFault::TooLong) => Err(too_long(alloc, name)),
         Err(InputFault::Memory) => Err(Status::Memory),
     }
+}
+
+impl From<ParseError> for Status {
+    ghost from_gives = { λ e status. plain_status status ≡ status_of_error e };
+
+    fn from(error: ParseError) -> Status {
+        match error {
+            ParseError::Breaks { line } => Status::Unbuilt { line },
+            ParseError::Memory => Status::Memory,
+        }
+    }
+}
+
+impl From<AllocError> for Status {
+    ghost from_gives = { λ _ status. plain_status status ≡ memory };
+
+    fn from(_error: AllocError) -> Status {
+        Status::Memory
+    }
+}
+
+// The listing of a program's netlist.
+fn listing_of_program(alloc: Global, bytes: &[u8]) -> Result<String, Status>
+    ensures listing { IfOk result (λ text. ListsProgram bytes.now (string_bytes text)) }
+    ensures refused { IfErr result (λ status. RefusesProgram bytes.now (plain_status status)) }
+{
+    let program = parse(alloc, bytes)?;
+    let netlist = lower(alloc, &program)?;
+    let text = write(alloc, &netlist)?;
+    Ok(text)
+}
+
+/// Reads a program and gives the listing of its netlist for `out`, and nothing for `aside`.
+pub fn compile<I: Inputs>(alloc: Global, program: &str, inputs: &mut I) -> Result<Texts, Status>
+    ensures done { IfOk result (λ texts. DoneTexts (I.told inputs.old) (compile program.now) (string_bytes texts.out) (string_bytes texts.aside)) }
+    ensures refused { IfErr result (λ status. MayRefuse (I.told inputs.old) (compile program.now) (plain_status status)) }
+    ensures fault { IfErr result (λ status. plain_status status ≡ read_fault → Rose (I.faults inputs.old) (I.faults inputs.new)
+        × (name : _) × AsksFor (compile program.now) name × (I.sure inputs.old name → ⊥)) }
+{
+    let bytes = read_program(alloc, program, inputs)?;
+    Ok(Texts {
+        out: listing_of_program(alloc, &bytes)?,
+        aside: String::new(alloc),
+    })
 }

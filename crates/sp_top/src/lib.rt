@@ -6,5 +6,7 @@ mod compile;
 mod sinks;
 mod status;
 mod straight;
+mod top;
 
 pub use status::{SinkName, Status};
+pub use top::spatialc;

@@ -1,0 +1,53 @@
+//! The top call.
+ghost use Rattle.std.specs.Prelude.{◌≡◌, map, string_bytes, IfOk, IfErr};
+ghost use Rattle.sp_edges.specs.Counts.{Rose};
+ghost use Rattle.sp_top.specs.Status.{plain_status, read_fault};
+ghost use Rattle.sp_top.specs.Commands.{IsCommand, AsksFor, DoneTexts, MayRefuse, MayEnd};
+ghost use Rattle.sp_top.specs.Said.{plain_command};
+ghost use Rattle.sp_top.specs.Record.{Records};
+
+use crate::command::{Command, command_of};
+use crate::compile::compile;
+use crate::sinks::{Texts, deliver, refuse};
+use crate::status::Status;
+use sp_edges::{Inputs, Sink};
+use std::alloc::Global;
+
+// The texts of a command, or why it refuses.
+fn texts_of<I: Inputs>(alloc: Global, command: Command<'_>, inputs: &mut I) -> Result<Texts, Status>
+    ensures done { IfOk result (λ texts. DoneTexts (I.told inputs.old) (plain_command command.entry) (string_bytes texts.out) (string_bytes texts.aside)) }
+    ensures refused { IfErr result (λ status. MayRefuse (I.told inputs.old) (plain_command command.entry) (plain_status status)) }
+    ensures fault { IfErr result (λ status. plain_status status ≡ read_fault → Rose (I.faults inputs.old) (I.faults inputs.new)
+        × (name : _) × AsksFor (plain_command command.entry) name × (I.sure inputs.old name → ⊥)) }
+{
+    match command {
+        Command::Compile { program } => compile(alloc, program, inputs),
+    }
+}
+
+/// Does what the words say: reads by `inputs`, puts the command's texts on `aside` and on `out`, or the line
+/// of a refusal on `out`. The words are those after the program's name; `docs/commands.md` has the table.
+pub fn spatialc<I: Inputs, K: Sink, A: Sink>(
+    alloc: Global,
+    words: &[String],
+    inputs: &mut I,
+    out: &mut K,
+    aside: &mut A,
+) -> Status
+    // What the sinks gained belongs to the status, and each status has its cause.
+    ensures record { Records (MayEnd (map string_bytes words.now) (I.told inputs.old))
+        (record { before = K.taken out.old; after = K.taken out.new; faults_before = K.faults out.old; faults_after = K.faults out.new; room = K.sure_room out.old })
+        (record { before = A.taken aside.old; after = A.taken aside.new; faults_before = A.faults aside.old; faults_after = A.faults aside.new; room = A.sure_room aside.old })
+        (plain_status result) }
+    // A name can't be read only where reading failed in this call, for a name that wasn't sure.
+    ensures read_fault { plain_status result ≡ read_fault → Rose (I.faults inputs.old) (I.faults inputs.new)
+        × (command : _) × IsCommand (map string_bytes words.now) command × (name : _) × AsksFor command name × (I.sure inputs.old name → ⊥) }
+{
+    let Some(command) = command_of(words) else {
+        return refuse(alloc, out, Status::Words);
+    };
+    match texts_of(alloc, command, inputs) {
+        Ok(texts) => deliver(&texts, out, aside),
+        Err(status) => refuse(alloc, out, status),
+    }
+}
