@@ -3,3 +3,4 @@ pub mod Form
 pub mod IntType
 pub mod Meaning
 pub mod Carries
+pub mod Reading

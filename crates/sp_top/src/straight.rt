@@ -1,3 +1,6 @@
 //! Straight-line programs over `Int`: their types, their grammar and their netlists.
 
+mod lines;
+mod names;
+mod parse;
 mod program;
