@@ -3,3 +3,8 @@ pub mod TextLemmas
 pub mod PhraseLemmas
 pub mod NumberLemmas
 pub mod LineLemmas
+pub mod ReadLemmas
+pub mod ProgramLemmas
+pub mod StopLemmas
+pub mod SoundLemmas
+pub mod DeclareLemmas

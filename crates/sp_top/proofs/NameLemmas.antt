@@ -55,3 +55,15 @@ reserved_decided names name b e =
         let same : found.1 ≡ name = (bytes_eq-Decides found.1 name).0 found.4 in
         (found.0, found.2, rw same at found.3)),
      λ (k, lt, same). e ∙ list_any_at (λ word. bytes_eq word name) names k name lt ((bytes_eq-Decides (get_or names k name) name).1 same))
+
+pub place_within : (names : List (List ℕ)) (name : List ℕ) → Contains names name → place_of names name < length names
+place_within names name within =
+    let P : Option ℕ → Type 0 = λ o. position (bytes_eq name) names ≡ o → place_of names name < length names in
+    let cases : (o : Option ℕ) → P o = λ o. elim o as P [
+      None ↦ λ none. absurd (place_none names name none within)
+    | Some i ↦ λ some.
+        let l : i < length names = (position-Some (bytes_eq name) names i name some).0 in
+        let at : i ≡ place_of names name = place_is names name i some in
+        rw at at l
+    ] in
+    cases (position (bytes_eq name) names) refl

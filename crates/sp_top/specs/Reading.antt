@@ -9,7 +9,7 @@ use Rattle.sp_top.specs.declared.straight.program.Atom.{Atom}
 use Rattle.sp_top.specs.declared.straight.program.Value.{Value}
 use Rattle.sp_top.specs.declared.straight.parse.ParseError.{ParseError}
 use Rattle.sp_top.specs.declared.straight.parse.ParseError.TheVariants.{Breaks, Memory}
-use Rattle.sp_top.specs.Form.{Word, WordFits, word_text, atom_of, phrase_text, value_of, Line, arg_line, out_line, write_line, Phrase, Stage, line_text, text_of, LineFits, BreaksAt, arg_names, out_names, stage_of, program_of, statement_of, PhraseFits}
+use Rattle.sp_top.specs.Form.{Word, WordFits, word_text, atom_of, phrase_text, value_of, Line, arg_line, out_line, write_line, Phrase, Stage, line_text, text_of, LineFits, BreaksAt, reserved_words, arg_names, out_names, stage_of, program_of, statement_of, PhraseFits}
 
 -- the byte stands nowhere in the bytes
 abbrev pub Lacks : ℕ → List ℕ → Type 0
@@ -49,6 +49,20 @@ ReadsStatement lines text answer =
     MatchOption answer ((name : List ℕ) (phrase : Phrase) → Contains (out_names lines) name → PhraseFits lines phrase → text ≢ line_text (write_line name phrase))
     (λ s. (name : List ℕ) × (phrase : Phrase) × Contains (out_names lines) name × PhraseFits lines phrase × (text ≡ line_text (write_line name phrase))
     × (statement_of lines (write_line name phrase) ≡ Some s))
+
+-- a name that may be declared in a program
+pub record IsFreeIn (p : PlainProgram) (name : List ℕ) : Type 0 where
+  pub name_form : IsTrue (is_name name)
+  pub not_reserved : Contains reserved_words name → ⊥
+  pub no_arg : Contains p.args name → ⊥
+  pub no_out : Contains p.outs name → ⊥
+
+abbrev pub with_name : Side → PlainProgram → List ℕ → PlainProgram
+with_name Arg p name = record p { args = p.args ++ (name ∷ []) }
+with_name Out p name = record p { outs = p.outs ++ (name ∷ []) }
+
+abbrev pub with_statement : PlainProgram → Statement → PlainProgram
+with_statement p statement = record p { statements = p.statements ++ (statement ∷ []) }
 
 -- the reader of a text has read these lines of it, and stands at this stage before the rest
 pub record HasRead (text : List ℕ) (lines : List Line) (stage : Stage) (rest : List ℕ) (count : ℕ) (p : PlainProgram) : Type 0 where
