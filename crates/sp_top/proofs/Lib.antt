@@ -8,3 +8,4 @@ pub mod ProgramLemmas
 pub mod StopLemmas
 pub mod SoundLemmas
 pub mod DeclareLemmas
+pub mod LawLemmas

@@ -6,7 +6,7 @@ use Rattle.std.proofs.lemmas.Bool.{cases_lt}
 use Rattle.std.proofs.lemmas.Fmt.{digits_decimal, decimal_nonempty, first_decimal, decimal_digit, decimal-digits_value, decimal_injective}
 use Rattle.std.proofs.lemmas.Str.Parse.{tells_by_index, tells_digits, numerals_by_value, without_leading_plus_none}
 
-first_digit : (n : ℕ) → n < 2 ^ 31 → IsInRange 48 57 (get_or (decimal n) 0 0)
+pub first_digit : (n : ℕ) → n < 2 ^ 31 → IsInRange 48 57 (get_or (decimal n) 0 0)
 first_digit n small =
     digits_decimal (numerals_by_value (λ ds. (i : ℕ) → i < length ds → IsInRange 48 57 (get_or ds i 0)) tells_by_index) n (omega arith) 0 (decimal_nonempty n (omega arith))
 

@@ -13,7 +13,7 @@ use Rattle.sp_top.specs.declared.straight.parse.ParseError.TheVariants.{Breaks, 
 use Rattle.sp_top.specs.Straight.{PlainProgram}
 use Rattle.sp_top.specs.Form.{Word, Phrase, one_word, two_words, Line, arg_line, out_line, begin_line, write_line, end_line, Stage, declaring, stating, closed, stage_of, line_text, ended_line, text_of, word_text, phrase_text, operator_text, arg_names, out_names, IsFree, LineFits, PhraseFits, WordFits, BreaksAt, IsStraight, program_of}
 use Rattle.sp_top.specs.Reading.{EachFits, HasRead, Stops, Lacks, IsAsciiText}
-use Rattle.sp_top.proofs.TextLemmas.{IsGraphic, graphic_name, graphic_decimal, cut_same}
+use Rattle.sp_top.proofs.TextLemmas.{and_left, and_right, IsGraphic, graphic_name, graphic_decimal, cut_same}
 use Rattle.sp_top.proofs.PhraseLemmas.{graphic_word}
 use Rattle.sp_top.proofs.ReadLemmas.{arg_form, out_form, arg_free, out_free}
 
@@ -23,14 +23,6 @@ IsPlain b = (32 ≤ b) × (b < 128)
 
 plain_byte : (b : ℕ) → (nat_le 32 b && nat_lt b 128) ≡ true → IsPlain b
 plain_byte b e = grind (arith, nat_tests)
-
-and_left : (a b : Bool) → (a && b) ≡ true → a ≡ true
-and_left true b e = refl
-and_left false b e = e
-
-and_right : (a b : Bool) → (a && b) ≡ true → b ≡ true
-and_right true b e = e
-and_right false b e = absurd (false≢true e)
 
 plain_text : (xs : List ℕ) → list_all (λ b. nat_le 32 b && nat_lt b 128) xs ≡ true → All IsPlain xs
 plain_text [] e = All-nil IsPlain
@@ -76,7 +68,7 @@ line_lacks lines line each fits = All-weaker IsPlain (λ b. b ≢ 10) (λ b (low
 pub line_ascii : (lines : List Line) (line : Line) → EachFits lines → LineFits lines line → IsAsciiText (line_text line)
 line_ascii lines line each fits = All-weaker IsPlain (λ b. b < 128) (λ b (low, high). high) (line_text line) (plain_line lines line each fits)
 
-ended_text : (line : Line) (more : List ℕ) → ended_line line ++ more ≡ line_text line ++ (10 ∷ more)
+pub ended_text : (line : Line) (more : List ℕ) → ended_line line ++ more ≡ line_text line ++ (10 ∷ more)
 ended_text line more = append_assoc (line_text line) (10 ∷ []) more
 
 stops_at : (text : List ℕ) (lines : List Line) (stage : Stage) (rest : List ℕ) (count : ℕ) (p : PlainProgram) → HasRead text lines stage rest count p → (stage ≡ closed → rest ≡ [] → ⊥)
@@ -110,7 +102,7 @@ stops_here text lines stage rest count p body more h open' cut lacks none =
     (inr (λ line others fits e.
         none line fits (cut_same 10 body (line_text line) more others lacks (line_lacks lines line h.each fits) (sym cut ∙ e ∙ ended_text line others)).0))
 
-nothing_after : (lines : List Line) (line : Line) → stage_of lines ≡ closed → LineFits lines line → ⊥
+pub nothing_after : (lines : List Line) (line : Line) → stage_of lines ≡ closed → LineFits lines line → ⊥
 nothing_after lines (arg_line name) at fits = let h : closed ≡ declaring = sym at ∙ fits.0 in cc
 nothing_after lines (out_line name) at fits = let h : closed ≡ declaring = sym at ∙ fits.0 in cc
 nothing_after lines begin_line at fits = let h : closed ≡ declaring = sym at ∙ fits in cc

@@ -1,5 +1,6 @@
 //! Straight-line programs over `Int`: their types, their grammar and their netlists.
 
+mod laws;
 mod lines;
 mod names;
 mod parse;
