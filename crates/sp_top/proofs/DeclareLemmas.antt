@@ -21,21 +21,21 @@ name_lacks name form = graphic_lacks 32 name (lit< tt) (graphic_name name form)
 
 pub free_in : (lines : List Line) (p : PlainProgram) (name : List ℕ) → Declares lines p → IsFree lines name → IsFreeIn p name
 free_in lines p name k free = record {
-    name_form = free.name_form;
-    not_reserved = free.not_reserved;
-    no_arg = λ within. free.new (arg_declared lines name (subst (λ names. Contains names name) k.args within));
-    no_out = λ within. free.new (out_declared lines name (subst (λ names. Contains names name) k.outs within));
-  }
+  name_form = free.name_form;
+  not_reserved = free.not_reserved;
+  no_arg = λ within. free.new (arg_declared lines name (subst (λ names. Contains names name) k.args within));
+  no_out = λ within. free.new (out_declared lines name (subst (λ names. Contains names name) k.outs within));
+}
 
 pub free_after : (lines : List Line) (p : PlainProgram) (name : List ℕ) → Declares lines p → IsFreeIn p name → IsFree lines name
 free_after lines p name k free = record {
-    name_form = free.name_form;
-    not_reserved = free.not_reserved;
-    new = λ within. elim (declared_either lines name within) [
-        inl arg ↦ free.no_arg (subst (λ names. Contains names name) (sym k.args) arg)
-      | inr out ↦ free.no_out (subst (λ names. Contains names name) (sym k.outs) out)
-      ];
-  }
+  name_form = free.name_form;
+  not_reserved = free.not_reserved;
+  new = λ within. elim (declared_either lines name within) [
+    | inl arg ↦ free.no_arg (subst (λ names. Contains names name) (sym k.args) arg)
+    | inr out ↦ free.no_out (subst (λ names. Contains names name) (sym k.outs) out)
+  ];
+}
 
 pub declared_fits : (lines : List Line) (side : Side) (name : List ℕ) → stage_of lines ≡ declaring → IsFree lines name → LineFits lines (declaration_of side name)
 declared_fits lines Arg name at free = (at, free)
@@ -53,7 +53,7 @@ pub same_name : (line : List ℕ) (side other : Side) (name another : List ℕ) 
     → Lacks 32 name → Lacks 32 another → name ≡ another
 same_name line side other name another one two clear also_clear =
     (cut_same 32 name another (kind_text side) (kind_text other) clear also_clear
-     (declared_body line (name ++ (32 ∷ kind_text side)) other another (one ∙ declared_begins side name) two)).0
+    (declared_body line (name ++ (32 ∷ kind_text side)) other another (one ∙ declared_begins side name) two)).0
 
 -- no declaration has this text
 pub undeclared : (lines : List Line) (body : List ℕ) → stage_of lines ≡ declaring → body ≢ codes "Accel {"
@@ -72,16 +72,16 @@ unfree lines p body side name k at begins same clear taken =
 -- before the first line
 pub reads_nothing : (text : List ℕ) (p : PlainProgram) → p ≡ program_of [] → HasRead text [] declaring text 0 p
 reads_nothing text p is = record {
-    each = λ before. elim before as (λ b. (line : Line) (after : List Line) → [] ≡ b ++ (line ∷ after) → LineFits b line) [
-        [] ↦ λ line after e. absurd (cc)
-      | first ∷ others ↦ λ line after e. absurd (cc)
-      ];
-    at_most = lit≤ tt;
-    counted = refl;
-    reached = refl;
-    begins = refl;
-    program = is;
-  }
+  each = λ before. elim before as (λ b. (line : Line) (after : List Line) → [] ≡ b ++ (line ∷ after) → LineFits b line) [
+    | [] ↦ λ line after e. absurd (cc)
+    | first ∷ others ↦ λ line after e. absurd (cc)
+  ];
+  at_most = lit≤ tt;
+  counted = refl;
+  reached = refl;
+  begins = refl;
+  program = is;
+}
 
 -- what is known of an answer
 pub answer_ok : (text : List ℕ) (lines : List Line) (r : Result Program ParseError)

@@ -53,7 +53,7 @@ same_phrase lines (two_words a op b) (two_words c sign d) each one two e =
     let left : phrase_text (two_words a op b) ≡ word_text a ++ (32 ∷ (sign_text op ++ word_text b)) = ap (λ t. word_text a ++ t) (operator_begins op (word_text b)) in
     let right : phrase_text (two_words c sign d) ≡ word_text c ++ (32 ∷ (sign_text sign ++ word_text d)) = ap (λ t. word_text c ++ t) (operator_begins sign (word_text d)) in
     let cut = cut_same 32 (word_text a) (word_text c) (sign_text op ++ word_text b) (sign_text sign ++ word_text d)
-        (word_lacks lines a (arg_form lines each) one.0) (word_lacks lines c (arg_form lines each) two.0) (sym left ∙ e ∙ right) in
+    (word_lacks lines a (arg_form lines each) one.0) (word_lacks lines c (arg_form lines each) two.0) (sym left ∙ e ∙ right) in
     let ends : operator_text op ++ word_text b ≡ operator_text sign ++ word_text d = operator_begins op (word_text b) ∙ ap (λ t. 32 ∷ t) cut.1 ∙ sym (operator_begins sign (word_text d)) in
     let signs = same_operator op sign (word_text b) (word_text d) ends in
     let first : a ≡ c = same_word lines a c each one.0 two.0 cut.0 in
@@ -71,9 +71,9 @@ same_write : (lines : List Line) (a b : List ℕ) (p q : Phrase) → EachFits li
     → line_text (write_line a p) ≡ line_text (write_line b q) → write_line a p ≡ write_line b q
 same_write lines a b p q each in_a in_b one two e =
     let bodies : a ++ (32 ∷ (codes ":= " ++ phrase_text p)) ≡ b ++ (32 ∷ (codes ":= " ++ phrase_text q)) =
-        append_cancel_left (codes "  ") (a ++ (32 ∷ (codes ":= " ++ phrase_text p))) (b ++ (32 ∷ (codes ":= " ++ phrase_text q))) e in
+    append_cancel_left (codes "  ") (a ++ (32 ∷ (codes ":= " ++ phrase_text p))) (b ++ (32 ∷ (codes ":= " ++ phrase_text q))) e in
     let form : (name : List ℕ) → Contains (out_names lines) name → Lacks 32 name = λ name within.
-        name_lacks name (All-contains (λ x. IsTrue (is_name x)) (out_names lines) name (out_form lines each) within) in
+    name_lacks name (All-contains (λ x. IsTrue (is_name x)) (out_names lines) name (out_form lines each) within) in
     let cut = cut_same 32 a b (codes ":= " ++ phrase_text p) (codes ":= " ++ phrase_text q) (form a in_a) (form b in_b) bodies in
     let phrases : p ≡ q = same_phrase lines p q each one two (append_cancel_left (codes ":= ") (phrase_text p) (phrase_text q) cut.1) in
     let names : a ≡ b = cut.0 in
@@ -139,17 +139,17 @@ compare before (x ∷ a) (y ∷ b) r s fits also e =
     let one : EachFits ((before ++ (x ∷ [])) ++ a) = subst EachFits (sym (append_assoc before (x ∷ []) a)) fits in
     let two : EachFits ((before ++ (x ∷ [])) ++ b) = subst EachFits (ap (λ z. before ++ (z ∷ b)) (sym is) ∙ sym (append_assoc before (x ∷ []) b)) also in
     elim (compare (before ++ (x ∷ [])) a b r s one two cut.1) [
-      alike same rest ↦ alike (cc) rest
-    | longer line more same rest ↦ longer line more (cc) rest
-    | shorter line more same rest ↦ shorter line more (cc) rest
+      | alike same rest ↦ alike (cc) rest
+      | longer line more same rest ↦ longer line more (cc) rest
+      | shorter line more same rest ↦ shorter line more (cc) rest
     ]
 
 pub one_reading : (text : List ℕ) (a b : List Line) → IsStraight text a → IsStraight text b → a ≡ b
 one_reading text a b one two =
     elim (compare [] a b [] [] one.fit.each two.fit.each (ap (λ t. t ++ []) (sym one.whole ∙ two.whole))) [
-      alike same rest ↦ same
-    | longer line more same rest ↦ absurd (nothing_after a line one.closes (two.fit.each a line more same))
-    | shorter line more same rest ↦ absurd (nothing_after b line two.closes (one.fit.each b line more same))
+      | alike same rest ↦ same
+      | longer line more same rest ↦ absurd (nothing_after a line one.closes (two.fit.each a line more same))
+      | shorter line more same rest ↦ absurd (nothing_after b line two.closes (one.fit.each b line more same))
     ]
 
 -- no fitting line comes where a text breaks
@@ -157,25 +157,25 @@ broken_off : (text : List ℕ) (number : ℕ) (b : BreaksAt text number) (lines 
     → lines ≡ b.before ++ (line ∷ more) → b.rest ≡ text_of (line ∷ more) ++ s → ⊥
 broken_off text number b lines line more s fit cut rest =
     elim b.breaks [
-      inl full ↦
-        let counted : length lines ≡ length b.before + length (line ∷ more) = ap length cut ∙ length-append b.before (line ∷ more) in
-        let most = fit.at_most in
-        omega (arith, counted, full, most)
-    | inr none ↦ none line (text_of more ++ s) (fit.each b.before line more cut) (rest ∙ append_assoc (ended_line line) (text_of more) s)
+      | inl full ↦
+          let counted : length lines ≡ length b.before + length (line ∷ more) = ap length cut ∙ length-append b.before (line ∷ more) in
+          let most = fit.at_most in
+          omega (arith, counted, full, most)
+      | inr none ↦ none line (text_of more ++ s) (fit.each b.before line more cut) (rest ∙ append_assoc (ended_line line) (text_of more) s)
     ]
 
 pub breaks_or_reads : (text : List ℕ) (number : ℕ) (lines : List Line) → BreaksAt text number → IsStraight text lines → ⊥
 breaks_or_reads text number lines b reads =
     elim (compare [] b.before lines b.rest [] b.fit.each reads.fit.each (sym b.begins ∙ reads.whole ∙ sym (append-nil (text_of lines)))) [
-      alike same rest ↦ b.not_whole (ap stage_of same ∙ reads.closes) rest
-    | longer line more same rest ↦ broken_off text number b lines line more [] reads.fit same rest
-    | shorter line more same rest ↦ nothing_after lines line reads.closes (b.fit.each lines line more same)
+      | alike same rest ↦ b.not_whole (ap stage_of same ∙ reads.closes) rest
+      | longer line more same rest ↦ broken_off text number b lines line more [] reads.fit same rest
+      | shorter line more same rest ↦ nothing_after lines line reads.closes (b.fit.each lines line more same)
     ]
 
 pub one_break : (text : List ℕ) (m n : ℕ) → BreaksAt text m → BreaksAt text n → m ≡ n
 one_break text m n a b =
     elim (compare [] a.before b.before a.rest b.rest a.fit.each b.fit.each (sym a.begins ∙ b.begins)) [
-      alike same rest ↦ a.place ∙ ap (λ lines. length lines + 1) same ∙ sym b.place
-    | longer line more same rest ↦ absurd (broken_off text m a b.before line more b.rest b.fit same rest)
-    | shorter line more same rest ↦ absurd (broken_off text n b a.before line more a.rest a.fit same rest)
+      | alike same rest ↦ a.place ∙ ap (λ lines. length lines + 1) same ∙ sym b.place
+      | longer line more same rest ↦ absurd (broken_off text m a b.before line more b.rest b.fit same rest)
+      | shorter line more same rest ↦ absurd (broken_off text n b a.before line more a.rest a.fit same rest)
     ]

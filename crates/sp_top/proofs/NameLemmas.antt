@@ -32,8 +32,8 @@ place_contains names name i e =
 pub position_none : {X : Type 0} (p : X → Bool) (xs : List X) → position p xs ≡ None → (k : ℕ) (d : X) → k < length xs → p (get_or xs k d) ≡ false
 position_none p xs e k d l =
     elim (cases_lt (position_or_len p xs) (length xs)) [
-      inl found ↦ let t = lt-ltb (position_or_len p xs) (length xs) found in absurd (none-some (position_or_len p xs) (sym (rw t at e)))
-    | inr past ↦ let under : k < position_or_len p xs = omega arith in fails_before_first p xs k d under
+      | inl found ↦ let t = lt-ltb (position_or_len p xs) (length xs) found in absurd (none-some (position_or_len p xs) (sym (rw t at e)))
+      | inr past ↦ let under : k < position_or_len p xs = omega arith in fails_before_first p xs k d under
     ]
 
 pub place_none : (names : List (List ℕ)) (name : List ℕ) → position (bytes_eq name) names ≡ None → Contains names name → ⊥
@@ -44,26 +44,27 @@ pub contains_decided : (names : List (List ℕ)) (name : List ℕ) (b : Bool) �
 contains_decided names name b e =
     let P : Option ℕ → Type 0 = λ o. position (bytes_eq name) names ≡ o → (b ≡ is_some o) → IsTrue b ↔ Contains names name in
     let cases : (o : Option ℕ) → P o = λ o. elim o as P [
-      None ↦ λ none no. ((λ yes. absurd (false≢true (sym no ∙ yes))), λ stands. absurd (place_none names name none stands))
-    | Some i ↦ λ some yes. ((λ _. place_contains names name i some), λ _. yes)
+      | None ↦ λ none no. ((λ yes. absurd (false≢true (sym no ∙ yes))), λ stands. absurd (place_none names name none stands))
+      | Some i ↦ λ some yes. ((λ _. place_contains names name i some), λ _. yes)
     ] in
     cases (position (bytes_eq name) names) refl e
 
 pub reserved_decided : (names : List (List ℕ)) (name : List ℕ) (b : Bool) → b ≡ list_any (λ word. bytes_eq word name) names → IsTrue b ↔ Contains names name
-reserved_decided names name b e =
-    ((λ yes. let found = Any-from_list_any (λ word. bytes_eq word name) names (sym e ∙ yes) in
-        let same : found.1 ≡ name = (bytes_eq-Decides found.1 name).0 found.4 in
-        (found.0, found.2, rw same at found.3)),
-     λ (k, lt, same). e ∙ list_any_at (λ word. bytes_eq word name) names k name lt ((bytes_eq-Decides (get_or names k name) name).1 same))
+reserved_decided names name b e = (
+  (λ yes. let found = Any-from_list_any (λ word. bytes_eq word name) names (sym e ∙ yes) in
+      let same : found.1 ≡ name = (bytes_eq-Decides found.1 name).0 found.4 in
+      (found.0, found.2, rw same at found.3)),
+  λ (k, lt, same). e ∙ list_any_at (λ word. bytes_eq word name) names k name lt ((bytes_eq-Decides (get_or names k name) name).1 same),
+)
 
 pub place_within : (names : List (List ℕ)) (name : List ℕ) → Contains names name → place_of names name < length names
 place_within names name within =
     let P : Option ℕ → Type 0 = λ o. position (bytes_eq name) names ≡ o → place_of names name < length names in
     let cases : (o : Option ℕ) → P o = λ o. elim o as P [
-      None ↦ λ none. absurd (place_none names name none within)
-    | Some i ↦ λ some.
-        let l : i < length names = (position-Some (bytes_eq name) names i name some).0 in
-        let at : i ≡ place_of names name = place_is names name i some in
-        rw at at l
+      | None ↦ λ none. absurd (place_none names name none within)
+      | Some i ↦ λ some.
+          let l : i < length names = (position-Some (bytes_eq name) names i name some).0 in
+          let at : i ≡ place_of names name = place_is names name i some in
+          rw at at l
     ] in
     cases (position (bytes_eq name) names) refl

@@ -19,15 +19,15 @@ no_sign word plus n small same =
 pub no_leading_zero : (word : List ℕ) → get_or word 0 0 ≡ 48 → 1 < length word → (n : ℕ) → n < 2 ^ 31 → word ≡ decimal n → ⊥
 no_leading_zero word none long n small same =
     elim (cases_lt 0 n) [
-      inl above ↦
-        let d = first_decimal n above (omega arith) in
-        let at : get_or word 0 0 ≡ get_or (decimal n) 0 0 = ap (λ w. get_or w 0 0) same in
-        omega arith
-    | inr least ↦
-        let nothing : n ≡ 0 = omega arith in
-        let zero_text : word ≡ 48 ∷ [] = same ∙ ap decimal nothing ∙ decimal_digit 0 (omega arith) in
-        let short : length word ≡ 1 = ap length zero_text in
-        omega arith
+      | inl above ↦
+          let d = first_decimal n above (omega arith) in
+          let at : get_or word 0 0 ≡ get_or (decimal n) 0 0 = ap (λ w. get_or w 0 0) same in
+          omega arith
+      | inr least ↦
+          let nothing : n ≡ 0 = omega arith in
+          let zero_text : word ≡ 48 ∷ [] = same ∙ ap decimal nothing ∙ decimal_digit 0 (omega arith) in
+          let short : length word ≡ 1 = ap length zero_text in
+          omega arith
     ]
 
 pub number_read : (word : List ℕ) (n : ℕ) → get_or word 0 0 ≢ 43 → (get_or word 0 0 ≡ 48 → length word ≤ 1)

@@ -100,18 +100,18 @@ pub read_on : (text : List ℕ) (lines : List Line) (stage next : Stage) (rest l
     → rest ≡ line ++ (10 ∷ more) → count < 400 → LineFits lines last → line ≡ line_text last → stage_after stage last ≡ next → q ≡ program_of (lines ++ (last ∷ []))
     → HasRead text (lines ++ (last ∷ [])) next more (count + 1) q
 read_on text lines stage next rest line more count p q last h cut small fits same moves is = record {
-    each = each_more lines last h.each fits;
-    at_most = omega (arith, h.counted, length-append lines (last ∷ []));
-    counted = omega (arith, h.counted, length-append lines (last ∷ []));
-    reached = stage_of_more lines last ∙ ap (λ s. stage_after s last) h.reached ∙ moves;
-    begins = h.begins ∙ ap (λ r. text_of lines ++ r) (cut ∙ ap (λ l. l ++ (10 ∷ more)) same) ∙ sym (text_more lines last more);
-    program = is;
-  }
+  each = each_more lines last h.each fits;
+  at_most = omega (arith, h.counted, length-append lines (last ∷ []));
+  counted = omega (arith, h.counted, length-append lines (last ∷ []));
+  reached = stage_of_more lines last ∙ ap (λ s. stage_after s last) h.reached ∙ moves;
+  begins = h.begins ∙ ap (λ r. text_of lines ++ r) (cut ∙ ap (λ l. l ++ (10 ∷ more)) same) ∙ sym (text_more lines last more);
+  program = is;
+}
 
 pub declares : (text : List ℕ) (lines : List Line) (stage : Stage) (rest : List ℕ) (count : ℕ) (p : PlainProgram) → HasRead text lines stage rest count p → Declares lines p
 declares text lines stage rest count p h = record {
-    args = ap (λ q. q.args) h.program;
-    outs = ap (λ q. q.outs) h.program;
-    arg_form = arg_form lines h.each;
-    out_form = out_form lines h.each;
-  }
+  args = ap (λ q. q.args) h.program;
+  outs = ap (λ q. q.outs) h.program;
+  arg_form = arg_form lines h.each;
+  out_form = out_form lines h.each;
+}

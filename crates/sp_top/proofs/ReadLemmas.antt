@@ -21,15 +21,15 @@ last_split (x ∷ lines) last (y ∷ before) line after e =
     let h : x ≡ y = cc in
     let t : lines ++ (last ∷ []) ≡ before ++ (line ∷ after) = cc in
     elim (last_split lines last before line after t) [
-      inl (same, is) ↦ inl (cc, is)
-    | inr (rest, same) ↦ inr (rest, cc)
+      | inl (same, is) ↦ inl (cc, is)
+      | inr (rest, same) ↦ inr (rest, cc)
     ]
 
 pub each_more : (lines : List Line) (last : Line) → EachFits lines → LineFits lines last → EachFits (lines ++ (last ∷ []))
 each_more lines last each fits before line after e =
     elim (last_split lines last before line after e) [
-      inl (same, is) ↦ rw (sym same, sym is) fits
-    | inr (rest, same) ↦ each before line rest same
+      | inl (same, is) ↦ rw (sym same, sym is) fits
+      | inr (rest, same) ↦ each before line rest same
     ]
 
 stage_more : (stage : Stage) (lines : List Line) (last : Line) → stage_from stage (lines ++ (last ∷ [])) ≡ stage_after (stage_from stage lines) last
@@ -47,20 +47,20 @@ kept_from h [] (b ∷ before) y after e = absurd (cc)
 kept_from {X} {Y} h (x ∷ xs) before y after e =
     let Kept : List Y → Type 0 = λ bs. (front : List X) × (z : X) × (back : List X) × (x ∷ xs ≡ front ++ (z ∷ back)) × (filter_map h front ≡ bs) × (h z ≡ Some y) × (filter_map h back ≡ after) in
     let None_here : h x ≡ None → (bs : List Y) → filter_map h xs ≡ bs ++ (y ∷ after) → Kept bs = λ none bs t.
-        let (front, z, back, cut, kept, is, others) = kept_from h xs bs y after t in
-        (x ∷ front, z, back, ap (λ l. x ∷ l) cut, rw none kept, is, others) in
+    let (front, z, back, cut, kept, is, others) = kept_from h xs bs y after t in
+    (x ∷ front, z, back, ap (λ l. x ∷ l) cut, rw none kept, is, others) in
     let Some_here : (w : Y) → h x ≡ Some w → (bs : List Y) → w ∷ filter_map h xs ≡ bs ++ (y ∷ after) → Kept bs = λ w some bs t.
-        elim bs as (λ v. w ∷ filter_map h xs ≡ v ++ (y ∷ after) → Kept v) [
-          [] ↦ λ u. let is : w ≡ y = cc in let others : filter_map h xs ≡ after = cc in ([], x, xs, refl, refl, some ∙ ap Some is, others)
-        | b ∷ more ↦ λ u.
-            let is : w ≡ b = cc in
-            let rest : filter_map h xs ≡ more ++ (y ∷ after) = cc in
-            let (front, z, back, cut, kept, found, others) = kept_from h xs more y after rest in
-            (x ∷ front, z, back, ap (λ l. x ∷ l) cut, rw (some, kept, is) refl, found, others)
-        ] t in
+    elim bs as (λ v. w ∷ filter_map h xs ≡ v ++ (y ∷ after) → Kept v) [
+      | [] ↦ λ u. let is : w ≡ y = cc in let others : filter_map h xs ≡ after = cc in ([], x, xs, refl, refl, some ∙ ap Some is, others)
+      | b ∷ more ↦ λ u.
+          let is : w ≡ b = cc in
+          let rest : filter_map h xs ≡ more ++ (y ∷ after) = cc in
+          let (front, z, back, cut, kept, found, others) = kept_from h xs more y after rest in
+          (x ∷ front, z, back, ap (λ l. x ∷ l) cut, rw (some, kept, is) refl, found, others)
+    ] t in
     elim (h x) as (λ o. h x ≡ o → cons_option o (filter_map h xs) ≡ before ++ (y ∷ after) → Kept before) [
-      None ↦ λ none t. None_here none before t
-    | Some w ↦ λ some t. Some_here w some before t
+      | None ↦ λ none t. None_here none before t
+      | Some w ↦ λ some t. Some_here w some before t
     ] refl e
 
 contains_split : {X : Type 0} (xs : List X) (x : X) → Contains xs x → (before : List X) × (after : List X) × (xs ≡ before ++ (x ∷ after))
@@ -104,8 +104,8 @@ pub declared_either : (lines : List Line) (name : List ℕ) → Contains (declar
 declared_either lines name within =
     let (front, line, back, cut, is) = kept_contains declared_name lines name within in
     elim (declares_side line name is) [
-      inl arg ↦ inl (rw cut (contains_kept arg_name front line back name arg))
-    | inr out ↦ inr (rw cut (contains_kept out_name front line back name out))
+      | inl arg ↦ inl (rw cut (contains_kept arg_name front line back name arg))
+      | inr out ↦ inr (rw cut (contains_kept out_name front line back name out))
     ]
 
 pub arg_declared : (lines : List Line) (name : List ℕ) → Contains (arg_names lines) name → Contains (declared_names lines) name
@@ -131,16 +131,16 @@ pub arg_form : (lines : List Line) → EachFits lines → All (λ name. IsTrue (
 arg_form lines each =
     All-weaker (Contains (arg_names lines)) (λ name. IsTrue (is_name name))
     (λ name within.
-        let (front, line, back, cut, is) = kept_contains arg_name lines name within in
-        (arg_free front name (subst (λ l. LineFits front l) (declares_arg line name is) (each front line back cut))).name_form)
+    let (front, line, back, cut, is) = kept_contains arg_name lines name within in
+    (arg_free front name (subst (λ l. LineFits front l) (declares_arg line name is) (each front line back cut))).name_form)
     (arg_names lines) (All-contains_itself (arg_names lines))
 
 pub out_form : (lines : List Line) → EachFits lines → All (λ name. IsTrue (is_name name)) (out_names lines)
 out_form lines each =
     All-weaker (Contains (out_names lines)) (λ name. IsTrue (is_name name))
     (λ name within.
-        let (front, line, back, cut, is) = kept_contains out_name lines name within in
-        (out_free front name (subst (λ l. LineFits front l) (declares_out line name is) (each front line back cut))).name_form)
+    let (front, line, back, cut, is) = kept_contains out_name lines name within in
+    (out_free front name (subst (λ l. LineFits front l) (declares_out line name is) (each front line back cut))).name_form)
     (out_names lines) (All-contains_itself (out_names lines))
 
 stage_append : (stage : Stage) (front back : List Line) → stage_from stage (front ++ back) ≡ stage_from (stage_from stage front) back
@@ -176,15 +176,15 @@ states front end_line n p e fits = absurd (cc)
 pub no_statements : (lines other : List Line) → EachFits lines → stage_of lines ≡ declaring → filter_map (statement_of other) lines ≡ []
 no_statements lines other each reached =
     let None_there : (statements : List Statement) → filter_map (statement_of other) lines ≡ statements → statements ≡ [] = λ statements.
-        elim statements as (λ l. filter_map (statement_of other) lines ≡ l → l ≡ []) [
-          [] ↦ λ e. refl
-        | statement ∷ rest ↦ λ e.
-            let (front, line, back, cut, kept, is, others) = kept_from (statement_of other) lines [] statement rest e in
-            let (name, phrase, same) = written other line statement is in
-            let at : stage_of front ≡ stating = states front line name phrase same (each front line back cut) in
-            let whole : stage_of lines ≡ stage_from (stage_after (stage_of front) line) back = ap stage_of cut ∙ stage_append declaring front (line ∷ back) in
-            let after : stage_after (stage_of front) line ≡ stating = ap (λ l. stage_after (stage_of front) l) same ∙ at in
-            let later : stage_from stating back ≡ declaring = ap (λ s. stage_from s back) (sym after) ∙ sym whole ∙ reached in
-            absurd (stage_stays stating back (λ f. cc) later)
-        ] in
+    elim statements as (λ l. filter_map (statement_of other) lines ≡ l → l ≡ []) [
+      | [] ↦ λ e. refl
+      | statement ∷ rest ↦ λ e.
+          let (front, line, back, cut, kept, is, others) = kept_from (statement_of other) lines [] statement rest e in
+          let (name, phrase, same) = written other line statement is in
+          let at : stage_of front ≡ stating = states front line name phrase same (each front line back cut) in
+          let whole : stage_of lines ≡ stage_from (stage_after (stage_of front) line) back = ap stage_of cut ∙ stage_append declaring front (line ∷ back) in
+          let after : stage_after (stage_of front) line ≡ stating = ap (λ l. stage_after (stage_of front) l) same ∙ at in
+          let later : stage_from stating back ≡ declaring = ap (λ s. stage_from s back) (sym after) ∙ sym whole ∙ reached in
+          absurd (stage_stays stating back (λ f. cc) later)
+    ] in
     None_there (filter_map (statement_of other) lines) refl

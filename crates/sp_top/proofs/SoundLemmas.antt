@@ -53,8 +53,8 @@ statements_stand : (lines : List Line) → EachFits lines → All (StatementStan
 statements_stand lines each =
     All-weaker (Contains (filter_map (statement_of lines) lines)) (StatementStands (program_of lines))
     (λ statement within.
-        let (front, line, back, cut, is) = kept_contains (statement_of lines) lines statement within in
-        line_stands lines front (line ∷ back) line statement cut (each front line back cut) is)
+    let (front, line, back, cut, is) = kept_contains (statement_of lines) lines statement within in
+    line_stands lines front (line ∷ back) line statement cut (each front line back cut) is)
     (filter_map (statement_of lines) lines) (All-contains_itself (filter_map (statement_of lines) lines))
 
 -- each line gives one thing at most
@@ -75,10 +75,10 @@ counted other (line ∷ lines) =
 
 pub fitting_sound : (lines : List Line) → AllFit lines → IsSound (program_of lines)
 fitting_sound lines fit = record {
-    arg_names = arg_form lines fit.each;
-    out_names = out_form lines fit.each;
-    args_differ = args_differ lines fit.each;
-    outs_differ = outs_differ lines fit.each;
-    statements = statements_stand lines fit.each;
-    small = let most = fit.at_most in let all = counted lines lines in omega arith;
-  }
+  arg_names = arg_form lines fit.each;
+  out_names = out_form lines fit.each;
+  args_differ = args_differ lines fit.each;
+  outs_differ = outs_differ lines fit.each;
+  statements = statements_stand lines fit.each;
+  small = let most = fit.at_most in let all = counted lines lines in omega arith;
+}

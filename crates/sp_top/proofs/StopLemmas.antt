@@ -59,7 +59,7 @@ plain_line lines begin_line each fits = plain_text (codes "Accel {") refl
 plain_line lines (write_line name phrase) each fits =
     All-append IsPlain (codes "  ") (name ++ (codes " := " ++ phrase_text phrase)) (plain_text (codes "  ") refl)
     (All-append IsPlain name (codes " := " ++ phrase_text phrase) (plain_name name (All-contains (λ n. IsTrue (is_name n)) (out_names lines) name (out_form lines each) fits.1))
-     (All-append IsPlain (codes " := ") (phrase_text phrase) (plain_text (codes " := ") refl) (plain_phrase lines phrase each fits.2)))
+    (All-append IsPlain (codes " := ") (phrase_text phrase) (plain_text (codes " := ") refl) (plain_phrase lines phrase each fits.2)))
 plain_line lines end_line each fits = plain_text (codes "}") refl
 
 pub line_lacks : (lines : List Line) (line : Line) → EachFits lines → LineFits lines line → Lacks 10 (line_text line)
@@ -74,14 +74,14 @@ ended_text line more = append_assoc (line_text line) (10 ∷ []) more
 stops_at : (text : List ℕ) (lines : List Line) (stage : Stage) (rest : List ℕ) (count : ℕ) (p : PlainProgram) → HasRead text lines stage rest count p → (stage ≡ closed → rest ≡ [] → ⊥)
     → ((count ≡ 400) ⊎ ((line : Line) (more : List ℕ) → LineFits lines line → rest ≡ ended_line line ++ more → ⊥)) → BreaksAt text (count + 1)
 stops_at text lines stage rest count p h left_over broken = record {
-    before = lines;
-    rest = rest;
-    fit = record { each = h.each; at_most = h.at_most };
-    begins = h.begins;
-    place = omega (arith, h.counted);
-    not_whole = λ end none. left_over (sym h.reached ∙ end) none;
-    breaks = elim broken [ inl full ↦ inl (sym h.counted ∙ full) | inr none ↦ inr none ];
-  }
+  before = lines;
+  rest = rest;
+  fit = record { each = h.each; at_most = h.at_most };
+  begins = h.begins;
+  place = omega (arith, h.counted);
+  not_whole = λ end none. left_over (sym h.reached ∙ end) none;
+  breaks = elim broken [ inl full ↦ inl (sym h.counted ∙ full) | inr none ↦ inr none ];
+}
 
 -- no line begins the rest, or there are lines enough
 pub stops_short : (text : List ℕ) (lines : List Line) (stage : Stage) (rest : List ℕ) (count : ℕ) (p : PlainProgram) → HasRead text lines stage rest count p → stage ≢ closed
@@ -89,10 +89,10 @@ pub stops_short : (text : List ℕ) (lines : List Line) (stage : Stage) (rest : 
 stops_short text lines stage rest count p h open' broken =
     stops_at text lines stage rest count p h (λ end none. open' end)
     (elim broken [
-        inl full ↦ inl full
+      | inl full ↦ inl full
       | inr none ↦ inr (λ line more fits e.
           none (line_text line) more (line_ascii lines line h.each fits) (line_lacks lines line h.each fits) (e ∙ ended_text line more))
-      ])
+    ])
 
 -- the next line is none that fits
 pub stops_here : (text : List ℕ) (lines : List Line) (stage : Stage) (rest : List ℕ) (count : ℕ) (p : PlainProgram) (body more : List ℕ) → HasRead text lines stage rest count p → stage ≢ closed
@@ -100,7 +100,7 @@ pub stops_here : (text : List ℕ) (lines : List Line) (stage : Stage) (rest : L
 stops_here text lines stage rest count p body more h open' cut lacks none =
     stops_at text lines stage rest count p h (λ end empty. open' end)
     (inr (λ line others fits e.
-        none line fits (cut_same 10 body (line_text line) more others lacks (line_lacks lines line h.each fits) (sym cut ∙ e ∙ ended_text line others)).0))
+    none line fits (cut_same 10 body (line_text line) more others lacks (line_lacks lines line h.each fits) (sym cut ∙ e ∙ ended_text line others)).0))
 
 pub nothing_after : (lines : List Line) (line : Line) → stage_of lines ≡ closed → LineFits lines line → ⊥
 nothing_after lines (arg_line name) at fits = let h : closed ≡ declaring = sym at ∙ fits.0 in cc
@@ -115,10 +115,10 @@ stops_late text lines rest count p h some =
 
 pub ends : (text : List ℕ) (lines : List Line) (rest : List ℕ) (count : ℕ) (p : PlainProgram) → HasRead text lines closed rest count p → rest ≡ [] → IsStraight text lines
 ends text lines rest count p h none = record {
-    fit = record { each = h.each; at_most = h.at_most };
-    closes = h.reached;
-    whole = h.begins ∙ ap (λ r. text_of lines ++ r) none ∙ append-nil (text_of lines);
-  }
+  fit = record { each = h.each; at_most = h.at_most };
+  closes = h.reached;
+  whole = h.begins ∙ ap (λ r. text_of lines ++ r) none ∙ append-nil (text_of lines);
+}
 
 -- which lines have a text, by stage
 

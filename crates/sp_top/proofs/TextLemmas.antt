@@ -72,7 +72,7 @@ graphic_name (x ∷ xs) e =
 pub graphic_decimal : (n : ℕ) → n < 2 ^ 31 → All IsGraphic (decimal n)
 graphic_decimal n small =
     let digits : (i : ℕ) → i < length (decimal n) → IsInRange 48 57 (get_or (decimal n) i 0) =
-        digits_decimal (numerals_by_value (λ ds. (i : ℕ) → i < length ds → IsInRange 48 57 (get_or ds i 0)) tells_by_index) n (omega arith) in
+    digits_decimal (numerals_by_value (λ ds. (i : ℕ) → i < length ds → IsInRange 48 57 (get_or ds i 0)) tells_by_index) n (omega arith) in
     All-from_get_or IsGraphic (decimal n) 0 (λ i l. let d = digits i l in (omega arith, omega arith))
 
 pub blank_split : (text : List ℕ) (r : Option (Bor (List ℕ) × Bor (List ℕ))) → IsSplitOnceResult 32 text r
@@ -80,11 +80,11 @@ pub blank_split : (text : List ℕ) (r : Option (Bor (List ℕ) × Bor (List ℕ
 blank_split text r h =
     let parts = split_parts 32 text r h (lit< tt) in
     let P : Option (Bor (List ℕ) × Bor (List ℕ)) → Type 0 = λ o.
-        MatchOption o ((i : ℕ) → i < length text → get_or text i 0 ≢ 32) (λ x. (text ≡ x.0.now ++ (32 ∷ x.1.now)) × ((i : ℕ) → i < length x.0.now → get_or x.0.now i 0 ≢ 32))
-        → MatchOption o (Lacks 32 text) (λ p. (text ≡ p.0.now ++ (32 ∷ p.1.now)) × Lacks 32 p.0.now) in
+    MatchOption o ((i : ℕ) → i < length text → get_or text i 0 ≢ 32) (λ x. (text ≡ x.0.now ++ (32 ∷ x.1.now)) × ((i : ℕ) → i < length x.0.now → get_or x.0.now i 0 ≢ 32))
+    → MatchOption o (Lacks 32 text) (λ p. (text ≡ p.0.now ++ (32 ∷ p.1.now)) × Lacks 32 p.0.now) in
     let by_cases : (o : Option (Bor (List ℕ) × Bor (List ℕ))) → P o = λ o. elim o as P [
-      None ↦ λ none. All-from_get_or (λ b. b ≢ 32) text 0 none
-    | Some p ↦ λ (same, before). (same, All-from_get_or (λ b. b ≢ 32) p.0.now 0 before)
+      | None ↦ λ none. All-from_get_or (λ b. b ≢ 32) text 0 none
+      | Some p ↦ λ (same, before). (same, All-from_get_or (λ b. b ≢ 32) p.0.now 0 before)
     ] in
     by_cases r parts
 
@@ -95,17 +95,18 @@ cut_at_end text end e =
     let h = position-Some (λ byte. byte == 10) text end 0 e in
     let within : end < length text = h.0 in
     let is : get_or text end 0 ≡ 10 = eqb-true (get_or text end 0) 10 h.1 in
-    let back : drop end text ≡ 10 ∷ drop (end + 1) text = rw (drop-cons text end 0, is, add-one) in
-    (sym (take-append-drop end text) ∙ ap (λ d. take end text ++ d) back,
-     All-from_get_or (λ b. b ≢ 10) (take end text) 0
-     (λ i l ten. let less : i < end = omega (arith, length-take {A = ℕ}) in
-         let at : get_or (take end text) i 0 ≡ get_or text i 0 = get_or-take end text i 0 less in
-         false≢true (sym (h.2 i less) ∙ eq-eqb (get_or text i 0) 10 (sym at ∙ ten))))
+    let back : drop end text ≡ 10 ∷ drop (end + 1) text = rw (drop-cons text end 0, is, add-one) in (
+      sym (take-append-drop end text) ∙ ap (λ d. take end text ++ d) back,
+      All-from_get_or (λ b. b ≢ 10) (take end text) 0
+          (λ i l ten. let less : i < end = omega (arith, length-take {A = ℕ}) in
+          let at : get_or (take end text) i 0 ≡ get_or text i 0 = get_or-take end text i 0 less in
+          false≢true (sym (h.2 i less) ∙ eq-eqb (get_or text i 0) 10 (sym at ∙ ten))),
+    )
 
 pub no_line_end : (text : List ℕ) → position (λ byte. byte == 10) text ≡ None → (line rest : List ℕ) → text ≡ line ++ (10 ∷ rest) → ⊥
 no_line_end text e line rest same =
     let lacks : Lacks 10 text = All-from_get_or (λ b. b ≢ 10) text 0
-        (λ i l ten. false≢true (sym (position_none (λ byte. byte == 10) text e i 0 l) ∙ eq-eqb (get_or text i 0) 10 ten)) in
+    (λ i l ten. false≢true (sym (position_none (λ byte. byte == 10) text e i 0 l) ∙ eq-eqb (get_or text i 0) 10 ten)) in
     lacks_none 10 line rest (rw same at lacks)
 
 pub not_utf8 : (text : List ℕ) (end : ℕ) → position (λ byte. byte == 10) text ≡ Some end → (IsUtf8 (take end text) → ⊥)

@@ -1,7 +1,10 @@
 //! Straight-line programs over `Int`: their types, their grammar and their netlists.
 
-mod laws;
+pub mod laws;
 mod lines;
 mod names;
-mod parse;
-mod program;
+pub mod parse;
+pub mod program;
+
+#[cfg(test)]
+mod tests;

@@ -7,11 +7,10 @@ ghost use Rattle.sp_top.specs.declared.straight.parse.ParseError.TheVariants.{Br
 ghost use Rattle.sp_top.specs.Reading.{Lacks, IsAsciiText, HasRead, Stops, IsFreeIn, with_name, with_statement};
 ghost use Rattle.sp_netlist.specs.Rules.{is_name};
 
-use std::alloc::{AllocError, Global};
-
 use crate::straight::lines::{Side, declaration, next_line, statement};
 use crate::straight::names::{contains, is_name, is_reserved};
 use crate::straight::program::{Program, Statement};
+use std::alloc::{AllocError, Global};
 
 /// The greatest number of lines of a text of the straight form.
 const MOST_LINES: u32 = 400;
@@ -153,7 +152,9 @@ impl<'a> Reader<'a> {
         if self.rest.is_empty() {
             Ok(self.program)
         } else {
-            Err(ParseError::Breaks { line: self.lines + 1 })
+            Err(ParseError::Breaks {
+                line: self.lines + 1,
+            })
         }
     }
 }

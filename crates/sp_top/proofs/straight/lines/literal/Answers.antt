@@ -23,10 +23,10 @@ returns-then-number c =
     let sign = starts_char 43 c.args.word.now c.starts_with.result c.starts_with.ensures.cases (lit< tt) (lit< tt) in
     let nought = starts_char 48 c.args.word.now c.starts_with-2.result c.starts_with-2.ensures.cases (lit< tt) (lit< tt) in
     let plain : get_or c.args.word.now 0 0 ≡ 48 → length c.args.word.now ≤ 1 = λ zero.
-        elim c.else-starts_with-2.branch [
-          else-starts_with-2-via-then-starts_with-2+else-word-gt1 w ↦ w.if-word-gt1.false
-        | else-starts_with-2-via-else-starts_with-2 w ↦ absurd (false≢true (sym w.if-starts_with-2.false ∙ nought.1 zero))
-        ] in
+    elim c.else-starts_with-2.branch [
+      | else-starts_with-2-via-then-starts_with-2+else-word-gt1 w ↦ w.if-word-gt1.false
+      | else-starts_with-2-via-else-starts_with-2 w ↦ absurd (false≢true (sym w.if-starts_with-2.false ∙ nought.1 zero))
+    ] in
     (c.if-number.true, number_read c.args.word.now c.in-Ok.number (λ plus. false≢true (sym c.if-starts_with.false ∙ sign.1 plus)) plain c.in-Ok.ensures.value.0)
 
 pub returns-else-number : goal.returns-else-number

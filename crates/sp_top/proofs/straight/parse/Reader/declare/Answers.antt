@@ -21,16 +21,16 @@ returns-then-eq-clause-read c = λ text lines h.
     let e = c.in_ok-line.ensures.cases in
     let body : c.in_ok-line.line.now ≡ codes "Accel {" = (bytes_eq-Decides c.in_ok-line.line.now (codes "Accel {")).0 (sym c.if-eq.ensures) in
     let after = read_on text lines declaring stating c.args.self.now.rest.now c.in_ok-line.line.now c.line.new.self.rest.now c.args.self.now.lines _ (plain_program c.line.new.self.program) begin_line
-        h e.0 e.2 h.reached body refl (ap plain_program c.in_ok-line.ensures.same ∙ h.program ∙ sym (program_begun lines)) in
+    h e.0 e.2 h.reached body refl (ap plain_program c.in_ok-line.ensures.same ∙ h.program ∙ sym (program_begun lines)) in
     (lines ++ (begin_line ∷ []), rw e.3 after)
 
 pub returns-in_default-clause-read : goal.returns-in_default-clause-read
 returns-in_default-clause-read c = λ text lines h.
     let e = c.in_ok-line.ensures.cases in
     let stop = stops_here text lines declaring c.args.self.now.rest.now c.args.self.now.lines _ c.in_ok-line.line.now c.line.new.self.rest.now h (λ f. cc) e.0 e.1
-        (undeclared lines c.in_ok-line.line.now h.reached
-         (λ same. false≢true (sym c.if-eq.false ∙ c.eq.ensures ∙ (bytes_eq-Decides c.in_ok-line.line.now (codes "Accel {")).1 same))
-         c.in_default.ensures) in
+    (undeclared lines c.in_ok-line.line.now h.reached
+    (λ same. false≢true (sym c.if-eq.false ∙ c.eq.ensures ∙ (bytes_eq-Decides c.in_ok-line.line.now (codes "Accel {")).1 same))
+    c.in_default.ensures) in
     rw (c.breaks.ensures, e.3) stop
 
 pub returns-then-not-is_free-clause-read : goal.returns-then-not-is_free-clause-read
@@ -38,9 +38,9 @@ returns-then-not-is_free-clause-read c = λ text lines h.
     let e = c.in_ok-line.ensures.cases in
     let k : Declares lines (plain_program c.line.new.self.program) = rw c.in_ok-line.ensures.same (declares text lines declaring _ _ _ h) in
     let stop = stops_here text lines declaring c.args.self.now.rest.now c.args.self.now.lines _ c.in_ok-line.line.now c.line.new.self.rest.now h (λ f. cc) e.0 e.1
-        (unfree lines (plain_program c.line.new.self.program) c.in_ok-line.line.now c.in-Some.side c.in-Some.name.now k h.reached
-         (λ same. false≢true (sym c.if-eq.false ∙ c.eq.ensures ∙ (bytes_eq-Decides c.in_ok-line.line.now (codes "Accel {")).1 same))
-         c.in-Some.ensures.0 c.in-Some.ensures.1 (λ free. false≢true (sym c.if-not-is_free.true ∙ c.is_free.ensures.1 free))) in
+    (unfree lines (plain_program c.line.new.self.program) c.in_ok-line.line.now c.in-Some.side c.in-Some.name.now k h.reached
+    (λ same. false≢true (sym c.if-eq.false ∙ c.eq.ensures ∙ (bytes_eq-Decides c.in_ok-line.line.now (codes "Accel {")).1 same))
+    c.in-Some.ensures.0 c.in-Some.ensures.1 (λ free. false≢true (sym c.if-not-is_free.true ∙ c.is_free.ensures.1 free))) in
     rw (c.breaks-then-not-is_free.ensures, e.3) stop
 
 pub returns-clause-read : goal.returns-clause-read
@@ -50,7 +50,7 @@ returns-clause-read c = λ text lines h.
     let free = free_after lines (plain_program c.line.new.self.program) c.in-Some.name.now k (c.is_free.ensures.0 c.if-not-is_free.false) in
     let fits = declared_fits lines c.in-Some.side c.in-Some.name.now h.reached free in
     let made = c.in_ok-add_name.ensures.named ∙ ap (λ p. with_name c.in-Some.side (plain_program p) c.in-Some.name.now) c.in_ok-line.ensures.same
-        ∙ ap (λ p. with_name c.in-Some.side p c.in-Some.name.now) h.program ∙ sym (program_declared lines c.in-Some.side c.in-Some.name.now h.each h.reached fits) in
+    ∙ ap (λ p. with_name c.in-Some.side p c.in-Some.name.now) h.program ∙ sym (program_declared lines c.in-Some.side c.in-Some.name.now h.each h.reached fits) in
     let after = read_on text lines declaring declaring c.args.self.now.rest.now c.in_ok-line.line.now c.line.new.self.rest.now c.args.self.now.lines _ (plain_program c.add_name.new.program)
-        (declaration_of c.in-Some.side c.in-Some.name.now) h e.0 e.2 fits c.in-Some.ensures.0 (declared_stage c.in-Some.side c.in-Some.name.now) made in
+    (declaration_of c.in-Some.side c.in-Some.name.now) h e.0 e.2 fits c.in-Some.ensures.0 (declared_stage c.in-Some.side c.in-Some.name.now) made in
     (lines ++ (declaration_of c.in-Some.side c.in-Some.name.now ∷ []), rw e.3 after)
