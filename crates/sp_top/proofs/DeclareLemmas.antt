@@ -1,14 +1,13 @@
 -- Reading a declaration.
-use Rattle.std.proofs.Common.{◌≡◌, ◌≢◌, ◌⊎◌, ℕ, List, [], ◌∷◌, ◌++◌, length, Contains, IsTrue, Result, Ok, Err, MatchResult, IfOk, codes, refl, sym, ◌∙◌, ap, subst, inl, inr, lit<, lit≤}
-use Rattle.std.proofs.lemmas.List.{append_cancel_left}
+use Rattle.std.proofs.Common.{◌≡◌, ◌≢◌, ℕ, List, [], ◌∷◌, ◌++◌, Contains, IsTrue, Result, Ok, Err, MatchResult, IfOk, codes, refl, sym, ◌∙◌, subst, inl, inr, lit<, lit≤}
 use Rattle.sp_netlist.specs.Rules.{is_name}
 use Rattle.sp_top.specs.declared.straight.lines.Side.{Side}
 use Rattle.sp_top.specs.declared.straight.lines.Side.TheVariants.{Arg, Out}
 use Rattle.sp_top.specs.declared.straight.program.Program.{Program}
 use Rattle.sp_top.specs.declared.straight.parse.ParseError.{ParseError}
-use Rattle.sp_top.specs.declared.straight.parse.ParseError.TheVariants.{Breaks, Memory}
+use Rattle.sp_top.specs.declared.straight.parse.ParseError.TheVariants.{Breaks}
 use Rattle.sp_top.specs.Straight.{PlainProgram, plain_program, IsSound}
-use Rattle.sp_top.specs.Form.{Line, arg_line, out_line, Stage, declaring, stating, closed, stage_after, stage_of, line_text, arg_names, out_names, declared_names, LineFits, IsFree, IsStraight, BreaksAt, program_of}
+use Rattle.sp_top.specs.Form.{Line, declaring, stage_after, stage_of, line_text, LineFits, IsFree, IsStraight, BreaksAt, program_of}
 use Rattle.sp_top.specs.Reading.{Lacks, Declares, IsFreeIn, HasRead, Stops, declaration_of}
 use Rattle.sp_top.proofs.TextLemmas.{graphic_lacks, graphic_name, cut_same}
 use Rattle.sp_top.proofs.LineLemmas.{kind_text, declared_body}

@@ -1,23 +1,21 @@
 -- A text has at most one reading, and breaks at no more than one line.
-use Rattle.std.proofs.Common.{◌≡◌, ◌≢◌, ◌⊎◌, ℕ, ◌+◌, ◌<◌, ◌≤◌, ◌^◌, Bool, ◌&&◌, List, [], ◌∷◌, ◌++◌, length, All, Contains, IsTrue, codes, refl, sym, ◌∙◌, ap, arith, subst, inl, inr, lit<, get_or, true, decimal, append_assoc, length-append}
+use Rattle.std.proofs.Common.{◌≡◌, ℕ, ◌+◌, ◌<◌, ◌≤◌, ◌^◌, List, [], ◌∷◌, ◌++◌, length, Contains, IsTrue, codes, refl, sym, ◌∙◌, ap, arith, subst, inl, inr, get_or, true, decimal, append_assoc, length-append}
 use Rattle.std.proofs.lemmas.List.{append-nil, append_cancel_left}
-use Rattle.std.proofs.lemmas.List.Elements.{All-contains, All-append, All-head}
+use Rattle.std.proofs.lemmas.List.Elements.{All-contains}
 use Rattle.std.proofs.lemmas.Fmt.{decimal_injective}
 use Rattle.std.specs.List.{list_all}
 use Rattle.std.proofs.lemmas.Bool.{false≢true}
 use Rattle.std.proofs.lemmas.Bool.Decides.{nat_tests}
 use Rattle.sp_netlist.specs.Rules.{is_name, is_letter, is_name_byte}
 use Rattle.sp_top.specs.declared.straight.program.Operator.{Operator}
-use Rattle.sp_top.specs.declared.straight.program.Operator.TheVariants.{Add, Sub, Mul}
-use Rattle.sp_top.specs.declared.straight.lines.Side.{Side}
 use Rattle.sp_top.specs.declared.straight.lines.Side.TheVariants.{Arg, Out}
-use Rattle.sp_top.specs.Form.{Word, name_word, number_word, Phrase, one_word, two_words, Line, arg_line, out_line, begin_line, write_line, end_line, Stage, declaring, stating, closed, stage_of, line_text, ended_line, text_of, word_text, phrase_text, operator_text, arg_names, out_names, LineFits, AllFit, PhraseFits, WordFits, IsFree, BreaksAt, IsStraight}
-use Rattle.sp_top.specs.Reading.{EachFits, Lacks, declaration_of}
-use Rattle.sp_top.proofs.TextLemmas.{and_left, IsGraphic, graphic_lacks, graphic_name, graphic_decimal, cut_same, lacks_none}
+use Rattle.sp_top.specs.Form.{Word, name_word, number_word, Phrase, one_word, two_words, Line, arg_line, out_line, begin_line, write_line, end_line, stage_of, line_text, ended_line, text_of, word_text, phrase_text, operator_text, arg_names, out_names, LineFits, AllFit, PhraseFits, WordFits, BreaksAt, IsStraight}
+use Rattle.sp_top.specs.Reading.{EachFits, Lacks}
+use Rattle.sp_top.proofs.TextLemmas.{and_left, cut_same, lacks_none}
 use Rattle.sp_top.proofs.PhraseLemmas.{sign_text, operator_begins, same_operator, word_lacks}
 use Rattle.sp_top.proofs.LineLemmas.{kind_text, declared_kind}
 use Rattle.sp_top.proofs.ReadLemmas.{arg_form, out_form, arg_free, out_free}
-use Rattle.sp_top.proofs.StopLemmas.{line_lacks, nothing_after, ended_text}
+use Rattle.sp_top.proofs.StopLemmas.{line_lacks, nothing_after}
 use Rattle.sp_top.proofs.DeclareLemmas.{name_lacks, same_name}
 use Rattle.sp_top.proofs.NumberLemmas.{first_digit}
 

@@ -1,17 +1,15 @@
 -- Names among names, and the bytes of a name.
-use Rattle.std.proofs.Common.{◌≡◌, ◌≢◌, ℕ, suc, ◌+◌, ◌<◌, ◌≤◌, Bool, true, false, not, cond, List, [], ◌∷◌, ◌++◌, length, get_or, map, IsTrue, Contains, All, Option, Some, None, position, refl, sym, ◌∙◌, ap, arith, rules, inl, inr, ◌&&◌, ◌↔◌, nat_lt}
-use Rattle.std.specs.List.{prefix_len, position_or_len, list_all, list_any}
+use Rattle.std.proofs.Common.{◌≡◌, ℕ, ◌<◌, Bool, false, not, List, [], ◌∷◌, length, get_or, map, IsTrue, Contains, Option, Some, None, position, refl, sym, ◌∙◌, arith, inl, inr, ◌↔◌}
+use Rattle.std.specs.List.{prefix_len, position_or_len, list_any}
 use Rattle.std.specs.Option.{is_some}
 use Rattle.std.specs.Str.{bytes_eq}
 use Rattle.std.proofs.lemmas.Slice.Eq.{bytes_eq-Decides}
-use Rattle.std.proofs.lemmas.List.Sums.{fails_before_first, prefix_len-le-length}
+use Rattle.std.proofs.lemmas.List.Sums.{fails_before_first}
 use Rattle.std.proofs.lemmas.List.Quantifiers.{position-Some}
 use Rattle.std.proofs.lemmas.List.{length-map}
 use Rattle.std.proofs.lemmas.Bool.{cases_lt, false≢true, lt-ltb}
 use Rattle.std.proofs.lemmas.Option.{none-some}
 use Rattle.std.proofs.lemmas.List.Folds.{Any-from_list_any, list_any_at}
-use Rattle.std.proofs.lemmas.Bool.Decides.{nat_tests}
-use Rattle.sp_netlist.specs.Rules.{is_name, is_letter, is_name_byte}
 use Rattle.sp_top.specs.Form.{place_of}
 
 prefix_len_map : {X Y : Type 0} (p : Y → Bool) (f : X → Y) (xs : List X) → prefix_len p (map f xs) ≡ prefix_len (λ x. p (f x)) xs

@@ -1,15 +1,14 @@
 -- Words and phrases, as they are written.
-use Rattle.std.proofs.Common.{◌≡◌, ◌≢◌, ℕ, ◌+◌, ◌<◌, ◌≤◌, ◌^◌, List, [], ◌∷◌, ◌++◌, length, All, Contains, IsTrue, codes, refl, sym, ◌∙◌, ap, arith, rules, decimal, Option, Some, None, append_assoc, map, string_bytes}
+use Rattle.std.proofs.Common.{◌≡◌, ◌≢◌, ℕ, ◌<◌, ◌^◌, List, ◌∷◌, ◌++◌, All, Contains, IsTrue, codes, refl, sym, ◌∙◌, ap, arith, decimal, Some}
 use Rattle.std.proofs.lemmas.List.Elements.{All-contains}
 use Rattle.sp_netlist.specs.Rules.{is_name}
 use Rattle.sp_top.specs.declared.straight.program.Operator.{Operator}
 use Rattle.sp_top.specs.declared.straight.program.Operator.TheVariants.{Add, Sub, Mul}
 use Rattle.sp_top.specs.declared.straight.program.Atom.{Atom}
 use Rattle.sp_top.specs.declared.straight.program.Atom.TheVariants.{Arg, Literal}
-use Rattle.sp_top.specs.declared.straight.program.Value.{Value}
 use Rattle.sp_top.specs.declared.straight.program.Value.TheVariants.{One, Two}
 use Rattle.sp_top.specs.Straight.{PlainProgram}
-use Rattle.sp_top.specs.Form.{Word, name_word, number_word, Phrase, one_word, two_words, Line, word_text, phrase_text, operator_text, WordFits, PhraseFits, atom_of, value_of, place_of, arg_names}
+use Rattle.sp_top.specs.Form.{Word, name_word, number_word, Phrase, one_word, two_words, Line, word_text, phrase_text, operator_text, WordFits, PhraseFits, atom_of, place_of, arg_names}
 use Rattle.sp_top.specs.Reading.{Lacks, Declares, ReadsWord, ReadsPhrase}
 use Rattle.sp_top.proofs.TextLemmas.{IsGraphic, graphic_lacks, graphic_name, graphic_decimal, cut_same, lacks_none}
 

@@ -1,18 +1,17 @@
 -- The program that one more line makes, and where a reader stops.
-use Rattle.std.proofs.Common.{◌≡◌, ◌≢◌, ◌⊎◌, ℕ, suc, ◌+◌, ◌<◌, ◌≤◌, List, [], ◌∷◌, ◌++◌, length, All, Contains, IsTrue, Bool, true, Option, Some, None, codes, refl, sym, ◌∙◌, ap, arith, subst, inl, inr, lit<, append_assoc, length-append, flat_map, filter_map}
+use Rattle.std.proofs.Common.{◌≡◌, ℕ, ◌+◌, ◌<◌, List, [], ◌∷◌, ◌++◌, Option, Some, refl, sym, ◌∙◌, ap, arith, append_assoc, length-append, filter_map}
 use Rattle.std.specs.List.{cons_option}
 use Rattle.std.proofs.lemmas.List.{append-nil}
 use Rattle.std.proofs.lemmas.List.Concat.{flat_map-append}
 use Rattle.std.proofs.lemmas.List.Elements.{filter_map-append}
-use Rattle.sp_top.specs.declared.straight.program.Atom.{Atom}
 use Rattle.sp_top.specs.declared.straight.program.Value.{Value}
-use Rattle.sp_top.specs.declared.straight.program.Value.TheVariants.{One, Two}
-use Rattle.sp_top.specs.declared.straight.program.Atom.TheVariants.{Arg, Literal}
+use Rattle.sp_top.specs.declared.straight.program.Value.TheVariants.{One}
+use Rattle.sp_top.specs.declared.straight.program.Atom.TheVariants.{Arg}
 use Rattle.sp_top.specs.declared.straight.program.Statement.{Statement}
 use Rattle.sp_top.specs.declared.straight.lines.Side.{Side}
 use Rattle.sp_top.specs.declared.straight.lines.Side.TheVariants.{Arg as ArgSide, Out as OutSide}
 use Rattle.sp_top.specs.Straight.{PlainProgram}
-use Rattle.sp_top.specs.Form.{Word, name_word, number_word, Phrase, one_word, two_words, Line, arg_line, out_line, begin_line, write_line, end_line, Stage, declaring, stating, closed, stage_after, stage_from, stage_of, line_text, ended_line, text_of, arg_name, out_name, arg_names, out_names, place_of, LineFits, program_of, atom_of, value_of, statement_of}
+use Rattle.sp_top.specs.Form.{Word, name_word, number_word, Phrase, one_word, two_words, Line, arg_line, out_line, begin_line, write_line, end_line, Stage, declaring, stage_after, stage_of, line_text, text_of, arg_name, out_name, arg_names, out_names, place_of, LineFits, program_of, atom_of, value_of, statement_of}
 use Rattle.sp_top.specs.Reading.{EachFits, HasRead, Declares, with_name, with_statement, declaration_of}
 use Rattle.sp_top.proofs.ReadLemmas.{each_more, stage_of_more, no_statements, arg_form, out_form}
 

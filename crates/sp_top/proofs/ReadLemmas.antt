@@ -1,14 +1,11 @@
 -- What a reader of the straight form knows of the lines that it has read.
-use Rattle.std.proofs.Common.{◌≡◌, ◌≢◌, ◌⊎◌, ℕ, suc, ◌+◌, ◌<◌, ◌≤◌, List, [], ◌∷◌, ◌++◌, length, All, Contains, IsTrue, Option, Some, None, codes, refl, sym, ◌∙◌, ap, arith, subst, inl, inr, lit<, append_assoc, length-append, flat_map, filter_map, take, drop, take-append-drop, drop-cons}
+use Rattle.std.proofs.Common.{◌≡◌, ◌≢◌, ◌⊎◌, ℕ, suc, List, [], ◌∷◌, ◌++◌, All, Contains, IsTrue, Option, Some, None, refl, sym, ◌∙◌, ap, arith, subst, inl, inr, filter_map, take, drop, take-append-drop, drop-cons}
 use Rattle.std.specs.List.{cons_option}
-use Rattle.std.proofs.lemmas.List.{append-nil}
-use Rattle.std.proofs.lemmas.List.Concat.{flat_map-append}
-use Rattle.std.proofs.lemmas.List.Elements.{All-append, All-cons, All-nil, All-weaker, All-contains_itself, filter_map-append, Contains-append_left, Contains-append_right, Contains-append_cases, Contains-push}
+use Rattle.std.proofs.lemmas.List.Elements.{All-weaker, All-contains_itself, filter_map-append, Contains-append_right}
 use Rattle.sp_netlist.specs.Rules.{is_name}
 use Rattle.sp_top.specs.declared.straight.program.Statement.{Statement}
-use Rattle.sp_top.specs.Straight.{PlainProgram}
-use Rattle.sp_top.specs.Form.{Line, arg_line, out_line, begin_line, write_line, end_line, Phrase, Stage, declaring, stating, closed, stage_after, stage_from, stage_of, line_text, ended_line, text_of, arg_name, out_name, declared_name, arg_names, out_names, declared_names, LineFits, AllFit, BreaksAt, IsStraight, program_of, statement_of, IsFree}
-use Rattle.sp_top.specs.Reading.{EachFits, HasRead, Declares}
+use Rattle.sp_top.specs.Form.{Line, arg_line, out_line, begin_line, write_line, end_line, Phrase, Stage, declaring, stating, stage_after, stage_from, stage_of, arg_name, out_name, declared_name, arg_names, out_names, declared_names, LineFits, statement_of, IsFree}
+use Rattle.sp_top.specs.Reading.{EachFits}
 
 -- where one more line stands, a line and those after it are that one or stand before
 pub last_split : {X : Type 0} (lines : List X) (last : X) (before : List X) (line : X) (after : List X) → lines ++ (last ∷ []) ≡ before ++ (line ∷ after)

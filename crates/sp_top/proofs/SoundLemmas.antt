@@ -1,16 +1,14 @@
 -- The program of fitting lines is sound.
-use Rattle.std.proofs.Common.{◌≡◌, ◌≢◌, ◌⊎◌, ℕ, suc, ◌+◌, ◌<◌, ◌≤◌, List, [], ◌∷◌, ◌++◌, length, All, Contains, IsTrue, Option, Some, None, position, refl, sym, ◌∙◌, ap, arith, subst, inl, inr, filter_map}
-use Rattle.std.specs.Str.{bytes_eq}
+use Rattle.std.proofs.Common.{◌≡◌, ℕ, ◌+◌, ◌≤◌, List, [], ◌∷◌, ◌++◌, length, All, Contains, Some, sym, arith, subst, filter_map}
 use Rattle.std.specs.List.{cons_option}
 use Rattle.std.proofs.lemmas.Option.{same_Some}
 use Rattle.std.proofs.lemmas.List.Elements.{All-weaker, All-contains_itself, filter_map-append, Contains-append_left}
-use Rattle.sp_netlist.specs.Rules.{is_name}
 use Rattle.sp_top.specs.declared.straight.program.Statement.{Statement}
-use Rattle.sp_top.specs.Straight.{PlainProgram, IsSound, AtomStands, ValueStands, StatementStands}
-use Rattle.sp_top.specs.Form.{Word, name_word, number_word, Phrase, one_word, two_words, Line, arg_line, out_line, begin_line, write_line, end_line, arg_name, out_name, arg_names, out_names, declared_names, place_of, LineFits, WordFits, PhraseFits, AllFit, program_of, atom_of, value_of, statement_of, IsFree}
+use Rattle.sp_top.specs.Straight.{IsSound, AtomStands, ValueStands, StatementStands}
+use Rattle.sp_top.specs.Form.{Word, name_word, number_word, Phrase, one_word, two_words, Line, arg_line, out_line, begin_line, write_line, end_line, arg_name, out_name, arg_names, out_names, place_of, LineFits, WordFits, PhraseFits, AllFit, program_of, atom_of, value_of, statement_of}
 use Rattle.sp_top.specs.Reading.{EachFits}
 use Rattle.sp_top.proofs.NameLemmas.{place_within}
-use Rattle.sp_top.proofs.ReadLemmas.{kept_from, kept_contains, declares_arg, declares_out, arg_declared, out_declared, arg_form, out_form, arg_free, out_free, written}
+use Rattle.sp_top.proofs.ReadLemmas.{kept_from, kept_contains, declares_arg, declares_out, arg_declared, out_declared, arg_form, out_form, arg_free, out_free}
 
 args_differ : (lines : List Line) → EachFits lines → (before : List (List ℕ)) (name : List ℕ) (after : List (List ℕ)) → arg_names lines ≡ before ++ (name ∷ after) → Contains before name → ⊥
 args_differ lines each before name after cut within =

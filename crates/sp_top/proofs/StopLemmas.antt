@@ -1,19 +1,16 @@
 -- Where a reader stops, and which lines fit at a stage.
-use Rattle.std.proofs.Common.{◌≡◌, ◌≢◌, ◌⊎◌, ℕ, ◌+◌, ◌<◌, ◌≤◌, Bool, true, false, List, [], ◌∷◌, ◌++◌, length, All, Contains, IsTrue, codes, nat_le, nat_lt, ◌&&◌, refl, sym, ◌∙◌, ap, arith, subst, inl, inr, lit<, append_assoc}
+use Rattle.std.proofs.Common.{◌≡◌, ◌≢◌, ◌⊎◌, ℕ, ◌+◌, ◌<◌, ◌≤◌, true, List, [], ◌∷◌, ◌++◌, All, Contains, IsTrue, codes, nat_le, nat_lt, ◌&&◌, refl, sym, ◌∙◌, ap, arith, inl, inr, append_assoc}
 use Rattle.std.specs.List.{list_all}
-use Rattle.std.proofs.lemmas.Bool.{false≢true}
 use Rattle.std.proofs.lemmas.List.{append-nil}
 use Rattle.std.proofs.lemmas.Bool.Decides.{nat_tests}
 use Rattle.std.proofs.lemmas.List.Elements.{All-nil, All-cons, All-append, All-weaker, All-contains}
 use Rattle.sp_netlist.specs.Rules.{is_name}
 use Rattle.sp_top.specs.declared.straight.program.Operator.{Operator}
 use Rattle.sp_top.specs.declared.straight.program.Operator.TheVariants.{Add, Sub, Mul}
-use Rattle.sp_top.specs.declared.straight.parse.ParseError.{ParseError}
-use Rattle.sp_top.specs.declared.straight.parse.ParseError.TheVariants.{Breaks, Memory}
 use Rattle.sp_top.specs.Straight.{PlainProgram}
-use Rattle.sp_top.specs.Form.{Word, Phrase, one_word, two_words, Line, arg_line, out_line, begin_line, write_line, end_line, Stage, declaring, stating, closed, stage_of, line_text, ended_line, text_of, word_text, phrase_text, operator_text, arg_names, out_names, IsFree, LineFits, PhraseFits, WordFits, BreaksAt, IsStraight, program_of}
-use Rattle.sp_top.specs.Reading.{EachFits, HasRead, Stops, Lacks, IsAsciiText}
-use Rattle.sp_top.proofs.TextLemmas.{and_left, and_right, IsGraphic, graphic_name, graphic_decimal, cut_same}
+use Rattle.sp_top.specs.Form.{Phrase, one_word, two_words, Line, arg_line, out_line, begin_line, write_line, end_line, Stage, declaring, stating, closed, stage_of, line_text, ended_line, text_of, word_text, phrase_text, operator_text, out_names, IsFree, LineFits, PhraseFits, BreaksAt, IsStraight}
+use Rattle.sp_top.specs.Reading.{EachFits, HasRead, Lacks, IsAsciiText}
+use Rattle.sp_top.proofs.TextLemmas.{and_left, and_right, IsGraphic, graphic_name, cut_same}
 use Rattle.sp_top.proofs.PhraseLemmas.{graphic_word}
 use Rattle.sp_top.proofs.ReadLemmas.{arg_form, out_form, arg_free, out_free}
 

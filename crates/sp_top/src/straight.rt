@@ -5,6 +5,5 @@ mod lines;
 mod names;
 pub mod parse;
 pub mod program;
-
 #[cfg(test)]
 mod tests;

@@ -1,5 +1,5 @@
-use Rattle.std.proofs.Common.{◌≡◌, map, string_bytes}
-use Rattle.sp_top.proofs.PhraseLemmas.{word_named, word_counted, no_word}
+use Rattle.std.proofs.Common.{map, string_bytes}
+use Rattle.sp_top.proofs.PhraseLemmas.{word_named, word_counted}
 use Rattle.sp_top.proofs.straight.lines.atom.Goals as goal
 
 pub returns-in-Some : goal.returns-in-Some

@@ -1,5 +1,3 @@
-use Rattle.std.proofs.Common.{◌≡◌, sym, ◌∙◌}
-use Rattle.sp_top.specs.declared.straight.lines.Side.TheVariants.{Arg, Out}
 use Rattle.sp_top.proofs.LineLemmas.{not_declared_whole, declared_kind, neither}
 use Rattle.sp_top.proofs.straight.lines.declaration.Goals as goal
 

@@ -1,4 +1,4 @@
-use Rattle.std.proofs.Common.{◌≡◌, ◌<◌, ◌^◌, ◌≤◌, ℕ, Bool, true, false, get_or, length, sym, ◌∙◌, ap, arith, lit<, Ok}
+use Rattle.std.proofs.Common.{◌≡◌, ◌≤◌, get_or, length, sym, ◌∙◌, arith, lit<, Ok}
 use Rattle.std.proofs.lemmas.Bool.{false≢true}
 use Rattle.std.proofs.lemmas.Fmt.{parse-decimal}
 use Rattle.std.proofs.lemmas.Str.Pattern.{starts_char}

@@ -1,4 +1,4 @@
-use Rattle.std.proofs.Common.{◌≡◌, ℕ, ◌+◌, ◌-◌, ◌≤◌, length, take, drop, sym, ◌∙◌, arith, length-drop}
+use Rattle.std.proofs.Common.{◌+◌, ◌-◌, length, drop, sym, arith, length-drop}
 use Rattle.std.proofs.lemmas.List.{take_all}
 use Rattle.sp_top.proofs.TextLemmas.{no_line_end, not_utf8, cut_at_end}
 use Rattle.sp_top.proofs.straight.lines.next_line.Goals as goal

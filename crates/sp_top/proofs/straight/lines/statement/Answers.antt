@@ -1,4 +1,4 @@
-use Rattle.std.proofs.Common.{◌≡◌, sym, ◌∙◌, ap, ◌++◌, codes}
+use Rattle.std.proofs.Common.{◌≡◌, sym, ◌∙◌, codes}
 use Rattle.std.proofs.lemmas.List.{append_cancel_left}
 use Rattle.sp_top.specs.Form.{phrase_text}
 use Rattle.sp_top.proofs.LineLemmas.{not_written_whole, written_cut}

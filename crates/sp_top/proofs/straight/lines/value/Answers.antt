@@ -1,4 +1,4 @@
-use Rattle.std.proofs.Common.{◌≡◌, ◌∷◌, ◌∙◌, sym}
+use Rattle.std.proofs.Common.{◌∙◌, sym}
 use Rattle.sp_top.proofs.PhraseLemmas.{one_word_whole, two_words_cut, same_operator, phrase_one, phrase_two}
 use Rattle.sp_top.proofs.straight.lines.value.Goals as goal
 

@@ -1,4 +1,4 @@
-use Rattle.std.proofs.Common.{◌≡◌, sym, ◌∙◌, ap, map, string_bytes, Some, None, position}
+use Rattle.std.proofs.Common.{sym, ◌∙◌, ap, map, string_bytes}
 use Rattle.std.specs.Option.{is_some}
 use Rattle.std.specs.Str.{bytes_eq}
 use Rattle.sp_top.proofs.NameLemmas.{position_map, contains_decided}

@@ -1,4 +1,3 @@
-use Rattle.std.proofs.Common.{◌≡◌}
 use Rattle.sp_top.specs.Form.{reserved_words}
 use Rattle.sp_top.proofs.NameLemmas.{reserved_decided}
 use Rattle.sp_top.proofs.straight.names.is_reserved.Goals as goal

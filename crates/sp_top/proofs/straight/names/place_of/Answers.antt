@@ -1,4 +1,4 @@
-use Rattle.std.proofs.Common.{◌≡◌, List, ℕ, sym, ◌∙◌, map, string_bytes, Some, None}
+use Rattle.std.proofs.Common.{List, ℕ, sym, ◌∙◌, map, string_bytes}
 use Rattle.std.specs.Str.{bytes_eq}
 use Rattle.sp_top.proofs.NameLemmas.{position_map, place_is, place_contains, place_none}
 use Rattle.sp_top.proofs.straight.names.place_of.Goals as goal

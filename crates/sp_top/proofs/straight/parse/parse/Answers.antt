@@ -1,5 +1,4 @@
-use Rattle.std.proofs.Common.{◌≡◌, [], refl, sym, ◌∙◌, ap}
-use Rattle.sp_top.specs.Straight.{plain_program}
+use Rattle.std.proofs.Common.{[]}
 use Rattle.sp_top.proofs.DeclareLemmas.{reads_nothing, answer_ok, answer_sound, answer_breaks}
 use Rattle.sp_top.proofs.straight.parse.parse.Goals as goal
 

@@ -1,4 +1,4 @@
-use Rattle.std.proofs.Common.{ℕ, List, length}
+use Rattle.std.proofs.Common.{List, length}
 use Rattle.sp_top.specs.Straight.{plain_program}
 use Rattle.sp_top.specs.Form.{Line, declaring, stating}
 use Rattle.sp_top.specs.Reading.{HasRead}
