@@ -3,3 +3,14 @@ pub mod Runs
 pub mod Shape
 pub mod Carried
 pub mod RecordLemmas
+pub mod NameLemmas
+pub mod TextLemmas
+pub mod PhraseLemmas
+pub mod NumberLemmas
+pub mod LineLemmas
+pub mod ReadLemmas
+pub mod ProgramLemmas
+pub mod StopLemmas
+pub mod SoundLemmas
+pub mod DeclareLemmas
+pub mod LawLemmas

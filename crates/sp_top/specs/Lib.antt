@@ -7,3 +7,4 @@ pub mod Commands
 pub mod Said
 pub mod Record
 pub mod StraightCells
+pub mod Reading

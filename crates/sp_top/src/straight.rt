@@ -1,3 +1,9 @@
 //! Straight-line programs over `Int`: their types, their grammar and their netlists.
 
-mod program;
+pub mod laws;
+mod lines;
+mod names;
+pub mod parse;
+pub mod program;
+#[cfg(test)]
+mod tests;
