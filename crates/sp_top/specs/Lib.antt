@@ -3,3 +3,4 @@ pub mod Form
 pub mod Meaning
 pub mod Carries
 pub mod StraightCells
+pub mod StraightDraft

@@ -1,3 +1,4 @@
 //! Straight-line programs over `Int`: their types, their grammar and their netlists.
 
+mod lower;
 mod program;
