@@ -7,7 +7,7 @@ use Rattle.std.proofs.lemmas.List.Sums.{sum_by-append, sum_by-cons, get_or-le-su
 use Rattle.std.proofs.lemmas.List.Concat.{flat_map-append}
 use Rattle.sp_netlist.specs.Cells.{PlainCell, in_cell, out_cell, done_cell, const_cell, op_cell, not_cell, shift_cell, cast_cell, mux_cell, reg_cell, bank_cell, read_tap, write_tap, dram_cell, load_unit, store_unit}
 use Rattle.sp_netlist.specs.Rules.{IsRight, IsWidth, IsNetlist, IsRanked, Feeds, is_computed, drives, reads, driven_nets, read_nets}
-use Rattle.sp_netlist.specs.Draft.{Draft, DrivesMore, IsDraft, CanAdd, IsComplete, IsReady, DrivesApart, promised_width, driver_count}
+use Rattle.sp_netlist.specs.Draft.{Draft, IsDraft, CanAdd, IsComplete, IsReady, DrivesApart, promised_width, driver_count}
 use Rattle.sp_netlist.proofs.Lists.{split_at, counted, Contains-here, Contains-later}
 use Rattle.sp_netlist.proofs.LookUps.{AllRight, AllRight-push, Names-all, drives-kept, reads-kept, driven_nets-push, read_nets-push, Names-right}
 
@@ -155,9 +155,6 @@ Feeds-push cells c a net all h (x, within, computed, read, driven) =
 driver_count-push : (cells : List PlainCell) (c : PlainCell) (net : ℕ) → AllRight cells → IsRight cells cells c → driver_count (cells ++ c ∷ []) net ≡ driver_count cells net + count_by (λ p. p.0 == net) (drives cells c)
 driver_count-push cells c net all h =
     ap (count_by (λ (p : ℕ × ℕ). p.0 == net)) (driven_nets-push cells c all h) ∙ sum_by-append (λ (p : ℕ × ℕ). cond (p.0 == net) 1 0) (driven_nets cells) (drives cells c)
-
-pub DrivesMore-add : (d : Draft) (c : PlainCell) → IsDraft d → CanAdd d c → DrivesMore d.cells (d.cells ++ c ∷ []) (drives d.cells c)
-DrivesMore-add d c h can = record { counts = λ net. driver_count-push d.cells c net (record { each = h.right }) can.right }
 
 each_weaker : {X : Type 0} (P Q : X → Type 0) → ((x : X) → P x → Q x) → (xs : List X) → Each P xs → Each Q xs
 each_weaker P Q weaker [] each = tt

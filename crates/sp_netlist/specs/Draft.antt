@@ -1,5 +1,5 @@
 -- A draft of a netlist: nets are promised, then cells are added that drive them, so that no loop can stand.
-use Rattle.std.specs.Prelude.{◌≡◌, ◌≢◌, ℕ, ◌+◌, ◌≤◌, ◌<◌, ◌==◌, Bool, true, not, IsTrue, ◌⊎◌, List, ◌++◌, ◌∷◌, length, Option, Some, slice_get, option_map, count_by, All}
+use Rattle.std.specs.Prelude.{◌≡◌, ◌≢◌, ℕ, ◌≤◌, ◌<◌, ◌==◌, Bool, true, not, IsTrue, ◌⊎◌, List, ◌++◌, ◌∷◌, length, Option, Some, slice_get, option_map, count_by, All}
 use Rattle.std.specs.List.{AllByRecursion as Each}
 use Rattle.sp_netlist.specs.Cells.{PlainCell, load_unit}
 use Rattle.sp_netlist.specs.Rules.{IsRight, IsWidth, IsRanked, Feeds, is_computed, is_done, drives, reads, driven_nets, read_nets}
@@ -21,10 +21,6 @@ IsKept d net = option_map (λ p. p.1) (slice_get d.promised net) ≡ Some true
 -- how often the cells drive a net
 abbrev pub driver_count : List PlainCell → ℕ → ℕ
 driver_count cells net = count_by (λ p. p.0 == net) (driven_nets cells)
-
--- the new cells drive each net so much more often as it stands in this list
-pub record DrivesMore (old new : List PlainCell) (nets : List (ℕ × ℕ)) : Type 0 where
-  pub counts : (net : ℕ) → driver_count new net ≡ driver_count old net + count_by (λ p. p.0 == net) nets
 
 -- the word of the net stands before any cell that is added next: it is kept, or driven already
 abbrev pub IsReady : Draft → ℕ → Type 0

@@ -1,8 +1,8 @@
 //! A builder of netlists in which no loop can stand.
 ghost use Rattle.std.specs.Prelude.{◌≡◌, ◌++◌, ◌∷◌, [], length, IfOk, OnOk, OnErr};
-ghost use Rattle.sp_netlist.specs.Rules.{IsWidth, drives};
+ghost use Rattle.sp_netlist.specs.Rules.{IsWidth};
 ghost use Rattle.sp_netlist.specs.Cells.{plain_cell};
-ghost use Rattle.sp_netlist.specs.Draft.{CanAdd, DrivesMore, IsComplete, IsDraft};
+ghost use Rattle.sp_netlist.specs.Draft.{CanAdd, IsComplete, IsDraft};
 
 use crate::cell::{Cell, NetId};
 use crate::netlist::Netlist;
@@ -68,7 +68,6 @@ impl Builder {
     pub fn add(&mut self, cell: Cell) -> Result<(), NoMemory>
         requires { CanAdd self.old (plain_cell cell) }
         ensures added { OnOk result (self.new.cells ≡ self.old.cells ++ plain_cell cell ∷ []) }
-        ensures drivers { OnOk result (DrivesMore self.old.cells self.new.cells (drives self.old.cells (plain_cell cell))) }
         ensures same_nets { self.new.promised ≡ self.old.promised }
         ensures draft { IsDraft self.new }
         ensures unchanged { OnErr result (self.new ≡ self.old) }

@@ -1,9 +1,8 @@
-use Rattle.std.proofs.Common.{subst, sym, List, [], ◌∷◌, ◌++◌}
+use Rattle.std.proofs.Common.{subst, sym}
 use Rattle.std.proofs.lemmas.List.{map_push}
-use Rattle.sp_netlist.specs.Cells.{plain_cell, plain_cells}
-use Rattle.sp_netlist.specs.Rules.{drives}
-use Rattle.sp_netlist.specs.Draft.{Draft, CanAdd, DrivesMore}
-use Rattle.sp_netlist.proofs.DraftLemmas.{IsDraft-add, DrivesMore-add}
+use Rattle.sp_netlist.specs.Cells.{plain_cell}
+use Rattle.sp_netlist.specs.Draft.{CanAdd}
+use Rattle.sp_netlist.proofs.DraftLemmas.{IsDraft-add}
 use Rattle.sp_netlist.proofs.builder.Builder.add.Goals as goal
 
 pub invariant_of-self-2 : goal.invariant_of-self-2
@@ -15,9 +14,3 @@ pub returns-clause-draft : goal.returns-clause-draft
 returns-clause-draft c =
     let can = subst (λ d. CanAdd d (plain_cell c.args.cell)) (sym c.self.view_is) c.requires in
     rw (c.in_ok-push.ensures.items, map_push) (IsDraft-add _ _ c.self.invariant can)
-
-pub returns-clause-drivers : goal.returns-clause-drivers
-returns-clause-drivers c =
-    let can = subst (λ d. CanAdd d (plain_cell c.args.cell)) (sym c.self.view_is) c.requires in
-    let new = plain_cells c.self.inside.cells.items ++ plain_cell c.args.cell ∷ [] in
-    rw (c.in_ok-push.ensures.items, map_push) (subst (λ (d : Draft). DrivesMore d.cells new (drives d.cells (plain_cell c.args.cell))) c.self.view_is (DrivesMore-add _ _ c.self.invariant can))
