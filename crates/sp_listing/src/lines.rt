@@ -5,7 +5,7 @@ ghost use Rattle.sp_listing.specs.Text.{cell_line, listing_text};
 
 use crate::NoMemory;
 use crate::words::{Dimensions, OpWord, ShiftWord, TypeCode};
-use sp_netlist::Cell;
+use sp_netlist::{Cell, Netlist};
 use std::alloc::Global;
 use std::fmt::Write;
 
@@ -69,8 +69,18 @@ fn push_line(text: &mut String, cell: &Cell) -> Result<(), NoMemory>
     }
 }
 
-// The listing of these cells.
-fn listing_of(alloc: Global, cells: &[Cell]) -> Result<String, NoMemory>
+/// The line of a cell by itself.
+#[cfg(test)]
+pub fn line_of(alloc: Global, cell: &Cell) -> Result<String, NoMemory>
+    ensures { IfOk result (λ line. string_bytes line ≡ cell_line (plain_cell cell.now)) }
+{
+    let mut line = String::new(alloc);
+    push_line(&mut line, cell)?;
+    Ok(line)
+}
+
+/// The listing of these cells.
+pub fn listing_of(alloc: Global, cells: &[Cell]) -> Result<String, NoMemory>
     ensures { IfOk result (λ text. string_bytes text ≡ listing_text (plain_cells cells.now)) }
 {
     let mut text = String::from_str(alloc, "netlist 1\n")?;
@@ -78,4 +88,12 @@ fn listing_of(alloc: Global, cells: &[Cell]) -> Result<String, NoMemory>
         push_line(&mut text, cell)?;
     }
     Ok(text)
+}
+
+/// The listing of a netlist: a first line that names the format, then one line a cell, in the netlist's
+/// order. `docs/listing.md` has the lines.
+pub fn write(alloc: Global, netlist: &Netlist) -> Result<String, NoMemory>
+    ensures { IfOk result (λ text. string_bytes text ≡ listing_text netlist.now) }
+{
+    listing_of(alloc, netlist.cells())
 }
