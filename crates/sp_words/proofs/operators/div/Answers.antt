@@ -1,12 +1,11 @@
-use Rattle.std.proofs.Common.{subst, sym}
-use Rattle.sp_words.specs.Words.{IsWord}
-use Rattle.sp_words.proofs.LawLemmas.{div-GivesWords}
-use Rattle.std.proofs.lemmas.Nat.{pow_pos}
-use Rattle.sp_words.specs.Types.{width_of}
-use Rattle.std.proofs.Common.{◌≡◌, ◌∙◌, sym, arith}
+use Rattle.std.proofs.Common.{subst, sym, ◌≡◌, ◌∙◌, arith}
 use Rattle.std.specs.Prelude.{pos}
 use Rattle.std.specs.Int.{w128, cast_signed, cast_unsigned}
+use Rattle.std.proofs.lemmas.Nat.{pow_pos}
 use Rattle.std.proofs.lemmas.Int.{ints}
+use Rattle.sp_words.specs.Words.{IsWord}
+use Rattle.sp_words.specs.Types.{width_of}
+use Rattle.sp_words.proofs.LawLemmas.{div-GivesWords}
 use Rattle.sp_words.proofs.OperatorLemmas.{div-zero_is, div_is}
 use Rattle.sp_words.proofs.operators.div.Goals as goal
 

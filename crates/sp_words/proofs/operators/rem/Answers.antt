@@ -1,10 +1,9 @@
-use Rattle.std.proofs.Common.{subst, sym}
-use Rattle.sp_words.specs.Words.{IsWord}
-use Rattle.sp_words.proofs.LawLemmas.{rem-GivesWords}
-use Rattle.std.proofs.Common.{◌≡◌, ◌∙◌, sym, arith}
+use Rattle.std.proofs.Common.{subst, sym, ◌≡◌, ◌∙◌, arith}
 use Rattle.std.specs.Prelude.{pos}
 use Rattle.std.specs.Int.{w128, cast_signed, cast_unsigned}
 use Rattle.std.proofs.lemmas.Int.{ints}
+use Rattle.sp_words.specs.Words.{IsWord}
+use Rattle.sp_words.proofs.LawLemmas.{rem-GivesWords}
 use Rattle.sp_words.proofs.OperatorLemmas.{rem-zero_is, rem_is}
 use Rattle.sp_words.proofs.operators.rem.Goals as goal
 

@@ -1,8 +1,7 @@
-use Rattle.std.proofs.Common.{subst, sym}
+use Rattle.std.proofs.Common.{subst, sym, ◌∙◌, ap, ◌*◌, ◌%◌, ◌^◌}
 use Rattle.sp_words.specs.Words.{IsWord}
-use Rattle.sp_words.proofs.LawLemmas.{shl-lt}
-use Rattle.std.proofs.Common.{◌∙◌, ap, ◌*◌, ◌%◌, ◌^◌}
 use Rattle.sp_words.specs.Types.{width_of}
+use Rattle.sp_words.proofs.LawLemmas.{shl-lt}
 use Rattle.sp_words.proofs.OperatorLemmas.{shl_is}
 use Rattle.sp_words.proofs.operators.shl.Goals as goal
 

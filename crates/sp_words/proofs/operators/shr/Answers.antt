@@ -1,7 +1,6 @@
-use Rattle.std.proofs.Common.{subst, sym}
+use Rattle.std.proofs.Common.{subst, sym, ◌∙◌}
 use Rattle.sp_words.specs.Words.{IsWord}
 use Rattle.sp_words.proofs.LawLemmas.{shr-lt}
-use Rattle.std.proofs.Common.{◌∙◌}
 use Rattle.sp_words.proofs.OperatorLemmas.{shr_is}
 use Rattle.sp_words.proofs.operators.shr.Goals as goal
 
