@@ -2,12 +2,12 @@
 use Rattle.std.proofs.Common.{◌≢◌, ◌≡◌, ℕ, zero, suc, ◌+◌, ◌-◌, ◌*◌, ◌/◌, ◌%◌, ◌^◌, ◌<◌, ◌≤◌, Bool, true, false, cond, refl, sym, ◌∙◌, ap, arith}
 use Rattle.std.specs.Prelude.{nat_le, ◌&&◌, ◌≤ℤ◌, ◌<ℤ◌, ℤ, pos, negsuc, neg_ℤ, ◌+ℤ◌, ◌-ℤ◌, ◌*ℤ◌, bit_or, int_lt, unsigned_abs}
 use Rattle.std.specs.Bool.{MatchBool}
+use Rattle.std.specs.Int.{bit_at}
+use Rattle.std.specs.Int.Bits.{xor_assoc}
 use Rattle.std.proofs.lemmas.Int.{ints, quot-rem, rem_below}
 use Rattle.std.proofs.lemmas.Bool.Decides.{nat_tests}
 use Rattle.std.proofs.lemmas.Nat.{pow-add, and_le_l, or_lt, xor_lt, and_comm, or_comm, xor_comm, and_assoc, pow_pos, mod_below, mul-mod_first, mul-mod_second}
 use Rattle.std.proofs.lemmas.Nat.Bits.{bit_at_or, same_from_bits}
-use Rattle.std.specs.Int.{bit_at}
-use Rattle.std.specs.Int.Bits.{xor_assoc}
 use Rattle.std.proofs.Math.IntN.{*ℤ_comm}
 use Rattle.std.proofs.Math.Nat.{mod-add-mod, add-mod-mod, add_comm, add_assoc, mul_assoc, lt_of_le_of_lt, mod-eq_of_lt, div-one, div-add-mod'}
 use Rattle.sp_words.specs.declared.types.Ty.{Ty}

@@ -6,13 +6,13 @@ use Rattle.std.proofs.lemmas.Int.{ints}
 use Rattle.std.proofs.lemmas.Nat.{shl_below, one_shl, and_mask, pow-add, pow_pos}
 use Rattle.std.proofs.lemmas.Nat.Bits.{ones_shr}
 use Rattle.std.proofs.Math.Nat.{lt_of_lt_of_le, zero-mod, div-add-mod', le_of_lt, pow-le-pow_right, mod-mod_of_dvd, dvd-mul_left, mod-eq_of_lt, add-mul-mod_self_right}
+use Rattle.std.proofs.Math.Bool.{beq}
+use borrow.Author.Differences.{up, down}
 use Rattle.sp_words.specs.declared.types.Ty.{Ty}
 use Rattle.sp_words.specs.declared.types.Ty.TheVariants.{Fix, Bit}
 use Rattle.sp_words.specs.Types.{signed_of, frac_of, width_of}
 use Rattle.sp_words.specs.WholeNumbers.{modulo, quotient, remainder, with_sign}
 use Rattle.sp_words.specs.Words.{IsWord, has_sign, value_of, wrap, word_add, word_sub, word_mul, word_div, word_rem, word_shl, word_shr, word_cast, word_not}
-use Rattle.std.proofs.Math.Bool.{beq}
-use borrow.Author.Differences.{up, down}
 use Rattle.sp_words.proofs.SignLemmas.{quotient_scaled, remainder_signs}
 use Rattle.sp_words.proofs.Residues.{modulo-mul-pos, modulo_is, modulo-add, modulo-sub, modulo-mul, floor_from_low}
 

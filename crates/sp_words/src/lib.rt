@@ -4,6 +4,8 @@
 mod interface;
 mod laws;
 mod operators;
+#[cfg(test)]
+mod tests;
 mod types;
 mod words;
 

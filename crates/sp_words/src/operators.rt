@@ -8,7 +8,8 @@ use crate::words::{extended, low_bits, mask, value, word_of};
 pub fn add(ty: Ty, a: u64, b: u64) -> u64
     requires left { IsWord ty a }
     requires right { IsWord ty b }
-    ensures { result ≡ word_add ty a b }
+    ensures value { result ≡ word_add ty a b }
+    ensures is_word { IsWord ty result }
 {
     a.wrapping_add(b) & mask(ty)
 }
@@ -17,7 +18,8 @@ pub fn add(ty: Ty, a: u64, b: u64) -> u64
 pub fn sub(ty: Ty, a: u64, b: u64) -> u64
     requires left { IsWord ty a }
     requires right { IsWord ty b }
-    ensures { result ≡ word_sub ty a b }
+    ensures value { result ≡ word_sub ty a b }
+    ensures is_word { IsWord ty result }
 {
     a.wrapping_sub(b) & mask(ty)
 }
@@ -26,7 +28,8 @@ pub fn sub(ty: Ty, a: u64, b: u64) -> u64
 pub fn mul(ty: Ty, a: u64, b: u64) -> u64
     requires left { IsWord ty a }
     requires right { IsWord ty b }
-    ensures { result ≡ word_mul ty a b }
+    ensures value { result ≡ word_mul ty a b }
+    ensures is_word { IsWord ty result }
 {
     low_bits(
         ty,
@@ -38,7 +41,8 @@ pub fn mul(ty: Ty, a: u64, b: u64) -> u64
 pub fn div(ty: Ty, a: u64, b: u64) -> u64
     requires left { IsWord ty a }
     requires right { IsWord ty b }
-    ensures { result ≡ word_div ty a b }
+    ensures value { result ≡ word_div ty a b }
+    ensures is_word { IsWord ty result }
 {
     let (dividend, divisor) = (value(ty, a), value(ty, b));
     if divisor == 0 {
@@ -52,7 +56,8 @@ pub fn div(ty: Ty, a: u64, b: u64) -> u64
 pub fn rem(ty: Ty, a: u64, b: u64) -> u64
     requires left { IsWord ty a }
     requires right { IsWord ty b }
-    ensures { result ≡ word_rem ty a b }
+    ensures value { result ≡ word_rem ty a b }
+    ensures is_word { IsWord ty result }
 {
     let (dividend, divisor) = (value(ty, a), value(ty, b));
     if divisor == 0 {
@@ -67,7 +72,8 @@ pub fn rem(ty: Ty, a: u64, b: u64) -> u64
 pub fn and(ty: Ty, a: u64, b: u64) -> u64
     requires left { IsWord ty a }
     requires right { IsWord ty b }
-    ensures { result ≡ word_and ty a b }
+    ensures value { result ≡ word_and ty a b }
+    ensures is_word { IsWord ty result }
 {
     a & b
 }
@@ -77,7 +83,8 @@ pub fn and(ty: Ty, a: u64, b: u64) -> u64
 pub fn or(ty: Ty, a: u64, b: u64) -> u64
     requires left { IsWord ty a }
     requires right { IsWord ty b }
-    ensures { result ≡ word_or ty a b }
+    ensures value { result ≡ word_or ty a b }
+    ensures is_word { IsWord ty result }
 {
     a | b
 }
@@ -87,7 +94,8 @@ pub fn or(ty: Ty, a: u64, b: u64) -> u64
 pub fn xor(ty: Ty, a: u64, b: u64) -> u64
     requires left { IsWord ty a }
     requires right { IsWord ty b }
-    ensures { result ≡ word_xor ty a b }
+    ensures value { result ≡ word_xor ty a b }
+    ensures is_word { IsWord ty result }
 {
     a ^ b
 }
@@ -97,7 +105,8 @@ pub fn xor(ty: Ty, a: u64, b: u64) -> u64
 pub fn min(ty: Ty, a: u64, b: u64) -> u64
     requires left { IsWord ty a }
     requires right { IsWord ty b }
-    ensures { result ≡ word_min ty a b }
+    ensures value { result ≡ word_min ty a b }
+    ensures is_word { IsWord ty result }
 {
     if lt(ty, b, a) { b } else { a }
 }
@@ -107,7 +116,8 @@ pub fn min(ty: Ty, a: u64, b: u64) -> u64
 pub fn max(ty: Ty, a: u64, b: u64) -> u64
     requires left { IsWord ty a }
     requires right { IsWord ty b }
-    ensures { result ≡ word_max ty a b }
+    ensures value { result ≡ word_max ty a b }
+    ensures is_word { IsWord ty result }
 {
     if lt(ty, a, b) { b } else { a }
 }
@@ -116,7 +126,8 @@ pub fn max(ty: Ty, a: u64, b: u64) -> u64
 pub fn shl(ty: Ty, a: u64, by: u8) -> u64
     requires operand { IsWord ty a }
     requires distance { by < 64 }
-    ensures { result ≡ word_shl ty a by }
+    ensures value { result ≡ word_shl ty a by }
+    ensures is_word { IsWord ty result }
 {
     low_bits(ty, u128::from(a) << by)
 }
@@ -125,7 +136,8 @@ pub fn shl(ty: Ty, a: u64, by: u8) -> u64
 pub fn shr(ty: Ty, a: u64, by: u8) -> u64
     requires operand { IsWord ty a }
     requires distance { by < 64 }
-    ensures { result ≡ word_shr ty a by }
+    ensures value { result ≡ word_shr ty a by }
+    ensures is_word { IsWord ty result }
 {
     low_bits(ty, extended(ty, a) >> by)
 }
@@ -134,7 +146,8 @@ pub fn shr(ty: Ty, a: u64, by: u8) -> u64
 #[tactic(auto, unfolding(crate::specs::Words::word_not))]
 pub fn not(ty: Ty, a: u64) -> u64
     requires { IsWord ty a }
-    ensures { result ≡ word_not ty a }
+    ensures value { result ≡ word_not ty a }
+    ensures is_word { IsWord ty result }
 {
     !a & mask(ty)
 }
@@ -162,7 +175,8 @@ pub fn eq(ty: Ty, a: u64, b: u64) -> bool
 /// The number that `a` means at the type `from`, as a word of the type `to`: rounded down, then wrapped.
 pub fn cast(from: Ty, to: Ty, a: u64) -> u64
     requires { IsWord from a }
-    ensures { result ≡ word_cast from to a }
+    ensures value { result ≡ word_cast from to a }
+    ensures is_word { IsWord to result }
 {
     low_bits(to, (extended(from, a) << to.frac()) >> from.frac())
 }
