@@ -2,7 +2,7 @@
 use Rattle.std.proofs.Common.{◌≡◌, ℕ, zero, suc, ◌+◌, ◌<◌, ◌≤◌, ◌^◌, ◌==◌, Bool, true, false, not, cond, IsTrue, List, [], ◌∷◌, ◌++◌, length, map, flat_map, count_by, sum_by, All, Contains, Some, slice_get, option_map, ◌⊎◌, inl, inr, refl, sym, ap, ap₂, subst, ◌∙◌, arith, ltb, lt-ltb, eq-eqb, ne_eqb, length-append, true≢false}
 use Rattle.std.specs.List.{AllByRecursion as Each}
 use Rattle.std.proofs.lemmas.Bool.{cases_Bool, cases_eq}
-use Rattle.std.proofs.lemmas.List.Elements.{All-from_recursion, All-contains, All-map, All-append, All-nil, All-push, All-weaker, recursion_from_All, Contains-push_cases}
+use Rattle.std.proofs.lemmas.List.Elements.{All-from_recursion, All-contains, All-map, All-append, All-nil, All-push, All-weaker, recursion_from_All, All-contains_itself, Contains-push_cases}
 use Rattle.std.proofs.lemmas.List.Sums.{sum_by-append, sum_by-cons, get_or-le-sum_by}
 use Rattle.std.proofs.lemmas.List.Concat.{flat_map-append}
 use Rattle.sp_netlist.specs.Cells.{PlainCell, in_cell, out_cell, done_cell, const_cell, op_cell, not_cell, shift_cell, cast_cell, mux_cell, reg_cell, bank_cell, read_tap, write_tap, dram_cell, load_unit, store_unit}
@@ -348,3 +348,15 @@ Keeps-add d c h can =
 
 pub driver_count-add : (d : Draft) (c : PlainCell) (net : ℕ) → IsDraft d → CanAdd d c → driver_count (d.cells ++ c ∷ []) net ≡ driver_count d.cells net + net_count (drives d.cells c) net
 driver_count-add d c net h can = driver_count-push d.cells c net (record { each = h.right }) can.right
+
+-- what a cell drives is driven once it is added
+pub driven-add : (d : Draft) (c : PlainCell) → IsDraft d → CanAdd d c → Each (λ p. driver_count (d.cells ++ c ∷ []) p.0 ≡ 1) (drives d.cells c)
+driven-add d c h can =
+    recursion_from_All (λ p. driver_count (d.cells ++ c ∷ []) p.0 ≡ 1) (drives d.cells c)
+      (All-weaker (Contains (drives d.cells c)) (λ p. driver_count (d.cells ++ c ∷ []) p.0 ≡ 1)
+        (λ p within.
+          let some = counted (λ (q : ℕ × ℕ). q.0 == p.0) (drives d.cells c) p within (eq-eqb p.0 p.0 refl) in
+          let grown = driver_count-add d c p.0 h can in
+          let once = driven_once-push d c h (record { each = h.right }) can p.0 in
+          omega (arith, some, grown, once))
+        (drives d.cells c) (All-contains_itself (drives d.cells c)))

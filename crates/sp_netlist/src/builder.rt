@@ -1,5 +1,6 @@
 //! A builder of netlists in which no loop can stand.
 ghost use Rattle.std.specs.Prelude.{◌≡◌, ℕ, ◌+◌, ◌++◌, ◌∷◌, [], length, slice_get, IfOk, OnOk, OnErr};
+ghost use Rattle.std.specs.List.{AllByRecursion as Each};
 ghost use Rattle.sp_netlist.specs.Rules.{IsWidth, drives};
 ghost use Rattle.sp_netlist.specs.Cells.{plain_cell};
 ghost use Rattle.sp_netlist.specs.Draft.{CanAdd, Declares, IsComplete, IsDraft, Keeps, driver_count, net_count};
@@ -72,6 +73,7 @@ impl Builder {
         requires { CanAdd self.old (plain_cell cell) }
         ensures added { OnOk result (self.new.cells ≡ self.old.cells ++ plain_cell cell ∷ []) }
         ensures declared { OnOk result (Declares self.new.cells (plain_cell cell)) }
+        ensures driven { OnOk result (Each (λ p. driver_count self.new.cells p.0 ≡ 1) (drives self.old.cells (plain_cell cell))) }
         ensures drivers { OnOk result ((net : ℕ) → driver_count self.new.cells net ≡ driver_count self.old.cells net + net_count (drives self.old.cells (plain_cell cell)) net) }
         ensures keeps { Keeps self.old self.new }
         ensures same_nets { self.new.promised ≡ self.old.promised }

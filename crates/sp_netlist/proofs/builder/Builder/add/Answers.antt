@@ -3,7 +3,7 @@ use Rattle.std.proofs.lemmas.List.{map_push}
 use Rattle.sp_netlist.specs.Cells.{plain_cell, plain_cells}
 use Rattle.sp_netlist.specs.Draft.{CanAdd, IsDraft, Keeps, driver_count}
 use Rattle.sp_netlist.proofs.LookUps.{Declares-new}
-use Rattle.sp_netlist.proofs.DraftLemmas.{IsDraft-add, Keeps-add, Keeps-refl, driver_count-add}
+use Rattle.sp_netlist.proofs.DraftLemmas.{IsDraft-add, driven-add, Keeps-add, Keeps-refl, driver_count-add}
 use Rattle.sp_netlist.proofs.builder.Builder.add.Goals as goal
 
 pub returns-clause-declared : goal.returns-clause-declared
@@ -30,3 +30,7 @@ returns-clause-keeps c =
 
 pub returns-in_err-push-clause-keeps : goal.returns-in_err-push-clause-keeps
 returns-in_err-push-clause-keeps c = rw (c.in_err-push.ensures.items, ← c.self.view_is) (Keeps-refl _)
+
+pub returns-clause-driven : goal.returns-clause-driven
+returns-clause-driven c =
+    rw (c.in_ok-push.ensures.items, map_push, ← c.self.view_is) (driven-add _ _ c.self.invariant (subst (λ d. CanAdd d (plain_cell c.args.cell)) (sym c.self.view_is) c.requires))
