@@ -360,3 +360,12 @@ driven-add d c h can =
           let once = driven_once-push d c h (record { each = h.right }) can p.0 in
           omega (arith, some, grown, once))
         (drives d.cells c) (All-contains_itself (drives d.cells c)))
+
+-- a net that isn't driven and that the cell doesn't drive isn't driven once it is added
+pub not_driven-add : (d : Draft) (c : PlainCell) (net : ℕ) → IsDraft d → CanAdd d c → driver_count d.cells net ≡ 0 → Each (λ p. p.0 ≡ net → ⊥) (drives d.cells c) → driver_count (d.cells ++ c ∷ []) net ≡ 0
+not_driven-add d c net h can none others =
+    let grown = driver_count-add d c net h can in
+    elim (none_or (λ n. n ≡ net → ⊥) (drives d.cells c) net others) [
+      inl e ↦ omega (arith, grown, none, e)
+      | inr other ↦ absurd (other refl)
+    ]

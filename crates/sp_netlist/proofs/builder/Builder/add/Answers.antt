@@ -3,7 +3,7 @@ use Rattle.std.proofs.lemmas.List.{map_push}
 use Rattle.sp_netlist.specs.Cells.{plain_cell, plain_cells}
 use Rattle.sp_netlist.specs.Draft.{CanAdd, IsDraft, Keeps, driver_count}
 use Rattle.sp_netlist.proofs.LookUps.{Declares-new}
-use Rattle.sp_netlist.proofs.DraftLemmas.{IsDraft-add, driven-add, Keeps-add, Keeps-refl, driver_count-add}
+use Rattle.sp_netlist.proofs.DraftLemmas.{IsDraft-add, driven-add, not_driven-add, Keeps-add, Keeps-refl, driver_count-add}
 use Rattle.sp_netlist.proofs.builder.Builder.add.Goals as goal
 
 pub returns-clause-declared : goal.returns-clause-declared
@@ -34,3 +34,7 @@ returns-in_err-push-clause-keeps c = rw (c.in_err-push.ensures.items, ← c.self
 pub returns-clause-driven : goal.returns-clause-driven
 returns-clause-driven c =
     rw (c.in_ok-push.ensures.items, map_push, ← c.self.view_is) (driven-add _ _ c.self.invariant (subst (λ d. CanAdd d (plain_cell c.args.cell)) (sym c.self.view_is) c.requires))
+
+pub returns-clause-not_driven : goal.returns-clause-not_driven
+returns-clause-not_driven c =
+    rw (c.in_ok-push.ensures.items, map_push, ← c.self.view_is) (λ net. not_driven-add _ _ net c.self.invariant (subst (λ d. CanAdd d (plain_cell c.args.cell)) (sym c.self.view_is) c.requires))
