@@ -298,9 +298,9 @@ IsNetlist-complete d h complete short = record {
 pub driver_count-beyond : (d : Draft) (net : ℕ) → IsDraft d → length d.promised ≤ net → driver_count d.cells net ≡ 0
 driver_count-beyond d net h beyond =
     elim (none_or (λ n. n < length d.promised) (driven_nets d.cells) net
-      (recursion_from_All (λ p. p.0 < length d.promised) (driven_nets d.cells)
-        (All-weaker (λ p. promised_width d p.0 ≡ Some p.1) (λ p. p.0 < length d.promised) (λ p e. found_within (λ n. n.0) d.promised p.0 p.1 e) (driven_nets d.cells) h.driven_promised))) [
-      inl none ↦ none
+    (recursion_from_All (λ p. p.0 < length d.promised) (driven_nets d.cells)
+    (All-weaker (λ p. promised_width d p.0 ≡ Some p.1) (λ p. p.0 < length d.promised) (λ p e. found_within (λ n. n.0) d.promised p.0 p.1 e) (driven_nets d.cells) h.driven_promised))) [
+      | inl none ↦ none
       | inr within ↦ absurd (omega (arith, beyond, within))
     ]
 
@@ -353,19 +353,19 @@ driver_count-add d c net h can = driver_count-push d.cells c net (record { each 
 pub driven-add : (d : Draft) (c : PlainCell) → IsDraft d → CanAdd d c → Each (λ p. driver_count (d.cells ++ c ∷ []) p.0 ≡ 1) (drives d.cells c)
 driven-add d c h can =
     recursion_from_All (λ p. driver_count (d.cells ++ c ∷ []) p.0 ≡ 1) (drives d.cells c)
-      (All-weaker (Contains (drives d.cells c)) (λ p. driver_count (d.cells ++ c ∷ []) p.0 ≡ 1)
-        (λ p within.
-          let some = counted (λ (q : ℕ × ℕ). q.0 == p.0) (drives d.cells c) p within (eq-eqb p.0 p.0 refl) in
-          let grown = driver_count-add d c p.0 h can in
-          let once = driven_once-push d c h (record { each = h.right }) can p.0 in
-          omega (arith, some, grown, once))
-        (drives d.cells c) (All-contains_itself (drives d.cells c)))
+    (All-weaker (Contains (drives d.cells c)) (λ p. driver_count (d.cells ++ c ∷ []) p.0 ≡ 1)
+    (λ p within.
+    let some = counted (λ (q : ℕ × ℕ). q.0 == p.0) (drives d.cells c) p within (eq-eqb p.0 p.0 refl) in
+    let grown = driver_count-add d c p.0 h can in
+    let once = driven_once-push d c h (record { each = h.right }) can p.0 in
+    omega (arith, some, grown, once))
+    (drives d.cells c) (All-contains_itself (drives d.cells c)))
 
 -- a net that isn't driven and that the cell doesn't drive isn't driven once it is added
 pub not_driven-add : (d : Draft) (c : PlainCell) (net : ℕ) → IsDraft d → CanAdd d c → driver_count d.cells net ≡ 0 → Each (λ p. p.0 ≡ net → ⊥) (drives d.cells c) → driver_count (d.cells ++ c ∷ []) net ≡ 0
 not_driven-add d c net h can none others =
     let grown = driver_count-add d c net h can in
     elim (none_or (λ n. n ≡ net → ⊥) (drives d.cells c) net others) [
-      inl e ↦ omega (arith, grown, none, e)
+      | inl e ↦ omega (arith, grown, none, e)
       | inr other ↦ absurd (other refl)
     ]

@@ -221,7 +221,7 @@ Declares-new cells (reg_cell net width first next enable) all h = tt
 pub Declares-push : (cells : List PlainCell) (c : PlainCell) → ((x : PlainCell) → Contains cells x → Declares cells x) → IsRight cells cells c → (x : PlainCell) → Contains (cells ++ c ∷ []) x → Declares (cells ++ c ∷ []) x
 Declares-push cells c all h x within =
     elim (Contains-push_cases cells c x within) [
-      inl old ↦ Declares-kept cells c x h (all x old)
+      | inl old ↦ Declares-kept cells c x h (all x old)
       | inr same ↦ subst (Declares (cells ++ c ∷ [])) same (Declares-new cells c all h)
     ]
 

@@ -1,7 +1,7 @@
-use Rattle.std.proofs.Common.{subst, sym, ap, ◌∙◌}
+use Rattle.std.proofs.Common.{subst, sym}
 use Rattle.std.proofs.lemmas.List.{map_push}
-use Rattle.sp_netlist.specs.Cells.{plain_cell, plain_cells}
-use Rattle.sp_netlist.specs.Draft.{CanAdd, IsDraft, Keeps, driver_count}
+use Rattle.sp_netlist.specs.Cells.{plain_cell}
+use Rattle.sp_netlist.specs.Draft.{CanAdd}
 use Rattle.sp_netlist.proofs.LookUps.{Declares-new}
 use Rattle.sp_netlist.proofs.DraftLemmas.{IsDraft-add, driven-add, not_driven-add, Keeps-add, Keeps-refl, driver_count-add}
 use Rattle.sp_netlist.proofs.builder.Builder.add.Goals as goal

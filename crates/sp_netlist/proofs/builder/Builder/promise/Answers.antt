@@ -1,4 +1,4 @@
-use Rattle.std.proofs.Common.{◌≡◌, ◌≤◌, length, arith}
+use Rattle.std.proofs.Common.{arith}
 use Rattle.std.proofs.lemmas.List.{map_push, length-map}
 use Rattle.sp_netlist.proofs.Lists.{slice_get_mapped}
 use Rattle.sp_netlist.proofs.DraftLemmas.{IsDraft-promise, Keeps-promise, Keeps-refl, driver_count-beyond}
