@@ -5,3 +5,9 @@ pub mod SomeRun
 pub mod SameRun
 pub mod OneRun
 pub mod Endings
+pub mod Collect
+pub mod Evaluate
+pub mod Evaluated
+pub mod Check
+pub mod Ended
+pub mod Examples

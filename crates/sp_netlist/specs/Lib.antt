@@ -3,3 +3,4 @@ pub mod Rules
 pub mod Signals
 pub mod Cycle
 pub mod Laws
+pub mod Examples

@@ -1,6 +1,7 @@
 //! Laws of netlists.
 
 ghost use Rattle.sp_netlist.specs.Laws.{HasOneRun, HasOneEnding, EndingKept, NoLoop};
+ghost use Rattle.sp_netlist.specs.Examples.{ExampleEndings};
 
 /// Every netlist has exactly one run for each list of arguments, contents of its DRAMs and list of
 /// delays: words are compared on the nets that are driven and on what is kept.
@@ -23,4 +24,10 @@ pub fn ending_kept()
 /// In a netlist no chain of `op`, `not`, `shift`, `cast` and `mux` cells leads from a net back to it.
 pub fn no_loop()
     ensures { NoLoop }
+{}
+
+/// How three small netlists end, worked out by hand: a sum that is done in cycle 1, two reads of one
+/// bank that clash there, and a load of twenty words under three lists of delays.
+pub fn example_endings()
+    ensures { ExampleEndings }
 {}
