@@ -11,3 +11,7 @@ pub mod Evaluated
 pub mod Check
 pub mod Ended
 pub mod Examples
+pub mod Apart
+pub mod Parts
+pub mod Determined
+pub mod PartLaws

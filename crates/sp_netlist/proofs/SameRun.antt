@@ -14,14 +14,14 @@ pub step_same : (a b x y v w : ℕ) → a ≡ b → x ≡ y → v ≡ w → (if 
 step_same a b x y v w e f k = cc
 
 -- which net stands in a list of one or two
-only_net : (n w net width : ℕ) → Contains {X = ℕ × ℕ} ((n, w) ∷ []) (net, width) → n ≡ net
+pub only_net : (n w net width : ℕ) → Contains {X = ℕ × ℕ} ((n, w) ∷ []) (net, width) → n ≡ net
 only_net n w net width h = at h.0 h.1 h.2
   where
     at : (k : ℕ) → k < length {A = ℕ × ℕ} ((n, w) ∷ []) → get_or {A = ℕ × ℕ} ((n, w) ∷ []) k (net, width) ≡ (net, width) → n ≡ net
     at zero l e = ap (λ (p : ℕ × ℕ). p.0) e
     at (suc k) l e = absurd (omega arith)
 
-one_of_two : (n w m v net width : ℕ) → Contains {X = ℕ × ℕ} ((n, w) ∷ (m, v) ∷ []) (net, width) → (n ≡ net) ⊎ (m ≡ net)
+pub one_of_two : (n w m v net width : ℕ) → Contains {X = ℕ × ℕ} ((n, w) ∷ (m, v) ∷ []) (net, width) → (n ≡ net) ⊎ (m ≡ net)
 one_of_two n w m v net width h = at h.0 h.1 h.2
   where
     at : (k : ℕ) → k < length {A = ℕ × ℕ} ((n, w) ∷ (m, v) ∷ []) → get_or {A = ℕ × ℕ} ((n, w) ∷ (m, v) ∷ []) k (net, width) ≡ (net, width) → (n ≡ net) ⊎ (m ≡ net)

@@ -4,3 +4,4 @@ pub mod Signals
 pub mod Cycle
 pub mod Laws
 pub mod Examples
+pub mod Parts

@@ -1,6 +1,7 @@
 //! Laws of netlists.
 
 ghost use Rattle.sp_netlist.specs.Laws.{HasOneRun, HasOneEnding, EndingKept, NoLoop};
+ghost use Rattle.sp_netlist.specs.Parts.{Locality};
 ghost use Rattle.sp_netlist.specs.Examples.{ExampleEndings};
 
 /// Every netlist has exactly one run for each list of arguments, contents of its DRAMs and list of
@@ -30,4 +31,9 @@ pub fn no_loop()
 /// bank that clash there, and a load of twenty words under three lists of delays.
 pub fn example_endings()
     ensures { ExampleEndings }
+{}
+
+/// What some of a netlist's cells do, whatever else stands beside them.
+pub fn locality()
+    ensures { Locality }
 {}
