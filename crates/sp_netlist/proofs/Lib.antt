@@ -15,3 +15,4 @@ pub mod Apart
 pub mod Parts
 pub mod Determined
 pub mod PartLaws
+pub mod SmallParts

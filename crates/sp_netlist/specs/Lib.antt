@@ -5,3 +5,4 @@ pub mod Cycle
 pub mod Laws
 pub mod Examples
 pub mod Parts
+pub mod PartExamples

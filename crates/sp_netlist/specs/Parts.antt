@@ -1,5 +1,5 @@
 -- A part of a netlist, and what it does whatever else stands beside it.
-use Rattle.std.specs.Prelude.{◌≡◌, ℕ, List, ◌∷◌, ◌++◌, Bool, false, ◌==◌, IsTrue, IsFalse, All, Contains, map, slice_index, count_by, ◌⊎◌}
+use Rattle.std.specs.Prelude.{◌≡◌, ℕ, ◌<◌, ◌≤◌, List, ◌∷◌, ◌++◌, Bool, false, ◌==◌, IsTrue, IsFalse, All, Contains, map, slice_index, count_by, ◌⊎◌}
 use Rattle.std.specs.List.{list_any}
 use Rattle.sp_netlist.specs.declared.cell.Port.{Port}
 use Rattle.sp_netlist.specs.Cells.{PlainCell, bank_cell, read_tap, write_tap, dram_cell, load_unit, store_unit}
@@ -78,6 +78,10 @@ pub record SamePart (part : List PlainCell) (s s' : Signals) : Type 0 where
   pub drams : (t dram addr : ℕ) → SomeCell (stands_for_dram dram) part → s.dram t dram addr ≡ s'.dram t dram addr
   pub phases : (t channel : ℕ) → SomeCell (stands_for_channel channel) part → s.phase t channel ≡ s'.phase t channel
 
+-- the cells name banks of these numbers alone
+abbrev pub BanksWithin : ℕ → ℕ → List PlainCell → Type 0
+BanksWithin low high cells = (bank : ℕ) → SomeCell (names_bank bank) cells → (low ≤ bank) × (bank < high)
+
 -- The laws of parts.
 pub record Locality : Type 0 where
   -- a run obeys each part by itself
@@ -93,3 +97,11 @@ pub record Locality : Type 0 where
       → dram_after (front ++ part ++ rest) words dram addr old ≡ dram_after part words dram addr old
   pub taps : (front part rest : List PlainCell) (words : ℕ → ℕ) (port : Port) (bank : ℕ) → NoCell (names_bank bank) front → NoCell (names_bank bank) rest
       → count_by (is_enabled_tap words port bank) (front ++ part ++ rest) ≡ count_by (is_enabled_tap words port bank) part
+  -- each cell of a part is obeyed, behind some cells
+  pub cell : (g : Setting) (s : Signals) (front part : List PlainCell) → RunsPart g s front part → (cell : PlainCell) → Contains part cell
+      → (before : List PlainCell) × Obeys (record { cells = part; args = g.args; drams = g.drams; delays = g.delays }) s before cell
+  -- ranks of a netlist rank its parts
+  pub ranked : (front part rest : List PlainCell) → IsRanked (front ++ part ++ rest) → IsRanked part
+  -- banks of other numbers aren't named, and numbers add up
+  pub others : (low high bank : ℕ) (cells : List PlainCell) → BanksWithin low high cells → (bank < low) ⊎ (high ≤ bank) → NoCell (names_bank bank) cells
+  pub both : (low middle high : ℕ) (front back : List PlainCell) → low ≤ middle → middle ≤ high → BanksWithin low middle front → BanksWithin middle high back → BanksWithin low high (front ++ back)

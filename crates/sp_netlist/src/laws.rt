@@ -1,6 +1,7 @@
 //! Laws of netlists.
 
 ghost use Rattle.sp_netlist.specs.Laws.{HasOneRun, HasOneEnding, EndingKept, NoLoop};
+ghost use Rattle.sp_netlist.specs.PartExamples.{PartExamples};
 ghost use Rattle.sp_netlist.specs.Parts.{Locality};
 ghost use Rattle.sp_netlist.specs.Examples.{ExampleEndings};
 
@@ -36,4 +37,10 @@ pub fn example_endings()
 /// What some of a netlist's cells do, whatever else stands beside them.
 pub fn locality()
     ensures { Locality }
+{}
+
+/// What two small circuits do in every netlist that has them: a counter that is started and says when
+/// it is done, and a memory with one write and two reads on two banks.
+pub fn part_examples()
+    ensures { PartExamples }
 {}

@@ -6,4 +6,6 @@ mod cell;
 mod laws;
 
 pub use cell::{Cell, CellOp, CellShift, NetId, Port};
-pub use laws::{ending_kept, example_endings, locality, no_loop, one_ending, one_run};
+pub use laws::{
+    ending_kept, example_endings, locality, no_loop, one_ending, one_run, part_examples,
+};
