@@ -16,3 +16,4 @@ pub mod Parts
 pub mod Determined
 pub mod PartLaws
 pub mod SmallParts
+pub mod Serving

@@ -6,3 +6,4 @@ pub mod Laws
 pub mod Examples
 pub mod Parts
 pub mod PartExamples
+pub mod Channels
