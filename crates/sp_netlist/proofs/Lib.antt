@@ -9,3 +9,15 @@ pub mod SomeRun
 pub mod SameRun
 pub mod OneRun
 pub mod Endings
+pub mod Collect
+pub mod Evaluate
+pub mod Evaluated
+pub mod Check
+pub mod Ended
+pub mod Examples
+pub mod Apart
+pub mod Parts
+pub mod Determined
+pub mod PartLaws
+pub mod SmallParts
+pub mod Serving

@@ -5,3 +5,7 @@ pub mod Cycle
 pub mod Draft
 pub mod Ports
 pub mod Laws
+pub mod Examples
+pub mod Parts
+pub mod PartExamples
+pub mod Channels
