@@ -4,17 +4,16 @@
 
 mod builder;
 mod cell;
+mod laws;
 mod netlist;
 mod parts;
 #[cfg(test)]
 mod tests;
-mod laws;
 
 pub use builder::Builder;
 pub use cell::{Cell, CellOp, CellShift, NetId, Port};
-pub use netlist::Netlist;
-pub use parts::{Child, Ends, Wire};
-pub use laws::{ending_kept, no_loop, one_ending, one_run};
 pub use laws::{
     ending_kept, example_endings, locality, no_loop, one_ending, one_run, part_examples,
 };
+pub use netlist::Netlist;
+pub use parts::{Child, Ends, Wire};
