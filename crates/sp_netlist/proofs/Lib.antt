@@ -16,7 +16,7 @@ pub mod Check
 pub mod Ended
 pub mod Examples
 pub mod Apart
-pub mod Parts
+pub mod Views
 pub mod Determined
 pub mod PartLaws
 pub mod SmallParts
