@@ -6,7 +6,7 @@ use Rattle.sp_words.specs.WholeNumbers.{modulo}
 use Rattle.sp_netlist.specs.declared.cell.Port.TheVariants.{Read}
 use Rattle.sp_netlist.specs.Rules.{IsNetlist, IsLength}
 use Rattle.sp_netlist.specs.Examples.{ExampleEndings, add_three, two_reads, load_twenty, loading}
-use Rattle.sp_netlist.proofs.Check.{netlist}
+use Rattle.sp_netlist.proofs.CheckedCells.{netlist}
 use Rattle.sp_netlist.proofs.Endings.{shares}
 use Rattle.sp_netlist.proofs.Evaluate.{after, word_of}
 use Rattle.sp_netlist.proofs.Ended.{done_at, conflict_at, fine, goes_on, no_share}

@@ -7,5 +7,6 @@ mod laws;
 
 pub use cell::{Cell, CellOp, CellShift, NetId, Port};
 pub use laws::{
-    ending_kept, example_endings, locality, no_loop, one_ending, one_run, part_examples,
+    channel_serves, ending_kept, example_endings, locality, no_loop, one_ending, one_run,
+    part_examples,
 };
