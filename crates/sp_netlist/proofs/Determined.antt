@@ -11,7 +11,7 @@ use Rattle.sp_netlist.specs.Parts.{stands_for_bank, stands_for_dram, stands_for_
 use Rattle.sp_netlist.proofs.Splits.{Split, split_of, split_cons, contains_head, contains_tail, contains_flat, source, Source}
 use Rattle.sp_netlist.proofs.Drivers.{Driver, driver, driver_drives, drives_driven, feeds}
 use Rattle.sp_netlist.proofs.SameRun.{step_same, only_net, one_of_two}
-use Rattle.sp_netlist.proofs.Views.{some_cell, alone}
+use Rattle.sp_netlist.proofs.Alone.{some_cell, alone}
 
 -- the cell that passes a test
 record Passing (test : PlainCell → Bool) (xs : List PlainCell) : Type 0 where

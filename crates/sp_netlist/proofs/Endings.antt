@@ -257,4 +257,5 @@ one_ending g h last =
     record {
       some_ending = (end.0, record { has_run = run; every_run = λ u ru. ends_same g h run.0 u run.1 ru last end.0 end.1 });
       same_ending = λ a b ea eb. same_ending g run.0 last a b (ea.every_run run.0 run.1) (eb.every_run run.0 run.1);
+      of_run = λ s ending r x. record { has_run = run; every_run = λ u ru. ends_same g h s u r ru last ending x };
     }

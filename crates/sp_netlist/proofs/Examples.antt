@@ -1,12 +1,12 @@
 -- How the worked examples end.
 use Rattle.std.proofs.Common.{ℕ, List, [], ◌∷◌, refl, arith, lit<, Contains, zero-le}
 use Rattle.std.proofs.lemmas.List.Elements.{All-from_recursion}
-use Rattle.sp_words.specs.Words.{word_add, word_and, word_eq, wrap, value_of}
+use Rattle.sp_words.specs.Words.{word_add, word_and, word_eq, wrap, value_of, has_sign}
 use Rattle.sp_words.specs.WholeNumbers.{modulo}
 use Rattle.sp_netlist.specs.declared.cell.Port.TheVariants.{Read}
 use Rattle.sp_netlist.specs.Rules.{IsNetlist, IsLength}
 use Rattle.sp_netlist.specs.Examples.{ExampleEndings, add_three, two_reads, load_twenty, loading}
-use Rattle.sp_netlist.proofs.Check.{netlist}
+use Rattle.sp_netlist.proofs.CheckedCells.{netlist}
 use Rattle.sp_netlist.proofs.Endings.{shares}
 use Rattle.sp_netlist.proofs.Evaluate.{after, word_of}
 use Rattle.sp_netlist.proofs.Ended.{done_at, conflict_at, fine, goes_on, no_share}
@@ -48,7 +48,7 @@ load_twenty_netlist = netlist (word_of ((4, 1) ∷ (7, 1) ∷ (8, 2) ∷ [])) lo
 })
 
 pub example_endings : ExampleEndings
-unfolding after fine goes_on no_share shares word_add word_and word_eq wrap value_of modulo
+unfolding after fine goes_on no_share shares word_add word_and word_eq wrap value_of has_sign modulo
 example_endings = record {
   sum = done_at (record { cells = add_three; args = 4 ∷ []; drams = []; delays = [] }) add_three_netlist 1 1000 (omega arith) refl _ refl refl refl refl;
   clash = conflict_at (record { cells = two_reads; args = []; drams = []; delays = [] }) two_reads_netlist 1 1000 (omega arith) refl _ refl refl 0 Read

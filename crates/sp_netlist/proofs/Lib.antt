@@ -12,11 +12,11 @@ pub mod Endings
 pub mod Collect
 pub mod Evaluate
 pub mod Evaluated
-pub mod Check
+pub mod CheckedCells
 pub mod Ended
 pub mod Examples
 pub mod Apart
-pub mod Views
+pub mod Alone
 pub mod Determined
 pub mod PartLaws
 pub mod SmallParts

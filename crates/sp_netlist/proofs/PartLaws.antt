@@ -9,7 +9,7 @@ use Rattle.sp_netlist.specs.Signals.{Setting, Signals, Obeys}
 use Rattle.sp_netlist.specs.Parts.{names_bank, NoCell, BanksWithin, RunsPart, Locality}
 use Rattle.sp_netlist.proofs.Splits.{Split, split_of}
 use Rattle.sp_netlist.proofs.Apart.{part_bank, part_dram, part_taps}
-use Rattle.sp_netlist.proofs.Views.{alone, view}
+use Rattle.sp_netlist.proofs.Alone.{alone, view}
 use Rattle.sp_netlist.proofs.Determined.{determined}
 
 -- the nets that a cell reads and drives are the same in every list, if not their widths

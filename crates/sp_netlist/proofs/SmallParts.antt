@@ -3,7 +3,7 @@ use Rattle.std.proofs.Common.{◌≡◌, ℕ, zero, suc, ◌+◌, ◌<◌, ◌�
 use Rattle.std.proofs.lemmas.Bool.{false≢true, or_cases, cond-true}
 use Rattle.std.proofs.lemmas.List.Elements.{Contains-get_or}
 use Rattle.sp_words.specs.declared.types.Ty.TheVariants.{Bit}
-use Rattle.sp_words.specs.Words.{word_add, word_and, word_eq, word_not, wrap, value_of}
+use Rattle.sp_words.specs.Words.{word_add, word_and, word_eq, word_not, wrap, value_of, has_sign}
 use Rattle.sp_words.specs.WholeNumbers.{modulo}
 use Rattle.sp_netlist.specs.declared.cell.Port.{Port}
 use Rattle.sp_netlist.specs.declared.cell.Port.TheVariants.{Read, Write}
@@ -85,7 +85,7 @@ module _ (c : Counter) (g : Setting) (s : Signals) (front rest : List PlainCell)
       (cc, cc, cc)
 
   counter_counts : (t : ℕ) → s.net t c.start ≡ 1 → ((j : ℕ) → j < 4 → s.net (t + 1 + j) c.start ≡ 0) → Counts c s t
-  unfolding word_and word_not word_eq word_add wrap value_of modulo
+  unfolding word_and word_not word_eq word_add wrap value_of has_sign modulo
   counter_counts t k idle =
       let one = started t k in
       let two = stepped (suc t) 0 (subst (λ x. s.net x c.start ≡ 0) (omega arith) (idle 0 (omega arith))) one.0 one.1 in

@@ -13,7 +13,8 @@ mod tests;
 pub use builder::Builder;
 pub use cell::{Cell, CellOp, CellShift, NetId, Port};
 pub use laws::{
-    ending_kept, example_endings, locality, no_loop, one_ending, one_run, part_examples,
+    channel_serves, ending_kept, example_endings, locality, no_loop, one_ending, one_run,
+    part_examples,
 };
 pub use netlist::Netlist;
 pub use parts::{Child, Ends, Wire};
