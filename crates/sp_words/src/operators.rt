@@ -31,10 +31,8 @@ pub fn mul(ty: Ty, a: u64, b: u64) -> u64
     ensures value { result ≡ word_mul ty a b }
     ensures is_word { IsWord ty result }
 {
-    low_bits(
-        ty,
-        extended(ty, a).wrapping_mul(extended(ty, b)) >> ty.frac(),
-    )
+    let product = extended(ty, a).wrapping_mul(extended(ty, b));
+    low_bits(ty, product >> ty.frac())
 }
 
 /// `a * 2 ^ frac` over `b`, rounded toward zero, then wrapped; 0 where `b` is 0.
