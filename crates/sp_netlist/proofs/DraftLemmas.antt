@@ -2,14 +2,14 @@
 use Rattle.std.proofs.Common.{◌≡◌, ℕ, zero, suc, ◌+◌, ◌<◌, ◌≤◌, ◌^◌, ◌==◌, Bool, true, false, not, cond, IsTrue, List, [], ◌∷◌, ◌++◌, length, map, flat_map, count_by, sum_by, All, Contains, Some, slice_get, option_map, ◌⊎◌, inl, inr, refl, sym, ap, ap₂, subst, ◌∙◌, arith, ltb, lt-ltb, eq-eqb, ne_eqb, length-append, true≢false}
 use Rattle.std.specs.List.{AllByRecursion as Each}
 use Rattle.std.proofs.lemmas.Bool.{cases_Bool, cases_eq}
-use Rattle.std.proofs.lemmas.List.Elements.{All-from_recursion, All-contains, All-map, All-append, All-nil, All-push, All-weaker, Contains-push_cases}
+use Rattle.std.proofs.lemmas.List.Elements.{All-from_recursion, All-contains, All-map, All-append, All-nil, All-push, All-weaker, recursion_from_All, All-contains_itself, Contains-push_cases}
 use Rattle.std.proofs.lemmas.List.Sums.{sum_by-append, sum_by-cons, get_or-le-sum_by}
 use Rattle.std.proofs.lemmas.List.Concat.{flat_map-append}
 use Rattle.sp_netlist.specs.Cells.{PlainCell, in_cell, out_cell, done_cell, const_cell, op_cell, not_cell, shift_cell, cast_cell, mux_cell, reg_cell, bank_cell, read_tap, write_tap, dram_cell, load_unit, store_unit}
-use Rattle.sp_netlist.specs.Rules.{IsRight, IsWidth, IsNetlist, IsRanked, Feeds, is_computed, drives, reads, driven_nets, read_nets}
-use Rattle.sp_netlist.specs.Draft.{Draft, IsDraft, CanAdd, IsComplete, IsReady, DrivesApart, promised_width, driver_count}
-use Rattle.sp_netlist.proofs.Lists.{split_at, counted, Contains-here, Contains-later}
-use Rattle.sp_netlist.proofs.LookUps.{AllRight, AllRight-push, Names-all, drives-kept, reads-kept, driven_nets-push, read_nets-push, Names-right}
+use Rattle.sp_netlist.specs.Rules.{IsRight, IsWidth, IsNetlist, IsRanked, Feeds, is_computed, is_bank, is_dram, drives, reads, driven_nets, read_nets}
+use Rattle.sp_netlist.specs.Draft.{Draft, IsDraft, CanAdd, IsComplete, IsReady, DrivesApart, Keeps, promised_width, driver_count, net_count}
+use Rattle.sp_netlist.proofs.Lists.{split_at, counted, slice_get_grown, Contains-here, Contains-later}
+use Rattle.sp_netlist.proofs.LookUps.{Declares-push, AllRight, AllRight-push, Names-all, drives-kept, reads-kept, driven_nets-push, read_nets-push, Names-right, bank_width-kept, dram_width-kept}
 
 -- what is promised of a net stays when more are promised
 found_grown : {X Y : Type 0} (f : X → Y) (xs ys : List X) (i : ℕ) (y : Y) → option_map f (slice_get xs i) ≡ Some y → option_map f (slice_get (xs ++ ys) i) ≡ Some y
@@ -32,6 +32,7 @@ pub IsDraft-promise : (d : Draft) (width : ℕ) (kept : Bool) → IsDraft d → 
 IsDraft-promise d width kept h w = record {
   widths = All-push (λ p. IsWidth p.0) d.promised (width, kept) h.widths w;
   right = h.right;
+  declared = h.declared;
   driven_promised = All-weaker _ (λ p. promised_width (with_promise d width kept) p.0 ≡ Some p.1) (λ p e. found_grown (λ n. n.0) d.promised ((width, kept) ∷ []) p.0 p.1 e) (driven_nets d.cells) h.driven_promised;
   driven_once = h.driven_once;
   read_promised = All-weaker _ (λ p. promised_width (with_promise d width kept) p.0 ≡ Some p.1) (λ p e. found_grown (λ n. n.0) d.promised ((width, kept) ∷ []) p.0 p.1 e) (read_nets d.cells) h.read_promised;
@@ -46,6 +47,7 @@ pub IsDraft-none : IsDraft (record { promised = []; cells = [] })
 IsDraft-none = record {
   widths = All-nil (λ p. IsWidth p.0);
   right = λ before cell after e. absurd (let n = ap length e in let m = length-append before (cell ∷ after) in omega (arith, n, m));
+  declared = λ cell within. absurd (let k = within.1 in omega (arith, k));
   driven_promised = All-nil _;
   driven_once = λ net. omega arith;
   read_promised = All-nil _;
@@ -259,6 +261,7 @@ IsDraft-add d c h can =
     record {
       widths = h.widths;
       right = (AllRight-push d.cells c all can.right).each;
+      declared = Declares-push d.cells c h.declared can.right;
       driven_promised = rw (driven_nets-push d.cells c all can.right) (All-append (λ p. promised_width d p.0 ≡ Some p.1) (driven_nets d.cells) (drives d.cells c) h.driven_promised
           (drives_at_width d c can));
       driven_once = driven_once-push d c h all can;
@@ -290,3 +293,79 @@ IsNetlist-complete d h complete short = record {
   read_driven = All-weaker (λ p. promised_width d p.0 ≡ Some p.1) (Contains (driven_nets d.cells)) (read_is_driven d h complete) (read_nets d.cells) h.read_promised;
   ranked = h.ranked;
 }
+
+-- a net that wasn't promised isn't driven
+pub driver_count-beyond : (d : Draft) (net : ℕ) → IsDraft d → length d.promised ≤ net → driver_count d.cells net ≡ 0
+driver_count-beyond d net h beyond =
+    elim (none_or (λ n. n < length d.promised) (driven_nets d.cells) net
+    (recursion_from_All (λ p. p.0 < length d.promised) (driven_nets d.cells)
+    (All-weaker (λ p. promised_width d p.0 ≡ Some p.1) (λ p. p.0 < length d.promised) (λ p e. found_within (λ n. n.0) d.promised p.0 p.1 e) (driven_nets d.cells) h.driven_promised))) [
+      | inl none ↦ none
+      | inr within ↦ absurd (omega (arith, beyond, within))
+    ]
+
+pub Keeps-refl : (d : Draft) → Keeps d d
+Keeps-refl d = record {
+  promised = λ net width kept e. e;
+  widths = λ net width e. e;
+  driven = λ net e. e;
+  ready = λ net h. h;
+  banks = λ bank within. (within, refl);
+  drams = λ dram within. (within, refl);
+}
+
+pub Keeps-trans : (a b c : Draft) → Keeps a b → Keeps b c → Keeps a c
+Keeps-trans a b c k l = record {
+  promised = λ net width kept e. l.promised net width kept (k.promised net width kept e);
+  widths = λ net width e. l.widths net width (k.widths net width e);
+  driven = λ net e. l.driven net (k.driven net e);
+  ready = λ net h. l.ready net (k.ready net h);
+  banks = λ bank within. let first = k.banks bank within in let second = l.banks bank first.0 in (second.0, second.1 ∙ first.1);
+  drams = λ dram within. let first = k.drams dram within in let second = l.drams dram first.0 in (second.0, second.1 ∙ first.1);
+}
+
+pub Keeps-promise : (d : Draft) (width : ℕ) (kept : Bool) → Keeps d (with_promise d width kept)
+Keeps-promise d width kept = record {
+  promised = λ net w k e. slice_get_grown d.promised ((width, kept) ∷ []) net (w, k) e;
+  widths = λ net w e. found_grown (λ n. n.0) d.promised ((width, kept) ∷ []) net w e;
+  driven = λ net e. e;
+  ready = λ net h. elim h [ inl k ↦ inl (found_grown (λ n. n.1) d.promised ((width, kept) ∷ []) net true k) | inr e ↦ inr e ];
+  banks = λ bank within. (within, refl);
+  drams = λ dram within. (within, refl);
+}
+
+pub Keeps-add : (d : Draft) (c : PlainCell) → IsDraft d → CanAdd d c → Keeps d (with_cell d c)
+Keeps-add d c h can =
+    let all : AllRight d.cells = record { each = h.right } in
+    record {
+      promised = λ net width kept e. e;
+      widths = λ net width e. e;
+      driven = λ net e. (let grown = driver_count-push d.cells c net all can.right in let once = driven_once-push d c h all can net in omega (arith, e, grown, once));
+      ready = λ net ready. IsReady-push d c net all can ready (driven_once-push d c h all can net);
+      banks = λ bank within. (let grown = sum_by-append (λ x. cond (is_bank x) 1 0) d.cells (c ∷ []) in omega (arith, within, grown), bank_width-kept d.cells c bank can.right within);
+      drams = λ dram within. (let grown = sum_by-append (λ x. cond (is_dram x) 1 0) d.cells (c ∷ []) in omega (arith, within, grown), dram_width-kept d.cells c dram can.right within);
+    }
+
+pub driver_count-add : (d : Draft) (c : PlainCell) (net : ℕ) → IsDraft d → CanAdd d c → driver_count (d.cells ++ c ∷ []) net ≡ driver_count d.cells net + net_count (drives d.cells c) net
+driver_count-add d c net h can = driver_count-push d.cells c net (record { each = h.right }) can.right
+
+-- what a cell drives is driven once it is added
+pub driven-add : (d : Draft) (c : PlainCell) → IsDraft d → CanAdd d c → Each (λ p. driver_count (d.cells ++ c ∷ []) p.0 ≡ 1) (drives d.cells c)
+driven-add d c h can =
+    recursion_from_All (λ p. driver_count (d.cells ++ c ∷ []) p.0 ≡ 1) (drives d.cells c)
+    (All-weaker (Contains (drives d.cells c)) (λ p. driver_count (d.cells ++ c ∷ []) p.0 ≡ 1)
+    (λ p within.
+    let some = counted (λ (q : ℕ × ℕ). q.0 == p.0) (drives d.cells c) p within (eq-eqb p.0 p.0 refl) in
+    let grown = driver_count-add d c p.0 h can in
+    let once = driven_once-push d c h (record { each = h.right }) can p.0 in
+    omega (arith, some, grown, once))
+    (drives d.cells c) (All-contains_itself (drives d.cells c)))
+
+-- a net that isn't driven and that the cell doesn't drive isn't driven once it is added
+pub not_driven-add : (d : Draft) (c : PlainCell) (net : ℕ) → IsDraft d → CanAdd d c → driver_count d.cells net ≡ 0 → Each (λ p. p.0 ≡ net → ⊥) (drives d.cells c) → driver_count (d.cells ++ c ∷ []) net ≡ 0
+not_driven-add d c net h can none others =
+    let grown = driver_count-add d c net h can in
+    elim (none_or (λ n. n ≡ net → ⊥) (drives d.cells c) net others) [
+      | inl e ↦ omega (arith, grown, none, e)
+      | inr other ↦ absurd (other refl)
+    ]

@@ -4,8 +4,9 @@ use Rattle.std.proofs.lemmas.List.Elements.{All-contains}
 use Rattle.std.proofs.lemmas.Bool.{false≢true}
 use Rattle.sp_netlist.specs.Cells.{PlainCell, bank_cell, dram_cell, load_unit, store_unit}
 use Rattle.sp_netlist.specs.Rules.{is_bank, is_dram, is_unit, drives, reads, driven_nets, read_nets, is_computed, Feeds, IsNetlist, IsRight}
+use Rattle.sp_netlist.specs.Parts.{stands_for_bank, stands_for_dram, stands_for_channel}
 use Rattle.sp_netlist.proofs.Splits.{Split, one_placed, any_count, any_contains, any_first, contains_split, contains_flat, piece, Piece, source, Source}
-use Rattle.sp_netlist.proofs.Machine.{is_net, drives_net, stands_for_bank, stands_for_dram, stands_for_channel}
+use Rattle.sp_netlist.proofs.Machine.{is_net, drives_net}
 
 pub net_once : (cells : List PlainCell) → IsNetlist cells → (net : ℕ) → count_by (drives_net cells net) cells ≤ 1
 net_once cells h net = le_trans (any_count (is_net net) (drives cells) cells) (h.driven_once net)

@@ -89,10 +89,10 @@ same_tap cells h w v same Write bank (write_tap of enable addr word) d =
     ap (λ n. (of == bank) && (n == 1)) (same enable 1 (reads_driven cells h (write_tap of enable addr word) enable 1 d (0, omega arith, refl)))
 same_tap cells h w v same _ bank _ d = refl
 
-same_taps : (cells : List PlainCell) → IsNetlist cells → (w v : ℕ → ℕ) → SameWords cells w v → (port : Port) (bank : ℕ) → count_by (is_enabled_tap w port bank) cells ≡ count_by (is_enabled_tap v port bank) cells
+pub same_taps : (cells : List PlainCell) → IsNetlist cells → (w v : ℕ → ℕ) → SameWords cells w v → (port : Port) (bank : ℕ) → count_by (is_enabled_tap w port bank) cells ≡ count_by (is_enabled_tap v port bank) cells
 same_taps cells h w v same port bank = same_count (is_enabled_tap w port bank) (is_enabled_tap v port bank) cells (λ x c. same_tap cells h w v same port bank x (split_of cells x c))
 
-same_over : (cells : List PlainCell) → IsNetlist cells → (w v : ℕ → ℕ) → SameWords cells w v → (xs : List PlainCell) → ((x : PlainCell) → Contains xs x → Contains cells x) → is_over xs w ≡ is_over xs v
+pub same_over : (cells : List PlainCell) → IsNetlist cells → (w v : ℕ → ℕ) → SameWords cells w v → (xs : List PlainCell) → ((x : PlainCell) → Contains xs x → Contains cells x) → is_over xs w ≡ is_over xs v
 same_over cells h w v same [] inside = refl
 same_over cells h w v same (done_cell net ∷ xs) inside =
     let rest = same_over cells h w v same xs (λ x c. inside x (contains_tail (done_cell net) x xs c)) in
@@ -100,7 +100,7 @@ same_over cells h w v same (done_cell net ∷ xs) inside =
     ap (λ n. (n == 1) || is_over xs w) e ∙ ap (λ b. (v net == 1) || b) rest
 same_over cells h w v same (y ∷ xs) inside = same_over cells h w v same xs (λ x c. inside x (contains_tail _ x xs c))
 
-same_outs : (cells : List PlainCell) → IsNetlist cells → (w v : ℕ → ℕ) → SameWords cells w v → (xs : List PlainCell) → ((x : PlainCell) → Contains xs x → Contains cells x) → out_words xs w ≡ out_words xs v
+pub same_outs : (cells : List PlainCell) → IsNetlist cells → (w v : ℕ → ℕ) → SameWords cells w v → (xs : List PlainCell) → ((x : PlainCell) → Contains xs x → Contains cells x) → out_words xs w ≡ out_words xs v
 same_outs cells h w v same [] inside = refl
 same_outs cells h w v same (out_cell name net ty ∷ xs) inside =
     let rest = same_outs cells h w v same xs (λ x c. inside x (contains_tail (out_cell name net ty) x xs c)) in
@@ -118,7 +118,7 @@ same_map f k (x ∷ xs) e =
 below_drams : (cells before : List PlainCell) (x : PlainCell) (after : List PlainCell) (dram : ℕ) → cells ≡ before ++ x ∷ after → is_dram x ≡ true → dram ≡ count_by is_dram before → dram < count_by is_dram cells
 below_drams cells before x after dram e is c = omega (arith, count-split is_dram cells before x after e is)
 
-same_drams : (cells : List PlainCell) → IsNetlist cells → (d e : ℕ → ℕ → ℕ) → ((dram addr : ℕ) → dram < count_by is_dram cells → d dram addr ≡ e dram addr)
+pub same_drams : (cells : List PlainCell) → IsNetlist cells → (d e : ℕ → ℕ → ℕ) → ((dram addr : ℕ) → dram < count_by is_dram cells → d dram addr ≡ e dram addr)
     → (xs : List PlainCell) → ((x : PlainCell) → Contains xs x → Contains cells x) → dram_lists xs d ≡ dram_lists xs e
 same_drams cells h d e same [] inside = refl
 same_drams cells h d e same (dram_cell dram name ty dims ∷ xs) inside =
@@ -184,7 +184,7 @@ least p (suc n) = ⊎_elim (λ m. inl (record { at = m.at; below = omega (arith,
     go none (inr fails) = inr (λ k l. ⊎_elim (λ m. none k m) (λ m. subst (λ j. p j ≡ false) (omega arith) fails) (cases_lt k n))
 
 -- whether a bank has a conflict at these words
-shares : List PlainCell → (ℕ → ℕ) → ℕ → Bool
+unfoldable pub shares : List PlainCell → (ℕ → ℕ) → ℕ → Bool
 shares cells w bank = nat_lt 1 (count_by (is_enabled_tap w Read bank) cells) || nat_lt 1 (count_by (is_enabled_tap w Write bank) cells)
 
 -- a tap's bank has a cell, so no other bank has an enabled tap
@@ -197,11 +197,11 @@ count_none : {X : Type 0} (xs : List X) → count_by (λ x. false) xs ≡ 0
 count_none [] = refl
 count_none {X} (x ∷ xs) = count-cons_no {X = X} (λ y. false) x xs refl ∙ count_none xs
 
-no_tap : (cells : List PlainCell) → IsNetlist cells → (w : ℕ → ℕ) (port : Port) (bank : ℕ) → count_by is_bank cells ≤ bank → count_by (is_enabled_tap w port bank) cells ≡ 0
+pub no_tap : (cells : List PlainCell) → IsNetlist cells → (w : ℕ → ℕ) (port : Port) (bank : ℕ) → count_by is_bank cells ≤ bank → count_by (is_enabled_tap w port bank) cells ≡ 0
 no_tap cells h w port bank l = same_count (is_enabled_tap w port bank) (λ x. false) cells
     (λ x c. let d = split_of cells x c in tap_below cells h w port bank l d.before x (h.right d.before x d.after d.is)) ∙ count_none cells
 
-shares_tells : (cells : List PlainCell) (w : ℕ → ℕ) (bank : ℕ) → shares cells w bank ≡ false → (port : Port) → count_by (is_enabled_tap w port bank) cells ≤ 1
+pub shares_tells : (cells : List PlainCell) (w : ℕ → ℕ) (bank : ℕ) → shares cells w bank ≡ false → (port : Port) → count_by (is_enabled_tap w port bank) cells ≤ 1
 unfolding shares
 shares_tells cells w bank e Read = ltb-false 1 _ (or_parts (nat_lt 1 (count_by (is_enabled_tap w Read bank) cells)) (nat_lt 1 (count_by (is_enabled_tap w Write bank) cells)) e).0
 shares_tells cells w bank e Write = ltb-false 1 _ (or_parts (nat_lt 1 (count_by (is_enabled_tap w Read bank) cells)) (nat_lt 1 (count_by (is_enabled_tap w Write bank) cells)) e).1
@@ -257,4 +257,5 @@ one_ending g h last =
     record {
       some_ending = (end.0, record { has_run = run; every_run = λ u ru. ends_same g h run.0 u run.1 ru last end.0 end.1 });
       same_ending = λ a b ea eb. same_ending g run.0 last a b (ea.every_run run.0 run.1) (eb.every_run run.0 run.1);
+      of_run = λ s ending r x. record { has_run = run; every_run = λ u ru. ends_same g h s u r ru last ending x };
     }

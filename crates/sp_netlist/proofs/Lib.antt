@@ -1,3 +1,7 @@
+pub mod Lists
+pub mod LookUps
+pub mod DraftLemmas
+pub mod PortLemmas
 pub mod Splits
 pub mod Machine
 pub mod Drivers
@@ -5,7 +9,15 @@ pub mod SomeRun
 pub mod SameRun
 pub mod OneRun
 pub mod Endings
-pub mod Lists
-pub mod LookUps
-pub mod DraftLemmas
-pub mod PortLemmas
+pub mod Collect
+pub mod Evaluate
+pub mod Evaluated
+pub mod CheckedCells
+pub mod Ended
+pub mod Examples
+pub mod Apart
+pub mod Alone
+pub mod Determined
+pub mod PartLaws
+pub mod SmallParts
+pub mod Serving

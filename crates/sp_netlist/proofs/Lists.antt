@@ -1,5 +1,6 @@
 -- Facts on lists that the rules of netlists need.
-use Rattle.std.proofs.Common.{◌≡◌, ℕ, zero, suc, ◌<◌, ◌≤◌, Bool, true, List, [], ◌∷◌, ◌++◌, length, get_or, take, drop, flat_map, count_by, Contains, Some, slice_get, ◌⊎◌, inl, inr, refl, sym, ap, ◌∙◌, arith, drop-cons, take-append-drop, cond}
+use Rattle.std.proofs.Common.{◌≡◌, ℕ, zero, suc, ◌<◌, ◌≤◌, Bool, true, List, [], ◌∷◌, ◌++◌, length, get_or, take, drop, map, flat_map, count_by, Contains, Some, slice_get, ◌⊎◌, inl, inr, refl, sym, ap, ◌∙◌, arith, drop-cons, take-append-drop, cond}
+use Rattle.std.proofs.lemmas.List.{length-map}
 use Rattle.std.proofs.lemmas.List.Elements.{Contains-append_right}
 use Rattle.std.proofs.lemmas.List.Sums.{get_or-le-sum_by}
 
@@ -52,6 +53,9 @@ slice_get_grown (z ∷ xs) ys (suc i) x e = slice_get_grown xs ys i x e
 pub slice_get_last : {X : Type 0} (xs : List X) (x : X) → slice_get (xs ++ x ∷ []) (length xs) ≡ Some x
 slice_get_last [] x = refl
 slice_get_last (y ∷ xs) x = slice_get_last xs x
+
+pub slice_get_mapped : {X Y : Type 0} (f : X → Y) (xs : List X) (y : Y) (n : ℕ) → n ≡ length xs → slice_get (map f xs ++ y ∷ []) n ≡ Some y
+slice_get_mapped f xs y n e = rw (e, ← length-map xs f) (slice_get_last (map f xs) y)
 
 pub slice_get_within : {X : Type 0} (xs : List X) (i : ℕ) (x : X) → slice_get xs i ≡ Some x → i < length xs
 slice_get_within [] i x e = absurd (cc)

@@ -1,11 +1,14 @@
 -- What a cell drives and reads stays the same when cells are added after it.
-use Rattle.std.proofs.Common.{◌≡◌, ℕ, ◌<◌, ◌==◌, cond, List, [], ◌∷◌, ◌++◌, count_by, Contains, refl, ap, ◌∙◌, append-nil, inl, inr, arith, ne_eqb, if◌then◌else◌}
+use Rattle.std.proofs.Common.{◌≡◌, ℕ, ◌<◌, ◌==◌, cond, List, [], ◌∷◌, ◌++◌, count_by, Contains, refl, ap, ◌∙◌, append-nil, subst, eq-eqb, inl, inr, arith, ne_eqb, if◌then◌else◌}
+use Rattle.std.proofs.lemmas.List.Elements.{Contains-push_cases}
 use Rattle.std.proofs.lemmas.List.Sums.{sum_by-append}
 use Rattle.std.proofs.lemmas.List.Concat.{flat_map-append}
+use Rattle.sp_words.specs.declared.types.Ty.{Ty}
 use Rattle.sp_words.specs.Types.{width_of}
 use Rattle.sp_netlist.specs.Cells.{PlainCell, in_cell, out_cell, done_cell, const_cell, op_cell, not_cell, shift_cell, cast_cell, mux_cell, reg_cell, bank_cell, read_tap, write_tap, dram_cell, load_unit, store_unit}
 use Rattle.sp_netlist.specs.Rules.{IsRight, is_bank, is_dram, bank_width, dram_width, drives, reads, driven_nets, read_nets}
-use Rattle.sp_netlist.proofs.Lists.{split_at, split_push, flat_map_same}
+use Rattle.sp_netlist.specs.Draft.{Declares}
+use Rattle.sp_netlist.proofs.Lists.{Contains-here, Contains-later, split_at, split_push, flat_map_same}
 
 -- the bank or the DRAM that the cell names stands in the list
 abbrev pub Names : List PlainCell → PlainCell → Type 0
@@ -149,6 +152,78 @@ reads-kept cells c (shift_cell net ty side a places) h n = refl
 reads-kept cells c (cast_cell net from to a) h n = refl
 reads-kept cells c (mux_cell net width choice a b) h n = refl
 reads-kept cells c (reg_cell net width first next enable) h n = refl
+
+-- banks and DRAMs of lower numbers don't hide one that comes after them
+bank_width-past : (cells more : List PlainCell) (n : ℕ) → ((bank width len : ℕ) → Contains cells (bank_cell bank width len) → bank < n) → bank_width (cells ++ more) n ≡ bank_width more n
+bank_width-past [] more n lower = refl
+bank_width-past (bank_cell bank width len ∷ cells) more n lower =
+    let below = lower bank width len (Contains-here (bank_cell bank width len) cells) in
+    let test = ne_eqb bank n (λ e. omega (arith, below, e)) in
+    let rest = bank_width-past cells more n (λ b w l h. lower b w l (Contains-later (bank_cell bank width len) cells (bank_cell b w l) h)) in
+    rw test rest
+bank_width-past (x ∷ cells) more n lower = bank_width-past cells more n (λ b w l h. lower b w l (Contains-later x cells (bank_cell b w l) h))
+
+dram_width-past : (cells more : List PlainCell) (n : ℕ) → ((dram : ℕ) (name : List ℕ) (ty : Ty) (dims : List ℕ) → Contains cells (dram_cell dram name ty dims) → dram < n) → dram_width (cells ++ more) n ≡ dram_width more n
+dram_width-past [] more n lower = refl
+dram_width-past (dram_cell dram name ty dims ∷ cells) more n lower =
+    let below = lower dram name ty dims (Contains-here (dram_cell dram name ty dims) cells) in
+    let test = ne_eqb dram n (λ e. omega (arith, below, e)) in
+    let rest = dram_width-past cells more n (λ b m t ds h. lower b m t ds (Contains-later (dram_cell dram name ty dims) cells (dram_cell b m t ds) h)) in
+    rw test rest
+dram_width-past (x ∷ cells) more n lower = dram_width-past cells more n (λ b m t ds h. lower b m t ds (Contains-later x cells (dram_cell b m t ds) h))
+
+Declares-kept : (cells : List PlainCell) (c x : PlainCell) → IsRight cells cells c → Declares cells x → Declares (cells ++ c ∷ []) x
+Declares-kept cells c (bank_cell bank width len) h d = (let grown = sum_by-append (λ x. cond (is_bank x) 1 0) cells (c ∷ []) in let within = d.0 in omega (arith, within, grown), bank_width-kept cells c bank h d.0 ∙ d.1)
+Declares-kept cells c (dram_cell dram name ty dims) h d = (let grown = sum_by-append (λ x. cond (is_dram x) 1 0) cells (c ∷ []) in let within = d.0 in omega (arith, within, grown), dram_width-kept cells c dram h d.0 ∙ d.1)
+Declares-kept cells c (read_tap net bank enable addr) h d = tt
+Declares-kept cells c (load_unit channel dram ready net request last addr) h d = tt
+Declares-kept cells c (write_tap bank enable addr word) h d = tt
+Declares-kept cells c (store_unit channel dram ready request last addr word) h d = tt
+Declares-kept cells c (in_cell name net ty) h d = tt
+Declares-kept cells c (out_cell name net ty) h d = tt
+Declares-kept cells c (done_cell net) h d = tt
+Declares-kept cells c (const_cell net width word) h d = tt
+Declares-kept cells c (op_cell net ty op a b) h d = tt
+Declares-kept cells c (not_cell net ty a) h d = tt
+Declares-kept cells c (shift_cell net ty side a places) h d = tt
+Declares-kept cells c (cast_cell net from to a) h d = tt
+Declares-kept cells c (mux_cell net width choice a b) h d = tt
+Declares-kept cells c (reg_cell net width first next enable) h d = tt
+
+pub Declares-new : (cells : List PlainCell) (c : PlainCell) → ((x : PlainCell) → Contains cells x → Declares cells x) → IsRight cells cells c → Declares (cells ++ c ∷ []) c
+Declares-new cells (bank_cell bank width len) all h =
+    let grown = sum_by-append (λ x. cond (is_bank x) 1 0) cells (bank_cell bank width len ∷ []) in
+    let number = h.0 in
+    let past = bank_width-past cells (bank_cell bank width len ∷ []) bank (λ b w l within. let below = (all (bank_cell b w l) within).0 in omega (arith, below, number)) in
+    let own = eq-eqb bank bank refl in
+    (omega (arith, grown, number), past ∙ rw own refl)
+Declares-new cells (dram_cell dram name ty dims) all h =
+    let grown = sum_by-append (λ x. cond (is_dram x) 1 0) cells (dram_cell dram name ty dims ∷ []) in
+    let number = h.0 in
+    let past = dram_width-past cells (dram_cell dram name ty dims ∷ []) dram (λ b m t ds within. let below = (all (dram_cell b m t ds) within).0 in omega (arith, below, number)) in
+    let own = eq-eqb dram dram refl in
+    (omega (arith, grown, number), past ∙ rw own refl)
+Declares-new cells (read_tap net bank enable addr) all h = tt
+Declares-new cells (load_unit channel dram ready net request last addr) all h = tt
+Declares-new cells (write_tap bank enable addr word) all h = tt
+Declares-new cells (store_unit channel dram ready request last addr word) all h = tt
+Declares-new cells (in_cell name net ty) all h = tt
+Declares-new cells (out_cell name net ty) all h = tt
+Declares-new cells (done_cell net) all h = tt
+Declares-new cells (const_cell net width word) all h = tt
+Declares-new cells (op_cell net ty op a b) all h = tt
+Declares-new cells (not_cell net ty a) all h = tt
+Declares-new cells (shift_cell net ty side a places) all h = tt
+Declares-new cells (cast_cell net from to a) all h = tt
+Declares-new cells (mux_cell net width choice a b) all h = tt
+Declares-new cells (reg_cell net width first next enable) all h = tt
+
+pub Declares-push : (cells : List PlainCell) (c : PlainCell) → ((x : PlainCell) → Contains cells x → Declares cells x) → IsRight cells cells c → (x : PlainCell) → Contains (cells ++ c ∷ []) x → Declares (cells ++ c ∷ []) x
+Declares-push cells c all h x within =
+    elim (Contains-push_cases cells c x within) [
+      | inl old ↦ Declares-kept cells c x h (all x old)
+      | inr same ↦ subst (Declares (cells ++ c ∷ [])) same (Declares-new cells c all h)
+    ]
 
 -- each cell of the list stands rightly in it, after those before it
 pub record AllRight (cells : List PlainCell) : Type 0 where

@@ -1,10 +1,11 @@
 -- A run of a netlist, made cycle by cycle: what is kept, then the words of the nets along their ranks.
-use Rattle.std.proofs.Common.{◌≡◌, ℕ, zero, suc, ◌+◌, ◌≤◌, List, [], ◌∷◌, ◌++◌, Bool, true, false, cond, ◌==◌, nat_lt, if◌then◌else◌, ap, ◌∙◌, count_by, slice_index, arith}
+use Rattle.std.proofs.Common.{◌≡◌, ℕ, zero, suc, ◌+◌, ◌≤◌, List, [], ◌∷◌, ◌++◌, Bool, true, cond, ◌==◌, nat_lt, if◌then◌else◌, ap, ◌∙◌, count_by, slice_index, arith}
 use Rattle.std.specs.List.{list_any}
 use Rattle.sp_netlist.specs.Cells.{PlainCell, in_cell, out_cell, done_cell, const_cell, op_cell, not_cell, shift_cell, cast_cell, mux_cell, reg_cell, bank_cell, read_tap, write_tap, dram_cell, load_unit, store_unit}
 use Rattle.sp_netlist.specs.Rules.{is_in, size_of_dims, drives}
 use Rattle.sp_netlist.specs.Signals.{Setting, Phase, idle, Signals, op_word, shift_word, ready_word, next_phase, cell_asks, delay_of, bank_after, dram_after, given_words}
 use Rattle.sp_words.specs.Words.{word_not, word_cast}
+use Rattle.sp_netlist.specs.Parts.{stands_for_bank, stands_for_dram, stands_for_channel}
 use Rattle.sp_netlist.proofs.Splits.{count-split, none_first, none_rest}
 
 -- what is kept from cycle to cycle
@@ -40,25 +41,12 @@ pub found_split : {X : Type 0} (p : X → Bool) (xs before : List X) (x : X) (af
 found_split p xs before x after e pass one =
     ap (look_up p) e ∙ found_at p before x after (omega (arith, count-split p xs before x after e pass)) pass
 
--- the cells that drive a net, and those that stand for a bank, a DRAM and a channel
+-- the cells that drive a net
 abbrev pub is_net : ℕ → ℕ × ℕ → Bool
 is_net net p = p.0 == net
 
 abbrev pub drives_net : List PlainCell → ℕ → PlainCell → Bool
 drives_net cells net cell = list_any (is_net net) (drives cells cell)
-
-abbrev pub stands_for_bank : ℕ → PlainCell → Bool
-stands_for_bank n (bank_cell bank width len) = bank == n
-stands_for_bank n cell = false
-
-abbrev pub stands_for_dram : ℕ → PlainCell → Bool
-stands_for_dram n (dram_cell dram name ty dims) = dram == n
-stands_for_dram n cell = false
-
-abbrev pub stands_for_channel : ℕ → PlainCell → Bool
-stands_for_channel n (load_unit channel dram ready net request last addr) = channel == n
-stands_for_channel n (store_unit channel dram ready request last addr word) = channel == n
-stands_for_channel n cell = false
 
 -- the word that a cell gives a net, where the other nets have these words
 abbrev pub cell_word : Setting → Kept → List PlainCell → ℕ → (ℕ → ℕ) → PlainCell → ℕ

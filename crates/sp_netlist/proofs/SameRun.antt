@@ -10,18 +10,18 @@ use Rattle.sp_words.specs.Words.{word_not, word_cast}
 use Rattle.sp_netlist.proofs.Splits.{Split, split_of, contains_head, contains_tail, count-split, same_count, nth, Nth}
 use Rattle.sp_netlist.proofs.Drivers.{Driver, driver, driver_drives, drives_driven, reads_driven, operand_driver, feeds}
 
-step_same : (a b x y v w : ℕ) → a ≡ b → x ≡ y → v ≡ w → (if a == 1 then x else v) ≡ (if b == 1 then y else w)
+pub step_same : (a b x y v w : ℕ) → a ≡ b → x ≡ y → v ≡ w → (if a == 1 then x else v) ≡ (if b == 1 then y else w)
 step_same a b x y v w e f k = cc
 
 -- which net stands in a list of one or two
-only_net : (n w net width : ℕ) → Contains {X = ℕ × ℕ} ((n, w) ∷ []) (net, width) → n ≡ net
+pub only_net : (n w net width : ℕ) → Contains {X = ℕ × ℕ} ((n, w) ∷ []) (net, width) → n ≡ net
 only_net n w net width h = at h.0 h.1 h.2
   where
     at : (k : ℕ) → k < length {A = ℕ × ℕ} ((n, w) ∷ []) → get_or {A = ℕ × ℕ} ((n, w) ∷ []) k (net, width) ≡ (net, width) → n ≡ net
     at zero l e = ap (λ (p : ℕ × ℕ). p.0) e
     at (suc k) l e = absurd (omega arith)
 
-one_of_two : (n w m v net width : ℕ) → Contains {X = ℕ × ℕ} ((n, w) ∷ (m, v) ∷ []) (net, width) → (n ≡ net) ⊎ (m ≡ net)
+pub one_of_two : (n w m v net width : ℕ) → Contains {X = ℕ × ℕ} ((n, w) ∷ (m, v) ∷ []) (net, width) → (n ≡ net) ⊎ (m ≡ net)
 one_of_two n w m v net width h = at h.0 h.1 h.2
   where
     at : (k : ℕ) → k < length {A = ℕ × ℕ} ((n, w) ∷ (m, v) ∷ []) → get_or {A = ℕ × ℕ} ((n, w) ∷ (m, v) ∷ []) k (net, width) ≡ (net, width) → (n ≡ net) ⊎ (m ≡ net)
@@ -74,10 +74,10 @@ same_dram_after cells h w v same dram addr (y ∷ xs) inside old new e =
     same_dram_after cells h w v same dram addr xs (λ x c. inside x (contains_tail _ x xs c)) old new e
 
 -- a unit's number is below their count
-below_units : (cells before : List PlainCell) (x : PlainCell) (after : List PlainCell) (channel : ℕ) → cells ≡ before ++ x ∷ after → is_unit x ≡ true → channel ≡ count_by is_unit before → channel < count_by is_unit cells
+pub below_units : (cells before : List PlainCell) (x : PlainCell) (after : List PlainCell) (channel : ℕ) → cells ≡ before ++ x ∷ after → is_unit x ≡ true → channel ≡ count_by is_unit before → channel < count_by is_unit cells
 below_units cells before x after channel e is c = omega (arith, count-split is_unit cells before x after e is)
 
-module _ (g : Setting) (h : IsNetlist g.cells) (s u : Signals) (rs : IsRun g s) (ru : IsRun g u) where
+module _ (g : Setting) (h : IsNetlist g.cells) (s u : Signals) where
   -- the same cells ask
   cell_asks_same : (k : ℕ) → SameAt g.cells s u k → (before : List PlainCell) (x : PlainCell) (after : List PlainCell) → g.cells ≡ before ++ x ∷ after → IsRight g.cells before x → cell_asks s k x ≡ cell_asks u k x
   cell_asks_same k p before (load_unit channel dram ready net request last addr) after e r =
@@ -94,18 +94,19 @@ module _ (g : Setting) (h : IsNetlist g.cells) (s u : Signals) (rs : IsRun g s) 
       cc
   cell_asks_same k p before _ after e r = refl
 
-  asking_same : (k : ℕ) → SameAt g.cells s u k → (x : PlainCell) → Contains g.cells x → cell_asks s k x ≡ cell_asks u k x
+  pub asking_same : (k : ℕ) → SameAt g.cells s u k → (x : PlainCell) → Contains g.cells x → cell_asks s k x ≡ cell_asks u k x
   asking_same k p x c = go (split_of g.cells x c)
     where
       go : Split g.cells x → cell_asks s k x ≡ cell_asks u k x
       go d = cell_asks_same k p d.before x d.after d.is (h.right d.before x d.after d.is)
 
-  delay_same : (k : ℕ) → SameAt g.cells s u k → (before : List PlainCell) (x : PlainCell) (after : List PlainCell) → g.cells ≡ before ++ x ∷ after → delay_of g s k before ≡ delay_of g u k before
+  pub delay_same : (k : ℕ) → SameAt g.cells s u k → (before : List PlainCell) (x : PlainCell) (after : List PlainCell) → g.cells ≡ before ++ x ∷ after → delay_of g s k before ≡ delay_of g u k before
   delay_same k p before x after e =
       let count = same_count (cell_asks s k) (cell_asks u k) before (λ y c. asking_same k p y (subst (λ zs. Contains zs y) (sym e) (Contains-append_left before (x ∷ after) y c))) in
       let a = p.asked in
       ap (λ n. slice_index g.delays n) (omega arith)
 
+module _ (g : Setting) (h : IsNetlist g.cells) (s u : Signals) (rs : IsRun g s) (ru : IsRun g u) where
   channel_same : (t : ℕ) → Prior g.cells s u t → (before : List PlainCell) (x : PlainCell) (after : List PlainCell) → g.cells ≡ before ++ x ∷ after
       → (channel ready request last : ℕ) → channel < count_by is_unit g.cells
       → Contains (driven_nets g.cells) (request, 1) → Contains (driven_nets g.cells) (last, 1)
@@ -115,7 +116,7 @@ module _ (g : Setting) (h : IsNetlist g.cells) (s u : Signals) (rs : IsRun g s) 
       let e1 = p.phases channel l in
       let e2 = p.nets request 1 d1 in
       let e3 = p.nets last 1 d2 in
-      let e4 = delay_same k p before x after e in
+      let e4 = delay_same g h s u k p before x after e in
       let step : next_phase (s.phase k channel) (s.net k request) (s.net k last) (delay_of g s k before) ≡ next_phase (u.phase k channel) (u.net k request) (u.net k last) (delay_of g u k before) = cc in
       os.goes_on k ∙ step ∙ sym (ou.goes_on k)
 
@@ -179,7 +180,7 @@ module _ (g : Setting) (h : IsNetlist g.cells) (s u : Signals) (rs : IsRun g s) 
   asked_same : (t : ℕ) → Prior g.cells s u t → s.asked t ≡ u.asked t
   asked_same zero p = rs.asked_first ∙ sym ru.asked_first
   asked_same (suc k) p =
-      let count = same_count (cell_asks s k) (cell_asks u k) g.cells (asking_same k p) in
+      let count = same_count (cell_asks s k) (cell_asks u k) g.cells (asking_same g h s u k p) in
       let a = p.asked in
       omega (arith, rs.asked_next k, ru.asked_next k)
 

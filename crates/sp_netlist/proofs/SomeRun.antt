@@ -5,8 +5,9 @@ use Rattle.sp_netlist.specs.Cells.{PlainCell, in_cell, out_cell, done_cell, cons
 use Rattle.sp_netlist.specs.Rules.{drives, reads, dram_width, is_computed, IsNetlist}
 use Rattle.sp_netlist.specs.Signals.{Setting, Signals, shift_word, ready_word, next_phase, delay_of, RunsChannel, Obeys, IsRun}
 use Rattle.sp_words.specs.Words.{word_not, word_cast}
+use Rattle.sp_netlist.specs.Parts.{stands_for_bank, stands_for_dram, stands_for_channel}
 use Rattle.sp_netlist.proofs.Splits.{Split, count-cons_yes, piece_count}
-use Rattle.sp_netlist.proofs.Machine.{Kept, found, look_up, found_split, is_net, drives_net, stands_for_bank, stands_for_dram, stands_for_channel, cell_word, found_word, settle, first_word, next_word, next_bank, next_dram, phase_after, words_of, kept_at, machine, at_once}
+use Rattle.sp_netlist.proofs.Machine.{Kept, found, look_up, found_split, is_net, drives_net, cell_word, found_word, settle, first_word, next_word, next_bank, next_dram, phase_after, words_of, kept_at, machine, at_once}
 use Rattle.sp_netlist.proofs.Drivers.{Driver, net_once, bank_once, dram_once, channel_once, driver_drives, operand_driver, feeds}
 
 -- a cell's word is the same where its operands are, if it is computed

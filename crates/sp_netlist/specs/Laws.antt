@@ -3,8 +3,8 @@ use Rattle.std.specs.Prelude.{◌≡◌, ℕ, ◌≤◌, List}
 use Rattle.sp_netlist.specs.declared.cell.Port.{Port}
 use Rattle.sp_netlist.specs.Cells.{PlainCell}
 use Rattle.sp_netlist.specs.Rules.{IsNetlist, Leads}
-use Rattle.sp_netlist.specs.Signals.{Setting}
-use Rattle.sp_netlist.specs.Cycle.{OneRun, Ending, done_in, conflict_in, Ends}
+use Rattle.sp_netlist.specs.Signals.{Setting, Signals, IsRun}
+use Rattle.sp_netlist.specs.Cycle.{OneRun, Ending, done_in, conflict_in, EndsAs, Ends}
 
 -- every netlist, however it is set up, has exactly one run
 abbrev pub HasOneRun : Type 0
@@ -14,6 +14,8 @@ HasOneRun = (g : Setting) → IsNetlist g.cells → OneRun g
 pub record OneEnding (g : Setting) (last : ℕ) : Type 0 where
   pub some_ending : (ending : Ending) × Ends g last ending
   pub same_ending : (a b : Ending) → Ends g last a → Ends g last b → a ≡ b
+  -- one run tells it
+  pub of_run : (s : Signals) (ending : Ending) → IsRun g s → EndsAs g s last ending → Ends g last ending
 
 abbrev pub HasOneEnding : Type 0
 HasOneEnding = (g : Setting) → IsNetlist g.cells → (last : ℕ) → OneEnding g last

@@ -1,8 +1,9 @@
 //! A builder of netlists in which no loop can stand.
-ghost use Rattle.std.specs.Prelude.{◌≡◌, ◌++◌, ◌∷◌, [], length, IfOk, OnOk, OnErr};
-ghost use Rattle.sp_netlist.specs.Rules.{IsWidth};
+ghost use Rattle.std.specs.Prelude.{◌≡◌, ◌≢◌, ℕ, ◌+◌, ◌++◌, ◌∷◌, [], length, slice_get, IfOk, OnOk, OnErr};
+ghost use Rattle.std.specs.List.{AllByRecursion as Each};
+ghost use Rattle.sp_netlist.specs.Rules.{IsWidth, drives};
 ghost use Rattle.sp_netlist.specs.Cells.{plain_cell};
-ghost use Rattle.sp_netlist.specs.Draft.{CanAdd, IsComplete, IsDraft};
+ghost use Rattle.sp_netlist.specs.Draft.{CanAdd, Declares, IsComplete, IsDraft, Keeps, driver_count, net_count};
 
 use crate::cell::{Cell, NetId};
 use crate::netlist::Netlist;
@@ -55,7 +56,11 @@ impl Builder {
         requires { IsWidth width }
         ensures net { IfOk result (λ net. net ≡ length self.old.promised) }
         ensures promised { OnOk result (self.new.promised ≡ self.old.promised ++ (width, kept) ∷ []) }
+        ensures one_more { OnOk result (length self.new.promised ≡ length self.old.promised + 1) }
+        ensures as_promised { IfOk result (λ net. slice_get self.new.promised net ≡ Some (width, kept)) }
         ensures same_cells { self.new.cells ≡ self.old.cells }
+        ensures keeps { Keeps self.old self.new }
+        ensures not_driven { IfOk result (λ net. driver_count self.new.cells net ≡ 0) }
         ensures draft { IsDraft self.new }
         ensures unchanged { OnErr result (self.new ≡ self.old) }
     {
@@ -68,6 +73,11 @@ impl Builder {
     pub fn add(&mut self, cell: Cell) -> Result<(), NoMemory>
         requires { CanAdd self.old (plain_cell cell) }
         ensures added { OnOk result (self.new.cells ≡ self.old.cells ++ plain_cell cell ∷ []) }
+        ensures declared { OnOk result (Declares self.new.cells (plain_cell cell)) }
+        ensures driven { OnOk result (Each (λ p. driver_count self.new.cells p.0 ≡ 1) (drives self.old.cells (plain_cell cell))) }
+        ensures drivers { OnOk result ((net : ℕ) → driver_count self.new.cells net ≡ driver_count self.old.cells net + net_count (drives self.old.cells (plain_cell cell)) net) }
+        ensures not_driven { OnOk result ((net : ℕ) → driver_count self.old.cells net ≡ 0 → Each (λ p. p.0 ≢ net) (drives self.old.cells (plain_cell cell)) → driver_count self.new.cells net ≡ 0) }
+        ensures keeps { Keeps self.old self.new }
         ensures same_nets { self.new.promised ≡ self.old.promised }
         ensures draft { IsDraft self.new }
         ensures unchanged { OnErr result (self.new ≡ self.old) }
