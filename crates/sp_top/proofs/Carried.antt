@@ -12,12 +12,12 @@ use Rattle.sp_top.specs.declared.straight.program.Statement.{Statement}
 use Rattle.sp_top.specs.Straight.{PlainProgram, IsSound}
 use Rattle.sp_top.specs.Meaning.{meaning, run_statements, ended}
 use Rattle.sp_top.specs.Carries.{Carries, limit, unit_count, greatest_delay}
-use Rattle.sp_top.specs.StraightCells.{arg_cells, statement_nets, statement_cells, writers, result_cells, done_cells, straight_cells, all_writers, result_nets, one_net, done_net}
+use Rattle.sp_top.specs.StraightCells.{arg_cells, statement_nets, statement_cells, writers, result_cells, done_cells, straight_cells, all_writers}
 use Rattle.sp_top.proofs.Runs.{AllObey, all_obey, first_obeys, rest_obey, left_obey, right_obey, arg_words, statement_words, result_words, word_of}
-use Rattle.sp_top.proofs.Shape.{outs_shown, over_at, no_drams, no_taps, in_ports, out_ports, dram_ports}
+use Rattle.sp_top.proofs.Shape.{result_nets, one_net, done_net, outs_shown, over_at, no_drams, no_taps, in_ports, out_ports, dram_ports}
 
 -- each result has one writer at most
-length-writers : (next : ℕ) (statements : List Statement) (nets : List (Option ℕ)) → length (writers next statements nets) ≡ length nets
+pub length-writers : (next : ℕ) (statements : List Statement) (nets : List (Option ℕ)) → length (writers next statements nets) ≡ length nets
 length-writers next [] nets = refl
 length-writers next (statement ∷ rest) nets = length-writers (next + statement_nets statement) rest _ ∙ length-set nets statement.out _
 

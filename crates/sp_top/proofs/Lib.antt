@@ -14,3 +14,7 @@ pub mod StopLemmas
 pub mod SoundLemmas
 pub mod DeclareLemmas
 pub mod LawLemmas
+pub mod Drafts
+pub mod Loops
+pub mod EndLoops
+pub mod Ends

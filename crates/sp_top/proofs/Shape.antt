@@ -1,8 +1,11 @@
 -- What stands at the ends of a straight-line program's cells: which of them are ports, tell that all is done,
 -- stand at a bank or have a DRAM.
-use Rattle.std.proofs.Common.{◌≡◌, ℕ, ◌+◌, List, [], ◌∷◌, ◌++◌, Bool, false, cond, ◌||◌, ◌==◌, length, map, refl, ap, ◌∙◌, count_by, filter_map, zero-add, arith, Option}
-use Rattle.std.proofs.lemmas.List.Sums.{sum_by-cons}
+use Rattle.std.proofs.Common.{◌≡◌, ℕ, ◌+◌, List, [], ◌∷◌, ◌++◌, Bool, false, cond, ◌||◌, ◌==◌, length, map, refl, ap, ◌∙◌, count_by, filter_map, zero-add, arith, sum_by, sym, append-nil, Option}
+use Rattle.std.proofs.lemmas.List.Sums.{sum_by-cons, sum_by-append}
+use Rattle.std.proofs.lemmas.List.Elements.{filter_map-append}
+use Rattle.sp_netlist.specs.Rules.{is_done, out_name}
 use Rattle.std.proofs.lemmas.List.FromFn.{length-range_with_len}
+use Rattle.std.specs.List.{range_with_len}
 use Rattle.sp_words.specs.declared.types.Ty.{Ty}
 use Rattle.sp_words.specs.Types.{int_type}
 use Rattle.sp_netlist.specs.declared.cell.CellOp.{CellOp}
@@ -18,7 +21,17 @@ use Rattle.sp_top.specs.declared.straight.program.Value.TheVariants.{One, Two}
 use Rattle.sp_top.specs.declared.straight.program.Statement.{Statement}
 use Rattle.sp_top.specs.Straight.{PlainProgram}
 use Rattle.sp_top.specs.Carries.{int_port}
-use Rattle.sp_top.specs.StraightCells.{arg_cells, atom_nets, atom_cells, value_cells, statement_nets, statement_cells, writers, result_cells, done_cells, out_cells, straight_cells, all_writers, result_nets, one_net, done_net}
+use Rattle.sp_top.specs.StraightCells.{arg_cells, atom_nets, atom_cells, value_cells, statement_nets, statement_cells, writers, result_cells, done_cells, out_cells, straight_cells, all_writers}
+
+-- the nets of the results, the one that is always 1, and the done net
+abbrev pub result_nets : PlainProgram → List ℕ
+result_nets p = range_with_len (length p.args + sum_by statement_nets p.statements) (length p.outs)
+
+abbrev pub one_net : PlainProgram → ℕ
+one_net p = length p.args + sum_by statement_nets p.statements + length p.outs
+
+abbrev pub done_net : PlainProgram → ℕ
+done_net p = one_net p + 1
 
 -- cells that are seen through the nets that they drive alone
 pub data IsInner : PlainCell → Type 0 where
@@ -70,6 +83,49 @@ past_outs : {X : Type 0} (f : List PlainCell → X) → ((name : List ℕ) (net 
 past_outs f step [] names ys = refl
 past_outs f step (net ∷ nets) [] ys = refl
 past_outs f step (net ∷ nets) (name ∷ names) ys = step name net (out_cells nets names ++ ys) ∙ past_outs f step nets names ys
+
+alone_inner : {X : Type 0} (f : List PlainCell → X) → ((cell : PlainCell) (cells : List PlainCell) → IsInner cell → f (cell ∷ cells) ≡ f cells) → (xs : List PlainCell) → AllInner xs → f xs ≡ f []
+alone_inner f step [] no_cell = refl
+alone_inner f step (x ∷ xs) (one_cell h hs) = step x xs h ∙ alone_inner f step xs hs
+
+-- inner cells are no outputs, and don't tell that all is done
+out_past_inner : (cell : PlainCell) (cells : List PlainCell) → IsInner cell → filter_map out_name (cell ∷ cells) ≡ filter_map out_name cells
+out_past_inner _ cells inner_const = refl
+out_past_inner _ cells inner_op = refl
+out_past_inner _ cells inner_reg = refl
+
+done_past : (cell : PlainCell) (cells : List PlainCell) → is_done cell ≡ false → count_by is_done (cell ∷ cells) ≡ count_by is_done cells
+done_past cell cells e = sum_by-cons (λ c. cond (is_done c) 1 0) cell cells ∙ ap (λ (b : Bool). cond b 1 0 + count_by is_done cells) e ∙ zero-add (count_by is_done cells)
+
+done_past_inner : (cell : PlainCell) (cells : List PlainCell) → IsInner cell → count_by is_done (cell ∷ cells) ≡ count_by is_done cells
+done_past_inner _ cells (inner_const {net} {width} {word}) = done_past (const_cell net width word) cells refl
+done_past_inner _ cells (inner_op {net} {ty} {op} {a} {b}) = done_past (op_cell net ty op a b) cells refl
+done_past_inner _ cells (inner_reg {net} {width} {first} {next} {enable}) = done_past (reg_cell net width first next enable) cells refl
+
+pub no_outs_begun : (names : List (List ℕ)) (next : ℕ) (statements : List Statement) → filter_map out_name (arg_cells 0 names ++ statement_cells next statements) ≡ []
+no_outs_begun names next statements =
+    past_args (filter_map out_name) (λ name net cells. refl) 0 names (statement_cells next statements) ∙ alone_inner (filter_map out_name) out_past_inner (statement_cells next statements) (inner_statements next statements)
+
+pub not_done_begun : (names : List (List ℕ)) (next : ℕ) (statements : List Statement) → count_by is_done (arg_cells 0 names ++ statement_cells next statements) ≡ 0
+not_done_begun names next statements =
+    past_args (count_by is_done) (λ name net cells. done_past (in_cell name net int_type) cells refl) 0 names (statement_cells next statements)
+    ∙ alone_inner (count_by is_done) done_past_inner (statement_cells next statements) (inner_statements next statements)
+
+pub no_outs_ended : (cells : List PlainCell) (one done : ℕ) (nets : List ℕ) (writers : List (Option ℕ)) → filter_map out_name cells ≡ [] → filter_map out_name (cells ++ result_cells one nets writers ++ done_cells one done) ≡ []
+no_outs_ended cells one done nets writers none =
+    filter_map-append out_name (cells ++ result_cells one nets writers) (done_cells one done)
+    ∙ rw (filter_map-append out_name cells (result_cells one nets writers), none) (alone_inner (λ xs. filter_map out_name xs ++ []) (λ cell xs h. ap (λ ys. ys ++ []) (out_past_inner cell xs h)) (result_cells one nets writers) (inner_results one nets writers))
+
+pub not_done_ended : (cells : List PlainCell) (one done : ℕ) (nets : List ℕ) (writers : List (Option ℕ)) (names : List (List ℕ)) → count_by is_done cells ≡ 0
+    → count_by is_done (cells ++ result_cells one nets writers ++ done_cells one done ++ out_cells nets names) ≡ 0
+not_done_ended cells one done nets writers names none =
+    let outs : count_by is_done (out_cells nets names) ≡ 0 = ap (count_by is_done) (sym (append-nil (out_cells nets names))) ∙ past_outs (count_by is_done) (λ name net more. done_past (out_cell name net int_type) more refl) nets names [] in
+    let results = alone_inner (count_by is_done) done_past_inner (result_cells one nets writers) (inner_results one nets writers) in
+    let dones = alone_inner (count_by is_done) done_past_inner (done_cells one done) (inner_done one done) in
+    let a = sum_by-append (λ c. cond (is_done c) 1 0) (cells ++ result_cells one nets writers ++ done_cells one done) (out_cells nets names) in
+    let b = sum_by-append (λ c. cond (is_done c) 1 0) (cells ++ result_cells one nets writers) (done_cells one done) in
+    let c = sum_by-append (λ c. cond (is_done c) 1 0) cells (result_cells one nets writers) in
+    omega (arith, none, outs, results, dones, a, b, c)
 
 -- how many enabled taps stand on a port
 abbrev taps : (ℕ → ℕ) → Port → ℕ → List PlainCell → ℕ
@@ -167,6 +223,7 @@ module _ (p : PlainProgram) where
       over_inner _ cells inner_const = refl
       over_inner _ cells inner_op = refl
       over_inner _ cells inner_reg = refl
+
       outs : (nets : List ℕ) (names : List (List ℕ)) → length nets ≡ length names → filter_map out_port (out_cells nets names ++ done_cell (done_net p) ∷ []) ≡ map int_port names
       outs [] [] e = refl
       outs [] (name ∷ names) e = absurd (omega arith)
@@ -180,3 +237,9 @@ module _ (p : PlainProgram) where
       over_inner _ cells inner_const = refl
       over_inner _ cells inner_op = refl
       over_inner _ cells inner_reg = refl
+
+  -- one cell tells that all is done
+  pub one_done : count_by is_done (straight_cells p) ≡ 1
+  one_done =
+      past_front (count_by is_done) (λ name net cells. done_past (in_cell name net int_type) cells refl) done_past_inner
+      ∙ past_outs (count_by is_done) (λ name net cells. done_past (out_cell name net int_type) cells refl) (result_nets p) p.outs (done_cell (done_net p) ∷ [])

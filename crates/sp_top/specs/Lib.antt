@@ -8,3 +8,4 @@ pub mod Said
 pub mod Record
 pub mod StraightCells
 pub mod Reading
+pub mod StraightDraft

@@ -84,15 +84,12 @@ out_cells [] names = []
 out_cells (net ∷ nets) [] = []
 out_cells (net ∷ nets) (name ∷ names) = out_cell name net int_type ∷ out_cells nets names
 
--- the nets of the results, the one that is always 1, and the done net
-abbrev pub result_nets : PlainProgram → List ℕ
-result_nets p = range_with_len (length p.args + sum_by statement_nets p.statements) (length p.outs)
-
-abbrev pub one_net : PlainProgram → ℕ
-one_net p = length p.args + sum_by statement_nets p.statements + length p.outs
-
-abbrev pub done_net : PlainProgram → ℕ
-done_net p = one_net p + 1
+-- the cells after those of the statements, whose own nets begin at `first`
+abbrev pub end_cells : ℕ → List (List ℕ) → List (Option ℕ) → List PlainCell
+end_cells first names writers =
+    result_cells (first + length names) (range_with_len first (length names)) writers
+    ++ (done_cells (first + length names) (first + length names + 1)
+    ++ (out_cells (range_with_len first (length names)) names ++ done_cell (first + length names + 1) ∷ []))
 
 -- for each result, the net that it takes in cycle 0
 abbrev pub all_writers : PlainProgram → List (Option ℕ)
@@ -101,5 +98,4 @@ all_writers p = writers (length p.args) p.statements (replicate (length p.outs) 
 abbrev pub straight_cells : PlainProgram → List PlainCell
 straight_cells p =
     arg_cells 0 p.args ++ (statement_cells (length p.args) p.statements
-    ++ (result_cells (one_net p) (result_nets p) (all_writers p)
-    ++ (done_cells (one_net p) (done_net p) ++ (out_cells (result_nets p) p.outs ++ done_cell (done_net p) ∷ []))))
+    ++ end_cells (length p.args + sum_by statement_nets p.statements) p.outs (all_writers p))

@@ -2,6 +2,7 @@
 
 pub mod laws;
 mod lines;
+pub mod lower;
 mod names;
 pub mod parse;
 pub mod program;

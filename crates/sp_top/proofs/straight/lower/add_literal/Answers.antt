@@ -1,0 +1,15 @@
+use Rattle.std.proofs.Common.{[], true, lit≤}
+use Rattle.sp_top.proofs.Drafts.{next_net, can_const, awaits_add}
+use Rattle.sp_top.proofs.straight.lower.add_literal.Goals as goal
+
+pub add-requires : goal.add-requires
+add-requires c =
+    let e = c.in_ok-net.ensures in
+    let next = next_net c.args.builder.now c.promise.new.self [] c.in_ok-net.net 32 true c.requires.full e.net e.promised e.same_cells e.draft in
+    can_const c.promise.new.self c.in_ok-net.net 32 c.from.result [] next.awaits next.promised (lit≤ tt, lit≤ tt) (rw c.from.ensures c.ranges.word.fits)
+
+pub returns-clause-full : goal.returns-clause-full
+returns-clause-full c =
+    let e = c.in_ok-net.ensures in
+    let next = next_net c.args.builder.now c.promise.new.self [] c.in_ok-net.net 32 true c.requires.full e.net e.promised e.same_cells e.draft in
+    awaits_add c.promise.new.self c.add.new.self c.in_ok-net.net 32 [] next.awaits c.in_ok-add.ensures.same_nets c.in_ok-add.ensures.drivers c.in_ok-add.ensures.draft
