@@ -18,3 +18,4 @@ pub mod Drafts
 pub mod Loops
 pub mod EndLoops
 pub mod Ends
+pub mod CompleteLemmas

@@ -86,3 +86,10 @@ MayEnd said told (write_fault which) out aside = ⊥
 MayEnd said told memory out aside = (out ≡ line_of memory) × (aside ≡ [])
 MayEnd said told status out aside =
     (command : Command) × IsCommand said command × MayRefuse told command status × (out ≡ line_of status) × (aside ≡ [])
+
+-- the call wasn't refused for its words, its input or its text
+abbrev pub NotRefused : PlainStatus → Type 0
+NotRefused done = Unit {0}
+NotRefused memory = Unit {0}
+NotRefused (write_fault which) = Unit {0}
+NotRefused status = ⊥

@@ -1,8 +1,11 @@
 //! The top call.
-ghost use Rattle.std.specs.Prelude.{◌≡◌, map, string_bytes, IfOk, IfErr};
+ghost use Rattle.std.specs.Prelude.{◌≡◌, ◌≤◌, ℕ, List, length, map, string_bytes, IfOk, IfErr};
 ghost use Rattle.sp_edges.specs.Counts.{Rose};
 ghost use Rattle.sp_top.specs.Status.{plain_status, read_fault};
-ghost use Rattle.sp_top.specs.Commands.{IsCommand, AsksFor, DoneTexts, MayRefuse, MayEnd};
+ghost use Rattle.sp_edges.specs.Standing.{Holds};
+ghost use Rattle.sp_top.specs.Form.{Line, IsStraight};
+ghost use Rattle.sp_top.specs.Commands.{IsCommand, AsksFor, DoneTexts, MayRefuse, MayEnd, NotRefused, longest_program};
+ghost use Rattle.sp_top.specs.Commands as commands;
 ghost use Rattle.sp_top.specs.Said.{plain_command};
 ghost use Rattle.sp_top.specs.Record.{Records};
 
@@ -41,7 +44,10 @@ pub fn spatialc<I: Inputs, K: Sink, A: Sink>(
         (plain_status result) }
     // A name can't be read only where reading failed in this call, for a name that wasn't sure.
     ensures read_fault { plain_status result ≡ read_fault → Rose (I.faults inputs.old) (I.faults inputs.new)
-        × (command : _) × IsCommand (map string_bytes words.now) command × (name : _) × AsksFor command name × (I.sure inputs.old name → ⊥) }
+        × (command : commands.Command) × IsCommand (map string_bytes words.now) command × (name : List ℕ) × AsksFor command name × (I.sure inputs.old name → ⊥) }
+    // A program of the form under a sure name isn't refused.
+    ensures complete { (program bytes : List ℕ) (lines : List Line) → IsCommand (map string_bytes words.now) (commands.compile program) → I.sure inputs.old program
+        → I.told inputs.old program ≡ Holds bytes → length bytes ≤ longest_program → IsStraight bytes lines → NotRefused (plain_status result) }
 {
     let Some(command) = command_of(words) else {
         return refuse(alloc, out, Status::Words);
