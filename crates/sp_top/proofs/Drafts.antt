@@ -4,13 +4,17 @@ use Rattle.std.proofs.lemmas.Bool.{eq-eqb}
 use Rattle.std.proofs.lemmas.Bool.Decides.{nat_tests}
 use Rattle.std.proofs.lemmas.List.Sums.{sum_by-append, sum_by-cons}
 use Rattle.sp_words.specs.Types.{int_type}
-use Rattle.sp_netlist.specs.Cells.{in_cell, out_cell, done_cell, const_cell, op_cell, reg_cell}
+use Rattle.sp_netlist.specs.Cells.{PlainCell, in_cell, out_cell, done_cell, const_cell, op_cell, reg_cell}
 use Rattle.sp_netlist.specs.Rules.{IsWidth, is_name, is_done, in_name, out_name, op_width}
-use Rattle.sp_netlist.specs.Draft.{Draft, DrivesMore, IsDraft, CanAdd, promised_width, driver_count}
+use Rattle.sp_netlist.specs.Draft.{Draft, IsDraft, CanAdd, promised_width, driver_count, net_count}
 use Rattle.sp_top.specs.declared.straight.program.Operator.{Operator}
 use Rattle.sp_top.specs.declared.straight.program.Operator.TheVariants.{Add, Sub, Mul}
 use Rattle.sp_top.specs.StraightCells.{cell_op}
 use Rattle.sp_top.specs.StraightDraft.{Awaits, IsInt, IsKeptInt}
+
+-- the new cells drive each net so much more often as it stands in this list
+abbrev pub DrivesMore : List PlainCell → List PlainCell → List (ℕ × ℕ) → Type 0
+DrivesMore old new nets = (net : ℕ) → driver_count new net ≡ driver_count old net + net_count nets net
 
 -- what is promised stays
 pub slice_get_grown : {X : Type 0} (xs ys : List X) (i : ℕ) (x : X) → slice_get xs i ≡ Some x → slice_get (xs ++ ys) i ≡ Some x
@@ -74,7 +78,7 @@ awaits_add d e net width nets h same more draft = record {
   once = λ n.
       let old = h.once n in
       let own = count_one net n nets in
-      let now = more.counts n in
+      let now = more n in
       let last : count_by (λ (p : ℕ × ℕ). p.0 == n) ((net, width) ∷ []) ≡ (if net == n then 1 else 0) + 0 = sum_by-cons (λ (p : ℕ × ℕ). cond (p.0 == n) 1 0) (net, width) [] in
       rw same (omega (arith, old, own, now, last));
 }
@@ -82,7 +86,7 @@ awaits_add d e net width nets h same more draft = record {
 pub awaits_none : (d e : Draft) (nets : List ℕ) → Awaits d nets → e.promised ≡ d.promised → DrivesMore d.cells e.cells [] → IsDraft e → Awaits e nets
 awaits_none d e nets h same more draft = record {
   draft = draft;
-  once = λ n. let old = h.once n in let now = more.counts n in rw same (omega (arith, old, now));
+  once = λ n. let old = h.once n in let now = more n in rw same (omega (arith, old, now));
 }
 
 pub can_const : (d : Draft) (net width word : ℕ) (nets : List ℕ) → Awaits d (net ∷ nets) → slice_get d.promised net ≡ Some (width, true) → IsWidth width → word < 2 ^ width → CanAdd d (const_cell net width word)

@@ -6,10 +6,10 @@ use Rattle.std.proofs.lemmas.List.Elements.{filter_map-append}
 use Rattle.sp_words.specs.Types.{int_type}
 use Rattle.sp_netlist.specs.Cells.{out_cell, reg_cell}
 use Rattle.sp_netlist.specs.Rules.{out_name}
-use Rattle.sp_netlist.specs.Draft.{Draft, DrivesMore, IsDraft, CanAdd}
+use Rattle.sp_netlist.specs.Draft.{Draft, IsDraft, CanAdd}
 use Rattle.sp_top.specs.StraightCells.{result_cells, out_cells}
 use Rattle.sp_top.specs.StraightDraft.{Awaits, IsInt, IsKeptInt, IsKeptBit, WriterIsMet}
-use Rattle.sp_top.proofs.Drafts.{awaits_promise, awaits_add, can_reg}
+use Rattle.sp_top.proofs.Drafts.{DrivesMore, awaits_promise, awaits_add, can_reg}
 
 range_suc : (a n : ℕ) → range_with_len a (suc n) ≡ range_with_len a n ++ (a + n) ∷ []
 range_suc a zero = ap (λ k. k ∷ []) (sym (add-zero a))
