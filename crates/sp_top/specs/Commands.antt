@@ -1,6 +1,6 @@
 -- The command table: which words are a command, what it asks for, how it may end, and what it then puts.
 use Rattle.std.specs.Prelude.{◌≡◌, ℕ, ◌+◌, ◌≤◌, List, [], ◌∷◌, length, codes}
-use Rattle.sp_edges.specs.Standing.{Standing, Untold, Missing, Holds, IsAllOf, BeginsWith}
+use Rattle.sp_edges.specs.Standing.{Standing, IsAllOf, BeginsWith}
 use Rattle.sp_netlist.specs.Cells.{PlainCell}
 use Rattle.sp_netlist.specs.Rules.{IsNetlist}
 use Rattle.sp_listing.specs.Text.{listing_text}

@@ -2,10 +2,8 @@
 use Rattle.std.specs.Prelude.{◌≡◌, ℕ, ◌<◌, ◌⊎◌, List, length, Option}
 use Rattle.sp_edges.specs.Counts.{Rose}
 use Rattle.sp_edges.specs.Gained.{Gained, GainedPart, GainedNothing}
-use Rattle.sp_edges.specs.Standing.{Standing}
-use Rattle.sp_top.specs.declared.status.SinkName.{SinkName}
 use Rattle.sp_top.specs.declared.status.SinkName.TheVariants.{Out, Aside}
-use Rattle.sp_top.specs.Status.{PlainStatus, done, words, read_fault, write_fault, memory, line_of}
+use Rattle.sp_top.specs.Status.{PlainStatus, done, write_fault, memory, line_of}
 
 -- a sink before and after a call: the bytes that it took, where it tells them; how often it failed; and the
 -- room that it was sure of before the call

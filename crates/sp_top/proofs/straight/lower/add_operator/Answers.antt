@@ -1,3 +1,4 @@
+use Rattle.sp_netlist.specs.Rules.{op_width}
 use Rattle.std.proofs.Common.{[], false}
 use Rattle.sp_top.proofs.Drafts.{next_net, can_op, awaits_add, slice_get_grown}
 use Rattle.sp_top.specs.StraightDraft.{IsKeptInt}
@@ -15,4 +16,4 @@ pub returns-clause-full : goal.returns-clause-full
 returns-clause-full c =
     let e = c.in_ok-net.ensures in
     let next = next_net c.args.builder.now c.promise.new.self [] c.in_ok-net.net 32 false c.requires.full e.net e.promised e.same_cells e.draft in
-    awaits_add c.promise.new.self c.add.new.self c.in_ok-net.net _ [] next.awaits c.in_ok-add.ensures.same_nets c.in_ok-add.ensures.drivers c.in_ok-add.ensures.draft
+    awaits_add c.promise.new.self c.add.new.self c.in_ok-net.net (op_width c.int.result c.cell_operator-kind.result) [] next.awaits c.in_ok-add.ensures.same_nets c.in_ok-add.ensures.drivers c.in_ok-add.ensures.draft
