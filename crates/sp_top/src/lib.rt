@@ -6,6 +6,8 @@ mod compile;
 mod sinks;
 mod status;
 mod straight;
+#[cfg(test)]
+mod tests;
 mod top;
 
 pub use status::{SinkName, Status};

@@ -28,6 +28,30 @@ fn texts_of<I: Inputs>(alloc: Global, command: Command<'_>, inputs: &mut I) -> R
     }
 }
 
+// Does what the words say.
+fn answer<I: Inputs, K: Sink, A: Sink>(
+    alloc: Global,
+    words: &[String],
+    inputs: &mut I,
+    out: &mut K,
+    aside: &mut A,
+) -> Status
+    ensures record { Records (MayEnd (map string_bytes words.now) (I.told inputs.old))
+        (record { before = K.taken out.old; after = K.taken out.new; faults_before = K.faults out.old; faults_after = K.faults out.new; room = K.sure_room out.old })
+        (record { before = A.taken aside.old; after = A.taken aside.new; faults_before = A.faults aside.old; faults_after = A.faults aside.new; room = A.sure_room aside.old })
+        (plain_status result) }
+    ensures read_fault { plain_status result ≡ read_fault → Rose (I.faults inputs.old) (I.faults inputs.new)
+        × (command : commands.Command) × IsCommand (map string_bytes words.now) command × (name : List ℕ) × AsksFor command name × (I.sure inputs.old name → ⊥) }
+{
+    let Some(command) = command_of(words) else {
+        return refuse(alloc, out, Status::Words);
+    };
+    match texts_of(alloc, command, inputs) {
+        Ok(texts) => deliver(&texts, out, aside),
+        Err(status) => refuse(alloc, out, status),
+    }
+}
+
 /// Does what the words say: reads by `inputs`, puts the command's texts on `aside` and on `out`, or the line
 /// of a refusal on `out`. The words are those after the program's name; `docs/commands.md` has the table.
 pub fn spatialc<I: Inputs, K: Sink, A: Sink>(
@@ -49,11 +73,5 @@ pub fn spatialc<I: Inputs, K: Sink, A: Sink>(
     ensures complete { (program bytes : List ℕ) (lines : List Line) → IsCommand (map string_bytes words.now) (commands.compile program) → I.sure inputs.old program
         → I.told inputs.old program ≡ Holds bytes → length bytes ≤ longest_program → IsStraight bytes lines → NotRefused (plain_status result) }
 {
-    let Some(command) = command_of(words) else {
-        return refuse(alloc, out, Status::Words);
-    };
-    match texts_of(alloc, command, inputs) {
-        Ok(texts) => deliver(&texts, out, aside),
-        Err(status) => refuse(alloc, out, status),
-    }
+    answer(alloc, words, inputs, out, aside)
 }
