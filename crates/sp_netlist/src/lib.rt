@@ -13,3 +13,4 @@ pub use builder::Builder;
 pub use cell::{Cell, CellOp, CellShift, NetId, Port};
 pub use netlist::Netlist;
 pub use parts::{Child, Ends, Wire};
+pub use std::alloc::AllocError as NoMemory;
