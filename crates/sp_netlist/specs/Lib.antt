@@ -4,3 +4,8 @@ pub mod Signals
 pub mod Cycle
 pub mod Draft
 pub mod Ports
+pub mod Laws
+pub mod Examples
+pub mod Parts
+pub mod PartExamples
+pub mod Channels

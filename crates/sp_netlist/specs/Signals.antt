@@ -117,8 +117,8 @@ pub record RunsChannel (g : Setting) (s : Signals) (before : List PlainCell) (ch
   pub goes_on : (t : ℕ) → s.phase (suc t) channel ≡ next_phase (s.phase t channel) (s.net t request) (s.net t last) (delay_of g s t before)
   pub shows : (t : ℕ) → s.net t ready ≡ ready_word (s.phase t channel)
 
--- The equations of a cell that stands after these cells. A bank or a DRAM has 0 at each place past its end,
--- so a read there gives 0 and a write there does nothing.
+-- The equations of a cell that stands after these cells. A bank has 0 at each place past its end, and so has a
+-- DRAM that is given as many words as it has, so a read there gives 0 and a write there does nothing.
 abbrev pub Obeys : Setting → Signals → List PlainCell → PlainCell → Type 0
 Obeys g s before (in_cell name net ty) = (t : ℕ) → s.net t net ≡ slice_index g.args (count_by is_in before)
 Obeys g s before (out_cell name net ty) = Unit {0}

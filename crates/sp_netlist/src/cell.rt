@@ -1,6 +1,9 @@
 //! The cells of a netlist.
 
+ghost use Rattle.std.specs.Prelude.{Some, decimal};
+
 use sp_words::Ty;
+use std::fmt;
 use std::marker::Model;
 
 /// The number of a net.
@@ -32,6 +35,16 @@ impl NetId {
         ensures { result ≡ self.now }
     {
         self.0
+    }
+}
+
+/// Prints the number.
+impl fmt::Display for NetId {
+    ghost output = { λ net. Some (decimal net) };
+
+    fn fmt<W: fmt::Write>(&self, f: &mut fmt::Formatter<W>) -> fmt::Result {
+        let number = self.number();
+        write!(f, "{number}")
     }
 }
 

@@ -4,6 +4,7 @@
 
 mod builder;
 mod cell;
+mod laws;
 mod netlist;
 mod parts;
 #[cfg(test)]
@@ -11,6 +12,10 @@ mod tests;
 
 pub use builder::Builder;
 pub use cell::{Cell, CellOp, CellShift, NetId, Port};
+pub use laws::{
+    channel_serves, ending_kept, example_endings, locality, no_loop, one_ending, one_run,
+    part_examples,
+};
 pub use netlist::Netlist;
 pub use parts::{Child, Ends, Wire};
 pub use std::alloc::AllocError as NoMemory;

@@ -3,7 +3,7 @@ use Rattle.std.proofs.Common.{subst, ◌≡◌, ℕ, zero, suc, ◌+◌, ◌-◌
 use Rattle.std.specs.Prelude.{ℤ, pos, negsuc, ◌+ℤ◌, ◌-ℤ◌, ◌*ℤ◌, neg_ℤ, unsigned_abs}
 use Rattle.std.specs.Int.{int_rem_euclid}
 use Rattle.std.proofs.lemmas.Int.{int_rem_euclid_is, ints}
-use Rattle.std.proofs.lemmas.Nat.{pow-add, mod-pow-add, pow_pos, mod_below, field_of, shr_high, mul-mod}
+use Rattle.std.proofs.lemmas.Nat.{mul-mod_second, pow-add, mod-pow-add, pow_pos, mod_below, field_of, shr_high, mul-mod}
 use Rattle.std.proofs.Math.Nat.{add-mod, div-add-mod', mul-pos, dvd-mul_left, mod-mod_of_dvd, add-mul-mod_self_right}
 use borrow.Author.Differences.{up, down}
 use Rattle.sp_words.specs.WholeNumbers.{modulo, floor_div}
@@ -104,6 +104,10 @@ lift-mul (negsuc a) (negsuc b) (suc j) h =
 pub modulo-mul : (x y : ℤ) (m : ℕ) → 0 < m → modulo (x *ℤ y) m ≡ (modulo x m * modulo y m) % m
 modulo-mul x y m h =
     sym (lift-mul x y m h) ∙ rw (modulo-lift x m h, modulo-lift y m h) (mul-mod (lift x m) (lift y m) m)
+
+pub modulo-mul-pos : (x : ℤ) (n m : ℕ) → 0 < m → modulo (x *ℤ pos n) m ≡ (modulo x m * n) % m
+unfolding modulo
+modulo-mul-pos x n m h = modulo-mul x (pos n) m h ∙ mul-mod_second (modulo x m) n m
 
 complement : (q s t u : ℕ) → (q + suc t - 1 - q) * (s + suc u) + (s + suc u - 1 - s) ≡ (q + suc t) * (s + suc u) - 1 - (q * (s + suc u) + s)
 complement q s t u =

@@ -1,4 +1,5 @@
 pub mod Interface
+pub mod Laws
 pub mod Types
 pub mod WholeNumbers
 pub mod Words

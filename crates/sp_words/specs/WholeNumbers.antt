@@ -1,6 +1,6 @@
 -- Division of whole numbers with a sign, in the three ways that the operators on words need.
 -- `pos n` is n and `negsuc n` is -(n + 1).
-use Rattle.std.specs.Prelude.{ℕ, zero, suc, ◌-◌, ◌/◌, ◌%◌, ℤ, pos, negsuc, int_div, int_rem}
+use Rattle.std.specs.Prelude.{ℕ, zero, suc, ◌-◌, ◌/◌, ◌%◌, ℤ, pos, negsuc, int_div, int_rem, neg_ℤ, Bool, true, false}
 
 -- z modulo m: the number from 0 to m - 1 that differs from z by a multiple of m
 unfoldable pub modulo : ℤ → ℕ → ℕ
@@ -23,3 +23,8 @@ unfoldable pub remainder : ℤ → ℤ → ℤ
 remainder z (pos zero) = z
 remainder z (pos (suc n)) = int_rem z (pos (suc n))
 remainder z (negsuc n) = int_rem z (negsuc n)
+
+-- n, or -n where the flag is set
+abbrev pub with_sign : Bool → ℕ → ℤ
+with_sign false n = pos n
+with_sign true n = neg_ℤ (pos n)

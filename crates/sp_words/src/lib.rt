@@ -2,11 +2,18 @@
 #![tactic(auto)]
 
 mod interface;
+mod laws;
 mod operators;
+#[cfg(test)]
+mod tests;
 mod types;
 mod words;
 
 pub use interface::{Input, Output, PortDecl, Ports, fits};
-pub use operators::{add, mul, sub};
+pub use laws::{
+    divisions_leave_remainders, operators_associate, operators_commute, operators_give_words,
+    parts_make_the_type, values_are_a_range, wrapping_is_kept,
+};
+pub use operators::{add, and, cast, div, eq, lt, max, min, mul, not, or, rem, shl, shr, sub, xor};
 pub use types::{FixTy, Ty};
 pub use words::is_word;

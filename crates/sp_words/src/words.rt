@@ -1,7 +1,7 @@
 ghost use Rattle.std.specs.Prelude.{◌≡◌, ◌+◌, ◌%◌, ◌^◌, ◌↔◌, IsTrue};
 ghost use Rattle.sp_words.specs.Types.{width_of};
-ghost use Rattle.sp_words.specs.WholeNumbers.{modulo};
-ghost use Rattle.sp_words.specs.Words.{IsWord, has_sign, value_of};
+ghost use Rattle.sp_words.specs.WholeNumbers.{modulo, with_sign};
+ghost use Rattle.sp_words.specs.Words.{IsWord, has_sign, value_of, wrap};
 
 use crate::types::Ty;
 
@@ -43,4 +43,30 @@ pub fn extended(ty: Ty, word: u64) -> u128
     } else {
         u128::from(word)
     }
+}
+
+/// What the word stands for.
+pub fn value(ty: Ty, word: u64) -> i128
+    requires { IsWord ty word }
+    ensures { result ≡ value_of ty word }
+{
+    if is_negative(ty, word) {
+        i128::from(word) - i128::from(mask(ty)) - 1
+    } else {
+        i128::from(word)
+    }
+}
+
+/// The word of the number with this sign and absolute value.
+pub fn word_of(ty: Ty, negative: bool, magnitude: u128) -> u64
+    ensures { result ≡ wrap ty (with_sign negative magnitude) }
+{
+    low_bits(
+        ty,
+        if negative {
+            magnitude.wrapping_neg()
+        } else {
+            magnitude
+        },
+    )
 }

@@ -1,7 +1,7 @@
 use Rattle.std.proofs.Common.{subst, sym, ℕ, length, rules, ◌≡◌, true, length-append}
+use Rattle.std.specs.Global.{Vec}
 use Rattle.std.proofs.lemmas.Slice.Zip.{zip_turn}
 use Rattle.sp_words.specs.declared.interface.PortDecl.{PortDecl}
-use Rattle.std.specs.Global.{Vec}
 use Rattle.sp_words.specs.Interface.{DramFits}
 use Rattle.sp_words.proofs.InterfaceLemmas.{lengths_agree, zip_more, zip_not}
 use Rattle.sp_words.proofs.interface.drams_fit.Goals as goal

@@ -1,5 +1,5 @@
-use Rattle.sp_words.proofs.OperatorLemmas.{mask_is, width-le}
 use Rattle.sp_words.specs.Types.{width_of}
+use Rattle.sp_words.proofs.OperatorLemmas.{mask_is, width-le}
 use Rattle.sp_words.proofs.words.mask.Goals as goal
 
 pub returns : goal.returns

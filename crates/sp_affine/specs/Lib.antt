@@ -1,0 +1,4 @@
+pub mod Affine
+pub mod Combination
+pub mod Equality
+pub mod Interval

@@ -1,0 +1,5 @@
+pub mod Found
+pub mod Sure
+pub mod SureRoom
+pub mod PutText
+pub mod HostRead

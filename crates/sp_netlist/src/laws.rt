@@ -1,0 +1,59 @@
+//! Laws of netlists. Each is the contract of a function that does nothing, so that what stands on it
+//! can cite it.
+
+ghost use Rattle.sp_netlist.specs.Laws.{HasOneRun, HasOneEnding, EndingKept, NoLoop};
+ghost use Rattle.sp_netlist.specs.PartExamples.{PartExamples};
+ghost use Rattle.sp_netlist.specs.Channels.{ChannelServes};
+ghost use Rattle.sp_netlist.specs.Parts.{Locality};
+ghost use Rattle.sp_netlist.specs.Examples.{ExampleEndings};
+
+/// Every netlist has exactly one run for each list of arguments, contents of its DRAMs and list of
+/// delays: words are compared on the nets that are driven and on what is kept. A run is a family of
+/// signals over time in which each cell's own equation holds in every cycle. So along the run each
+/// kept net, bank word, DRAM word and channel follows its cell's equation, and whatever obeys all of
+/// the equations is the run.
+pub fn one_run()
+    ensures { HasOneRun }
+{}
+
+/// Within the cycles 0 to any last one every netlist ends in exactly one way: done in a cycle with
+/// its outputs, at a conflict in a cycle, or not yet.
+pub fn one_ending()
+    ensures { HasOneEnding }
+{}
+
+/// A run that is done in a cycle, or has a conflict there, ends so for every last cycle from that
+/// one on.
+pub fn ending_kept()
+    ensures { EndingKept }
+{}
+
+/// In a netlist no chain of `op`, `not`, `shift`, `cast` and `mux` cells leads from a net back to it.
+pub fn no_loop()
+    ensures { NoLoop }
+{}
+
+/// How three small netlists end, worked out by hand: a sum that is done in cycle 1, two reads of one
+/// bank that clash there, and a load of twenty words under three lists of delays.
+pub fn example_endings()
+    ensures { ExampleEndings }
+{}
+
+/// What some of a netlist's cells do, whatever else stands beside them: where no other cell names
+/// their banks and DRAMs, a run obeys them by themselves, and what they do depends on the others only
+/// through the nets that they read and the delays that their channels take.
+pub fn locality()
+    ensures { Locality }
+{}
+
+/// What two small circuits do in every netlist that has them: a counter that is started and says when
+/// it is done, and a memory with one write and two reads on two banks.
+pub fn part_examples()
+    ensures { PartExamples }
+{}
+
+/// A channel that asks waits for its delay, then moves up to 16 words in cycles one after the other, and
+/// asks again with the 16th unless that, or one before it, was the last.
+pub fn channel_serves()
+    ensures { ChannelServes }
+{}

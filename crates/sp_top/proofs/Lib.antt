@@ -1,0 +1,4 @@
+pub mod Listing
+pub mod Runs
+pub mod Shape
+pub mod Carried
