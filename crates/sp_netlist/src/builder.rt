@@ -5,9 +5,10 @@ ghost use Rattle.sp_netlist.specs.Rules.{IsWidth, drives};
 ghost use Rattle.sp_netlist.specs.Cells.{plain_cell};
 ghost use Rattle.sp_netlist.specs.Draft.{CanAdd, Declares, IsComplete, IsDraft, Keeps, driver_count, net_count};
 
+use crate::NoMemory;
 use crate::cell::{Cell, NetId};
 use crate::netlist::Netlist;
-use std::alloc::{AllocError as NoMemory, Global};
+use std::alloc::Global;
 use std::marker::Model;
 
 /// A promised net: its width, and whether it is kept.

@@ -18,3 +18,4 @@ pub use laws::{
 };
 pub use netlist::Netlist;
 pub use parts::{Child, Ends, Wire};
+pub use std::alloc::AllocError as NoMemory;

@@ -4,9 +4,10 @@ ghost use Rattle.sp_netlist.specs.Cells.{plain_cell, plain_cells};
 ghost use Rattle.sp_netlist.specs.Rules.{IsNetlist};
 ghost use Rattle.sp_netlist.specs.Ports.{plain_port, plain_ports, ports_of, in_port, out_port, dram_port};
 
+use crate::NoMemory;
 use crate::cell::Cell;
 use sp_words::{PortDecl, Ports, Ty};
-use std::alloc::{AllocError as NoMemory, Global};
+use std::alloc::Global;
 use std::marker::Model;
 
 /// Cells that obey the rules of a netlist, and the ports that they declare.

@@ -4,13 +4,13 @@ ghost use Rattle.sp_netlist.specs.Cells.{in_cell, out_cell, done_cell, const_cel
 ghost use Rattle.sp_words.specs.declared.types.Ty.TheVariants.{Bit};
 ghost use Rattle.sp_netlist.specs.declared.cell.CellOp.TheVariants.{Add};
 
-use crate::{Builder, Cell, CellOp, NetId};
+use crate::{Builder, Cell, CellOp, NetId, NoMemory};
 use sp_words::Ty;
-use std::alloc::{AllocError, Global};
+use std::alloc::Global;
 use std::test::Fail;
 
 /// An argument, the word 3 and their sum.
-fn add_sum(alloc: Global, builder: &mut Builder) -> Result<NetId, AllocError>
+fn add_sum(alloc: Global, builder: &mut Builder) -> Result<NetId, NoMemory>
     requires no_nets { builder.old.promised ≡ [] }
     requires no_cells { builder.old.cells ≡ [] }
     ensures sum { IfOk result (λ net. net ≡ 2) }
@@ -28,7 +28,7 @@ fn add_sum(alloc: Global, builder: &mut Builder) -> Result<NetId, AllocError>
 }
 
 /// A register that takes the sum, an output, and a done net that is 1 from the next cycle on.
-fn add_result(alloc: Global, builder: &mut Builder, sum: NetId) -> Result<(), AllocError>
+fn add_result(alloc: Global, builder: &mut Builder, sum: NetId) -> Result<(), NoMemory>
     requires sum { sum ≡ 2 }
     requires nets { builder.old.promised ≡ (32, true) ∷ (32, true) ∷ (32, false) ∷ [] }
     requires cells { builder.old.cells ≡ in_cell (codes "x") 0 int_type ∷ const_cell 1 32 3 ∷ op_cell 2 int_type Add 0 1 ∷ [] }
@@ -72,7 +72,7 @@ fn builds_a_sum(rt: HostRuntime) -> Result<(), Fail> {
 }
 
 /// A bank that two taps read in the same cycle, and a done net that stays 0.
-fn add_bank(builder: &mut Builder) -> Result<(), AllocError>
+fn add_bank(builder: &mut Builder) -> Result<(), NoMemory>
     requires no_nets { builder.old.promised ≡ [] }
     requires no_cells { builder.old.cells ≡ [] }
     ensures nets { OnOk result (builder.new.promised ≡ (1, true) ∷ (32, true) ∷ (1, true) ∷ (8, true) ∷ (8, true) ∷ []) }
@@ -92,7 +92,7 @@ fn add_bank(builder: &mut Builder) -> Result<(), AllocError>
 }
 
 /// Outputs and DRAMs among other cells.
-fn add_ports(alloc: Global, builder: &mut Builder) -> Result<(), AllocError>
+fn add_ports(alloc: Global, builder: &mut Builder) -> Result<(), NoMemory>
     requires no_nets { builder.old.promised ≡ [] }
     requires no_cells { builder.old.cells ≡ [] }
     ensures nets { OnOk result (builder.new.promised ≡ (1, true) ∷ []) }

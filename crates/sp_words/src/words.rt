@@ -6,7 +6,7 @@ ghost use Rattle.sp_words.specs.Words.{IsWord, has_sign, value_of, wrap};
 use crate::types::Ty;
 
 /// The greatest word of the type.
-pub fn mask(ty: Ty) -> u64
+pub(crate) fn mask(ty: Ty) -> u64
     ensures { result + 1 ≡ 2 ^ width_of ty }
 {
     u64::MAX >> (64 - ty.width())
@@ -20,21 +20,21 @@ pub fn is_word(ty: Ty, number: u64) -> bool
 }
 
 /// The lowest bits of the number, as many as the type has.
-pub fn low_bits(ty: Ty, number: u128) -> u64
+pub(crate) fn low_bits(ty: Ty, number: u128) -> u64
     ensures { result ≡ number % 2 ^ width_of ty }
 {
     (number & u128::from(mask(ty))) as u64
 }
 
 /// Whether the word has a sign bit that is set.
-pub fn is_negative(ty: Ty, word: u64) -> bool
+pub(crate) fn is_negative(ty: Ty, word: u64) -> bool
     ensures { result ≡ has_sign ty word }
 {
     ty.signed() && word >= 1 << (ty.width() - 1)
 }
 
 /// What the word stands for, in two's complement of 128 bits.
-pub fn extended(ty: Ty, word: u64) -> u128
+pub(crate) fn extended(ty: Ty, word: u64) -> u128
     requires { IsWord ty word }
     ensures { result ≡ modulo (value_of ty word) (2 ^ 128) }
 {
@@ -46,7 +46,7 @@ pub fn extended(ty: Ty, word: u64) -> u128
 }
 
 /// What the word stands for.
-pub fn value(ty: Ty, word: u64) -> i128
+pub(crate) fn value(ty: Ty, word: u64) -> i128
     requires { IsWord ty word }
     ensures { result ≡ value_of ty word }
 {
@@ -58,7 +58,7 @@ pub fn value(ty: Ty, word: u64) -> i128
 }
 
 /// The word of the number with this sign and absolute value.
-pub fn word_of(ty: Ty, negative: bool, magnitude: u128) -> u64
+pub(crate) fn word_of(ty: Ty, negative: bool, magnitude: u128) -> u64
     ensures { result ≡ wrap ty (with_sign negative magnitude) }
 {
     low_bits(
