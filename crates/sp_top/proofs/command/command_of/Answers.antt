@@ -20,6 +20,7 @@ pub returns-then-is_file_word-clause-found : goal.returns-then-is_file_word-clau
 returns-then-is_file_word-clause-found c =
     let words = two_elements c.args.words.now _ _ c.in-len2.len_at_least c.in-len2.len_below c.verb-item.is c.program-item.is in
     let program : c.as_str-then-eq.result.now ≡ c.as_str-then-is_file_word.result.now =
-        c.as_str-then-eq.ensures.value ∙ sym c.as_str-then-is_file_word.ensures.value in
-    (two_words string_bytes c.args.words.now _ _ c.as_str.result.now _ words c.as_str.ensures.value ((bytes_eq-Decides c.as_str.result.now _).0 (sym c.if-eq.ensures)) c.as_str-then-is_file_word.ensures.value,
-     rw program at (c.if-is_file_word.ensures.0 refl))
+    c.as_str-then-eq.ensures.value ∙ sym c.as_str-then-is_file_word.ensures.value in (
+      two_words string_bytes c.args.words.now _ _ c.as_str.result.now _ words c.as_str.ensures.value ((bytes_eq-Decides c.as_str.result.now _).0 (sym c.if-eq.ensures)) c.as_str-then-is_file_word.ensures.value,
+      rw program at (c.if-is_file_word.ensures.0 refl),
+    )
