@@ -94,20 +94,20 @@ fn refusals_have_their_status_and_line(rt: HostRuntime) -> Result<(), Fail> {
     Ok(())
 }
 
+// A text of so many blanks.
+fn blanks(alloc: Global, count: usize) -> Result<Vec<u8>, AllocError> {
+    vec![in alloc; b' '; count]
+}
+
 #[test]
 fn a_text_past_the_limit_is_too_long(rt: HostRuntime) -> Result<(), Fail> {
     let alloc = rt.alloc();
-    let text = vec![in alloc; b' '; 1_048_577]?;
+    let text = blanks(alloc, 1_048_577)?;
     let answer = answer_with(alloc, &["compile", "P"], "P", &text, Vec::new(alloc))?;
     assert_eq!(rt; answer.status.number(), 14);
     assert_eq!(rt; answer.out.as_slice(), b"too long: P\n".as_slice());
-    let answer = answer_with(
-        alloc,
-        &["compile", "P"],
-        "P",
-        &text[..1_048_576],
-        Vec::new(alloc),
-    )?;
+    let text = blanks(alloc, 1_048_576)?;
+    let answer = answer_with(alloc, &["compile", "P"], "P", &text, Vec::new(alloc))?;
     assert_eq!(rt; answer.status.number(), 15);
     Ok(())
 }
