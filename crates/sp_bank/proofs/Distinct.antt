@@ -68,12 +68,12 @@ weighted-remove (a ∷ alpha) (x ∷ xs) (suc q) h l = omega (arith, weighted-re
 pub below_periods : (x d p : ℕ) → 0 < p → x < d → x / p < div_ceil d p
 below_periods x d p h k = div_below x p _ h (enough d (d / p) (d % p) (sym (div-add-mod' d p)) (mod_below d p h) k)
   where
-  enough : (n q r : ℕ) → n ≡ q * p + r → r < p → x < n → x < (q + min 1 r) * p
-  enough n q zero e s l = omega arith
-  enough n q (suc r) e s l =
-    let one : min 1 (suc r) ≡ 1 = omega arith in
-    let grown : (q + min 1 (suc r)) * p ≡ (q + 1) * p = ap (λ z. (q + z) * p) one in
-    omega (arith, grown)
+    enough : (n q r : ℕ) → n ≡ q * p + r → r < p → x < n → x < (q + min 1 r) * p
+    enough n q zero e s l = omega arith
+    enough n q (suc r) e s l =
+        let one : min 1 (suc r) ≡ 1 = omega arith in
+        let grown : (q + min 1 (suc r)) * p ≡ (q + 1) * p = ap (λ z. (q + z) * p) one in
+        omega (arith, grown)
 
 -- what is left by the period is known by the bank and what is left by the block
 split_period : (w n b : ℕ) → w ≡ w / b / n * (n * b) + ((w / b % n) * b + w % b)
@@ -104,8 +104,9 @@ hinge_step a p x y o t t' r h g e f f' l =
 
 along_hinge : (a p x y o t t' r : ℕ) → 0 < p → IsGcd a p 1 → x / p ≡ y / p → a * x + o ≡ t * p + r → a * y + o ≡ t' * p + r → x ≡ y
 along_hinge a p x y o t t' r h g e f f' = elim (leb_tells y x) [
-    inl u ↦ hinge_step a p x y o t t' r h g e f f' u.1
-  | inr u ↦ sym (hinge_step a p y x o t' t r h g (sym e) f' f (omega (arith, u.1))) ]
+  | inl u ↦ hinge_step a p x y o t t' r h g e f f' u.1
+  | inr u ↦ sym (hinge_step a p y x o t' t r h g (sym e) f' f (omega (arith, u.1)))
+]
 
 -- ---- the theorem
 
@@ -120,30 +121,31 @@ same_element s dims xs ys space rank in_x in_y same_bank same_offset =
     let block_some : 0 < s.block = block_positive s.block space.size.allowed_block in
     let period_some : 0 < s.banks * s.block = mul-lt 0 0 s.banks s.block (omega (arith, space.size.some_bank)) block_some in
     let outer = same_from_place _ (weighted s.alpha xs % s.block) _ (weighted s.alpha ys % s.block) s.block
-      (mod_below (weighted s.alpha xs) s.block block_some) (mod_below (weighted s.alpha ys) s.block block_some) same_offset in
+    (mod_below (weighted s.alpha xs) s.block block_some) (mod_below (weighted s.alpha ys) s.block block_some) same_offset in
     let inner = same_from_place _ (get_or xs q 0 / period s) _ (get_or ys q 0 / period s) (periods s dims)
-      (below_periods (get_or xs q 0) (get_or dims q 0) (period s) period_some (IsInside-at dims xs q hinge_in in_x))
-      (below_periods (get_or ys q 0) (get_or dims q 0) (period s) period_some (IsInside-at dims ys q hinge_in in_y)) outer.0 in
+    (below_periods (get_or xs q 0) (get_or dims q 0) (period s) period_some (IsInside-at dims xs q hinge_in in_x))
+    (below_periods (get_or ys q 0) (get_or dims q 0) (period s) period_some (IsInside-at dims ys q hinge_in in_y)) outer.0 in
     let others = row_major-unique (remove dims q) (remove xs q) (remove ys q)
-      (IsInside-remove dims xs q hinge_in in_x) (IsInside-remove dims ys q hinge_in in_y) inner.0 in
+    (IsInside-remove dims xs q hinge_in in_x) (IsInside-remove dims ys q hinge_in in_y) inner.0 in
     let rest = same_rest (weighted s.alpha xs / s.block % s.banks) (weighted s.alpha ys / s.block % s.banks)
-      (weighted s.alpha xs % s.block) (weighted s.alpha ys % s.block) s.block same_bank outer.1 in
+    (weighted s.alpha xs % s.block) (weighted s.alpha ys % s.block) s.block same_bank outer.1 in
     let along = along_hinge (get_or s.alpha q 0) (s.banks * s.block) (get_or xs q 0) (get_or ys q 0) (weighted (remove s.alpha q) (remove xs q))
-      (weighted s.alpha xs / s.block / s.banks) (weighted s.alpha ys / s.block / s.banks)
-      ((weighted s.alpha xs / s.block % s.banks) * s.block + weighted s.alpha xs % s.block)
-      period_some space.hinge inner.1
-      (sym (weighted-remove s.alpha xs q hinge_below (long_x ∙ rank)) ∙ split_period (weighted s.alpha xs) s.banks s.block)
-      (ap (λ z. get_or s.alpha q 0 * get_or ys q 0 + weighted (remove s.alpha q) z) others
-        ∙ sym (weighted-remove s.alpha ys q hinge_below (long_y ∙ rank)) ∙ split_period (weighted s.alpha ys) s.banks s.block
-        ∙ ap (λ z. weighted s.alpha ys / s.block / s.banks * (s.banks * s.block) + z) (sym rest)) in
+    (weighted s.alpha xs / s.block / s.banks) (weighted s.alpha ys / s.block / s.banks)
+    ((weighted s.alpha xs / s.block % s.banks) * s.block + weighted s.alpha xs % s.block)
+    period_some space.hinge inner.1
+    (sym (weighted-remove s.alpha xs q hinge_below (long_x ∙ rank)) ∙ split_period (weighted s.alpha xs) s.banks s.block)
+    (ap (λ z. get_or s.alpha q 0 * get_or ys q 0 + weighted (remove s.alpha q) z) others
+    ∙ sym (weighted-remove s.alpha ys q hinge_below (long_y ∙ rank)) ∙ split_period (weighted s.alpha ys) s.banks s.block
+    ∙ ap (λ z. weighted s.alpha ys / s.block / s.banks * (s.banks * s.block) + z) (sym rest)) in
     same_from_remove xs ys q (omega (arith, long_x)) (long_x ∙ sym long_y) others along
   where
-  block_positive : (b : ℕ) → (b ≡ 1) ⊎ ((b ≡ 2) ⊎ (b ≡ 4)) → 0 < b
-  block_positive b (inl e) = omega arith
-  block_positive b (inr (inl e)) = omega arith
-  block_positive b (inr (inr e)) = omega arith
-  same_rest : (k k' r r' b : ℕ) → k ≡ k' → r ≡ r' → k * b + r ≡ k' * b + r'
-  same_rest k k' r r' b e f = ap (λ z. z * b + r) e ∙ ap (λ z. k' * b + z) f
+    block_positive : (b : ℕ) → (b ≡ 1) ⊎ ((b ≡ 2) ⊎ (b ≡ 4)) → 0 < b
+    block_positive b (inl e) = omega arith
+    block_positive b (inr (inl e)) = omega arith
+    block_positive b (inr (inr e)) = omega arith
+
+    same_rest : (k k' r r' b : ℕ) → k ≡ k' → r ≡ r' → k * b + r ≡ k' * b + r'
+    same_rest k k' r r' b e f = ap (λ z. z * b + r) e ∙ ap (λ z. k' * b + z) f
 
 -- an offset is below the length of a bank
 pub offset-below : (s : Banking) (dims xs : List ℕ) → InSpace s → length dims ≡ length s.alpha → IsInside dims xs →
@@ -157,14 +159,16 @@ offset-below s dims xs space rank in_x =
     let along = below_periods (get_or xs q 0) (get_or dims q 0) (period s) period_some (IsInside-at dims xs q hinge_in in_x) in
     let row = mul-add-lt (row_major (remove dims q) (remove xs q)) (periods s dims) (get_or xs q 0 / period s) (product_of (remove dims q)) lead along in
     let whole = mul-add-lt (row_major (remove dims q) (remove xs q) * periods s dims + get_or xs q 0 / period s) s.block
-      (weighted s.alpha xs % s.block) (periods s dims * product_of (remove dims q)) (turn _ _ _ row) (mod_below (weighted s.alpha xs) s.block block_some) in
+    (weighted s.alpha xs % s.block) (periods s dims * product_of (remove dims q)) (turn _ _ _ row) (mod_below (weighted s.alpha xs) s.block block_some) in
     turned _ s.block (periods s dims) (product_of (remove dims q)) whole
   where
-  block_positive : (b : ℕ) → (b ≡ 1) ⊎ ((b ≡ 2) ⊎ (b ≡ 4)) → 0 < b
-  block_positive b (inl e) = omega arith
-  block_positive b (inr (inl e)) = omega arith
-  block_positive b (inr (inr e)) = omega arith
-  turn : (z c p : ℕ) → z < c * p → z < c * p
-  turn z c p h = h
-  turned : (z b c p : ℕ) → z < b * (c * p) → z < p * (c * b)
-  turned z b c p h = omega arith
+    block_positive : (b : ℕ) → (b ≡ 1) ⊎ ((b ≡ 2) ⊎ (b ≡ 4)) → 0 < b
+    block_positive b (inl e) = omega arith
+    block_positive b (inr (inl e)) = omega arith
+    block_positive b (inr (inr e)) = omega arith
+
+    turn : (z c p : ℕ) → z < c * p → z < c * p
+    turn z c p h = h
+
+    turned : (z b c p : ℕ) → z < b * (c * p) → z < p * (c * b)
+    turned z b c p h = omega arith

@@ -8,24 +8,24 @@ use Rattle.std.proofs.lemmas.Nat.Gcd.{dvd_refl, dvd-zero, dvd_antisymm, dvd_of_m
 pub factor_from : (n m : ℕ) → n ∣ m → (k : ℕ) × (m ≡ k * n)
 factor_from n m h = (m / n, sym (whole_part (m / n * n) (m % n) m (div-add-mod' m n) (mod-eq-zero_of_dvd n h)))
   where
-  whole_part : (a b c : ℕ) → a + b ≡ c → b ≡ 0 → a ≡ c
-  whole_part a b c e f = omega arith
+    whole_part : (a b c : ℕ) → a + b ≡ c → b ≡ 0 → a ≡ c
+    whole_part a b c e f = omega arith
 
 pub divides_multiple : (n k m : ℕ) → 0 < n → m ≡ k * n → n ∣ m
 divides_multiple n k m h e = dvd_of_mod-eq-zero n (no_rest k n m h e)
   where
-  no_rest : (k n m : ℕ) → 0 < n → m ≡ k * n → m % n ≡ 0
-  no_rest k n m h e =
-    let split = div-add-mod' m n in
-    let small = mod_below m n h in
-    let same : m / n * n + m % n ≡ k * n + 0 = omega (arith, split, e) in
-    (same_from_place (m / n) (m % n) k 0 n small h same).1
+    no_rest : (k n m : ℕ) → 0 < n → m ≡ k * n → m % n ≡ 0
+    no_rest k n m h e =
+        let split = div-add-mod' m n in
+        let small = mod_below m n h in
+        let same : m / n * n + m % n ≡ k * n + 0 = omega (arith, split, e) in
+        (same_from_place (m / n) (m % n) k 0 n small h same).1
 
 positive : (e m : ℕ) → e ∣ suc m → 0 < e
 positive zero m h = let f = factor_from 0 (suc m) h in absurd (no_product f.0 (suc m) f.1)
   where
-  no_product : (k n : ℕ) → suc m ≡ k * 0 → ⊥
-  no_product k n x = omega arith
+    no_product : (k n : ℕ) → suc m ≡ k * 0 → ⊥
+    no_product k n x = omega arith
 positive (suc e) m h = omega arith
 
 divides_sum : (e u v k : ℕ) → 0 < e → e ∣ u → e ∣ v → e ∣ (k * u + v)
@@ -56,20 +56,23 @@ euclid (suc fuel) a (suc m) n d h p g x y =
     let split = div-add-mod' a (suc m) in
     let smaller : a % suc m < fuel = omega (arith, mod_below a (suc m) (omega arith)) in
     let P : ℕ → Type 0 = λ z. z ∣ a in
-    let common : IsGcd (suc m) (a % suc m) 1 =
-      (g.1, divides_multiple 1 (a % suc m) (a % suc m) (omega arith) (omega arith),
-       λ e u v. g.2 e (let Q : ℕ → Type 0 = λ z. e ∣ z in subst Q split (divides_sum e (suc m) (a % suc m) (a / suc m) (positive e m u) u v)) u) in
+    let common : IsGcd (suc m) (a % suc m) 1 = (
+      g.1,
+      divides_multiple 1 (a % suc m) (a % suc m) (omega arith) (omega arith),
+      λ e u v. g.2 e (let Q : ℕ → Type 0 = λ z. e ∣ z in subst Q split (divides_sum e (suc m) (a % suc m) (a / suc m) (positive e m u) u v)) u,
+    ) in
     let grown : a / suc m * suc m * d + a % suc m * d ≡ a * d = times (a / suc m * suc m) (a % suc m) a d split in
     let left : n ∣ (a / suc m * suc m * d) =
-      (let Q : ℕ → Type 0 = λ z. n ∣ z in
-       subst Q (flat (a / suc m) (suc m) d) (divides_sum n (suc m * d) 0 (a / suc m) p y (dvd-zero n))) in
+    (let Q : ℕ → Type 0 = λ z. n ∣ z in
+    subst Q (flat (a / suc m) (suc m) d) (divides_sum n (suc m * d) 0 (a / suc m) p y (dvd-zero n))) in
     let rest : n ∣ (a % suc m * d) = divides_rest n (a / suc m * suc m * d) (a % suc m * d) (a * d) p left x (sym grown) in
     euclid fuel (suc m) (a % suc m) n d smaller p common y rest
   where
-  times : (u v w k : ℕ) → u + v ≡ w → u * k + v * k ≡ w * k
-  times u v w k e = let grown : (u + v) * k ≡ w * k = ap (λ z. z * k) e in omega (arith, grown)
-  flat : (q b k : ℕ) → q * (b * k) + 0 ≡ q * b * k
-  flat q b k = omega arith
+    times : (u v w k : ℕ) → u + v ≡ w → u * k + v * k ≡ w * k
+    times u v w k e = let grown : (u + v) * k ≡ w * k = ap (λ z. z * k) e in omega (arith, grown)
+
+    flat : (q b k : ℕ) → q * (b * k) + 0 ≡ q * b * k
+    flat q b k = omega arith
 
 pub coprime_divides : (a m d : ℕ) → 0 < m → IsGcd a m 1 → m ∣ (a * d) → m ∣ d
 coprime_divides a m d h g x = euclid (suc m) a m m d (omega arith) h g x (divides_multiple m d (m * d) h (omega arith))

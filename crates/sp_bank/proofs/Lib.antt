@@ -1,4 +1,5 @@
 pub mod ApartLemmas
+pub mod Differences
 pub mod Distinct
 pub mod First
 pub mod Floor

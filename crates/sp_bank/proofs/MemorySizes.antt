@@ -54,10 +54,10 @@ product_of-remove (d ∷ ds) (suc q) h =
 pub div_ceil-le : (d p : ℕ) → 0 < p → div_ceil d p ≤ d
 div_ceil-le d p h = few (d / p) (d % p) (div-add-mod' d p)
   where
-  few : (q r : ℕ) → q * p + r ≡ d → q + min 1 r ≤ d
-  few q r e =
-    let more : q * 1 ≤ q * p = mul-le q 1 q p (omega arith) h in
-    omega (arith, more, e)
+    few : (q r : ℕ) → q * p + r ≡ d → q + min 1 r ≤ d
+    few q r e =
+        let more : q * 1 ≤ q * p = mul-le q 1 q p (omega arith) h in
+        omega (arith, more, e)
 
 -- the first dimensions' number and its successor stay within the memory
 pub room_after : (before p others size n : ℕ) → before < p → 0 < size → p * others * size ≤ n → (before + 1) * others ≤ n
@@ -76,8 +76,8 @@ pub row_major-take : (ds xs : List ℕ) (i : ℕ) → IsInside ds xs → length 
     row_major (take (i + 1) ds) (take (i + 1) xs) ≡ row_major (take i ds) (take i xs) * get_or ds i 0 + get_or xs i 0
 row_major-take ds xs i h l k =
     let split = ap (λ z. row_major z (take (i + 1) xs)) (take_more ds i 0 k)
-      ∙ ap (λ z. row_major (take i ds ++ get_or ds i 0 ∷ []) z) (take_more xs i 0 (omega (arith, l)))
-      ∙ row_major-append (take i ds) (get_or ds i 0 ∷ []) (take i xs) (get_or xs i 0 ∷ []) (IsInside-take ds xs i h) in
+    ∙ ap (λ z. row_major (take i ds ++ get_or ds i 0 ∷ []) z) (take_more xs i 0 (omega (arith, l)))
+    ∙ row_major-append (take i ds) (get_or ds i 0 ∷ []) (take i xs) (get_or xs i 0 ∷ []) (IsInside-take ds xs i h) in
     omega (arith, split)
 
 pub product_of-take-le : (ds xs : List ℕ) (i : ℕ) → IsInside ds xs → product_of (take i ds) ≤ product_of ds
@@ -103,8 +103,8 @@ pub rest_is : (ds : List ℕ) (q : ℕ) → take (length ds - (q + 1)) (drop (q 
 rest_is ds q =
     take_all (length ds - (q + 1)) (drop (q + 1) ds) (omega (arith, length-drop (q + 1) ds)) ∙ ap (λ n. drop n ds) (one_more q)
   where
-  one_more : (n : ℕ) → n + 1 ≡ suc n
-  one_more n = omega arith
+    one_more : (n : ℕ) → n + 1 ≡ suc n
+    one_more n = omega arith
 
 pub row_small : (lead p h c d n : ℕ) → lead < p → h < c → c ≤ d → p * d ≤ n → lead * c + h < n
 row_small lead p h c d n l k m e =

@@ -1,14 +1,9 @@
 -- Weights as numbers: the lexicographic order is that of the numbers.
-use Rattle.std.proofs.Common.{◌≡◌, ℕ, zero, suc, ◌+◌, ◌*◌, ◌/◌, ◌%◌, ◌^◌, ◌<◌, ◌≤◌, List, [], ◌∷◌, length, get_or, refl, ap, sym, ◌∙◌, subst, arith, ◌⊎◌, inl, inr}
+use Rattle.std.proofs.Common.{◌≡◌, ℕ, zero, suc, ◌+◌, ◌-◌, ◌*◌, ◌/◌, ◌%◌, ◌^◌, ◌<◌, ◌≤◌, List, [], ◌∷◌, length, get_or, refl, ap, sym, ◌∙◌, subst, arith, ◌⊎◌, inl, inr}
 use Rattle.std.specs.List.{All}
 use Rattle.std.proofs.lemmas.Nat.{div-mul-add, mod-mul-add, mul-add-lt, div-add-mod', mod_below, div_below}
-use native.Mathlib.Nat.{pow-zero, pow-suc, pow-succ', one-le-pow}
-use Rattle.sp_bank.specs.Search.{IsLexicographicallyLess}
-
--- the digits of a number, the highest first
-abbrev pub digits : ℕ → ℕ → ℕ → List ℕ
-digits zero b code = []
-digits (suc n) b code = (code / b ^ n) ∷ digits n b (code % b ^ n)
+use native.Mathlib.Nat.{pow-zero, pow-suc, pow-succ', one-le-pow, pow-le-pow_left, pow-le-pow_right}
+use Rattle.sp_bank.specs.Search.{IsLexicographicallyLess, digits}
 
 pub code_of : ℕ → List ℕ → ℕ
 code_of b [] = 0
@@ -55,7 +50,7 @@ code_of-digits (suc n) b code h k =
     let rest = code_of-digits n b (code % b ^ n) h (mod_below code (b ^ n) (power_positive b n h)) in
     let split = div-add-mod' code (b ^ n) in
     let scale : code / b ^ n * b ^ length (digits n b (code % b ^ n)) ≡ code / b ^ n * b ^ n =
-      ap (λ z. code / b ^ n * b ^ z) (length-digits n b (code % b ^ n)) in
+    ap (λ z. code / b ^ n * b ^ z) (length-digits n b (code % b ^ n)) in
     omega (arith, rest, split, scale)
 
 pub digits-below : (n b code : ℕ) → 0 < b → code < b ^ n → All (λ x. x < b) (digits n b code)
@@ -73,10 +68,25 @@ code_of-less b (x ∷ xs) (y ∷ ys) e all all' h =
     let same : length xs ≡ length ys = omega arith in
     let scale : y * b ^ length xs ≡ y * b ^ length ys = ap (λ z. y * b ^ z) same in
     elim h [
-      inl less ↦
-        let below = mul-add-lt x (b ^ length xs) (code_of b xs) y less (code_of-below b xs (all_tail (λ z. z < b) x xs all)) in
-        omega (arith, below, scale)
-    | inr (equal, less) ↦
-        let rest = code_of-less b xs ys same (all_tail (λ z. z < b) x xs all) (all_tail (λ z. z < b) y ys all') less in
-        let heads : x * b ^ length xs ≡ y * b ^ length xs = ap (λ z. z * b ^ length xs) equal in
-        omega (arith, rest, heads, scale) ]
+      | inl less ↦
+          let below = mul-add-lt x (b ^ length xs) (code_of b xs) y less (code_of-below b xs (all_tail (λ z. z < b) x xs all)) in
+          omega (arith, below, scale)
+      | inr (equal, less) ↦
+          let rest = code_of-less b xs ys same (all_tail (λ z. z < b) x xs all) (all_tail (λ z. z < b) y ys all') less in
+          let heads : x * b ^ length xs ≡ y * b ^ length xs = ap (λ z. z * b ^ length xs) equal in
+          omega (arith, rest, heads, scale)
+    ]
+
+-- what is raised to a power here is small
+pub power_small : (b n : ℕ) → b ≤ 32 → n ≤ 3 → b ^ n < 2 ^ 32
+power_small b n h k =
+    let left = pow-le-pow_left {n = b} {m = 32} h n in
+    let right = pow-le-pow_right {n = 32} (omega arith) {i = n} {j = 3} k in
+    omega (arith, left, right)
+
+pub digits_step : (n b code : ℕ) → 0 < n → digits n b code ≡ (code / b ^ (n - 1)) ∷ digits (n - 1) b (code % b ^ (n - 1))
+digits_step zero b code h = absurd (omega arith)
+digits_step (suc n) b code h = ap (λ k. (code / b ^ k) ∷ digits k b (code % b ^ k)) (one_less n)
+  where
+    one_less : (m : ℕ) → m ≡ suc m - 1
+    one_less m = omega arith

@@ -35,7 +35,8 @@ sizes s dims x q lead size at period periods block space rank inside small is_q 
     record {
       row_fits = row_small lead (product_of (remove dims q)) (at / period) periods size 4294967295 lead_below along few (omega (arith, whole, scaled, small));
       some_block = omega (arith, some_block, is_block);
-      block_fits = omega (arith, block_small s.block space.size.allowed_block, is_block) }
+      block_fits = omega (arith, block_small s.block space.size.allowed_block, is_block);
+    }
 
 pub is_offset : (s : Banking) (dims x : List ℕ) (q lead size at period periods block w : ℕ) → q ≡ s.hinge → size ≡ get_or dims q 0 → at ≡ get_or x q 0 →
     period ≡ s.banks * s.block → periods ≡ div_ceil size period → lead ≡ row_major (remove dims q) (remove x q) → block ≡ s.block → w ≡ weighted s.alpha x →

@@ -23,14 +23,14 @@ weighted_sum-take_suc [] cs i e h = absurd (omega arith)
 weighted_sum-take_suc (a ∷ alpha) [] i e h = absurd (omega arith)
 weighted_sum-take_suc (a ∷ alpha) (c ∷ cs) zero e h = turned (pos a *ℤ c)
   where
-  turned : (z : ℤ) → z +ℤ pos 0 ≡ pos 0 +ℤ z
-  turned z = omega (arith, ints)
+    turned : (z : ℤ) → z +ℤ pos 0 ≡ pos 0 +ℤ z
+    turned z = omega (arith, ints)
 weighted_sum-take_suc (a ∷ alpha) (c ∷ cs) (suc i) e h =
     moved (pos a *ℤ c) (weighted_sum (take (suc i) alpha) (take (suc i) cs)) (weighted_sum (take i alpha) (take i cs)) (pos (get_or alpha i 0) *ℤ get_or cs i (pos 0))
-      (weighted_sum-take_suc alpha cs i (omega arith) (omega arith))
+    (weighted_sum-take_suc alpha cs i (omega arith) (omega arith))
   where
-  moved : (p whole part last : ℤ) → whole ≡ part +ℤ last → p +ℤ whole ≡ (p +ℤ part) +ℤ last
-  moved p whole part last e = omega (arith, ints)
+    moved : (p whole part last : ℤ) → whole ≡ part +ℤ last → p +ℤ whole ≡ (p +ℤ part) +ℤ last
+    moved p whole part last e = omega (arith, ints)
 
 pub weighted_sum-take : (alpha : List ℕ) (cs : List ℤ) (i : ℕ) → length cs ≡ length alpha → i < length alpha →
     weighted_sum (take (i + 1) alpha) (take (i + 1) cs) ≡ weighted_sum (take i alpha) (take i cs) +ℤ (pos (get_or alpha i 0) *ℤ get_or cs i (pos 0))
@@ -47,19 +47,21 @@ congruent_more p w n a c r h known is =
     let product : pos a *ℤ c ≡ (pos a *ℤ (k *ℤ pos p)) +ℤ (pos a *ℤ pos r) = ap (λ z. pos a *ℤ z) c_is ∙ mul-add_ℤ (k *ℤ pos p) (pos r) (pos a) in
     record {
       periods = known.periods +ℤ (pos a *ℤ k);
-      whole = joined _ _ _ _ _ _ known.whole product (mul_assoc_ℤ (pos a) k (pos p)) (add-mul_ℤ known.periods (pos a *ℤ k) (pos p)) }
+      whole = joined _ _ _ _ _ _ known.whole product (mul_assoc_ℤ (pos a) k (pos p)) (add-mul_ℤ known.periods (pos a *ℤ k) (pos p));
+    }
   where
-  joined : (x y t ak akp akp' : ℤ) → x ≡ t +ℤ pos n → y ≡ akp +ℤ pos (a * r) → akp' ≡ akp → ak ≡ t +ℤ akp' → x +ℤ y ≡ ak +ℤ pos (n + a * r)
-  joined x y t ak akp akp' e f g i = omega (arith, ints)
+    joined : (x y t ak akp akp' : ℤ) → x ≡ t +ℤ pos n → y ≡ akp +ℤ pos (a * r) → akp' ≡ akp → ak ≡ t +ℤ akp' → x +ℤ y ≡ ak +ℤ pos (n + a * r)
+    joined x y t ak akp akp' e f g i = omega (arith, ints)
 
 pub residue_from_congruent : (p : ℕ) (w : ℤ) (n : ℕ) → 0 < p → IsCongruent p w n → pos (n % p) ≡ int_rem_euclid w (pos p)
 residue_from_congruent p w n h known =
     sym (remainder_of w (known.periods +ℤ pos (n / p)) p (n % p) (record {
       below = mod_below n p h;
-      whole = joined w (known.periods *ℤ pos p) _ (n / p * p) known.whole (add-mul_ℤ known.periods (pos (n / p)) (pos p)) (div-add-mod' n p) }))
+      whole = joined w (known.periods *ℤ pos p) _ (n / p * p) known.whole (add-mul_ℤ known.periods (pos (n / p)) (pos p)) (div-add-mod' n p);
+    }))
   where
-  joined : (x t u : ℤ) (q : ℕ) → x ≡ t +ℤ pos n → u ≡ t +ℤ pos q → q + n % p ≡ n → x ≡ u +ℤ pos (n % p)
-  joined x t u q e f g = omega (arith, ints)
+    joined : (x t u : ℤ) (q : ℕ) → x ≡ t +ℤ pos n → u ≡ t +ℤ pos q → q + n % p ≡ n → x ≡ u +ℤ pos (n % p)
+    joined x t u q e f g = omega (arith, ints)
 
 -- the constants of an access, by their place
 pub constants-at : (access : List Affine) (i : ℕ) (d : Affine) → i < length access → get_or (constants access) i (pos 0) ≡ (get_or access i d).constant

@@ -39,7 +39,7 @@ periods s dims = div_ceil (slice_index dims s.hinge) (period s)
 abbrev pub offset : Banking → List ℕ → List ℕ → ℕ
 offset s dims x =
     (row_major (remove dims s.hinge) (remove x s.hinge) * periods s dims + slice_index x s.hinge / period s) * s.block
-      + weighted s.alpha x % s.block
+    + weighted s.alpha x % s.block
 
 -- how many places a bank has
 abbrev pub bank_length : Banking → List ℕ → ℕ

@@ -1,5 +1,5 @@
 -- The first scheme that keeps all groups of a memory apart.
-use Rattle.std.specs.Prelude.{◌≡◌, ℕ, ◌<◌, ◌⊎◌, List, [], ◌∷◌, length}
+use Rattle.std.specs.Prelude.{◌≡◌, ℕ, zero, suc, ◌/◌, ◌%◌, ◌^◌, ◌<◌, ◌⊎◌, List, [], ◌∷◌, length}
 use Rattle.std.specs.List.{All}
 use Rattle.sp_affine.specs.Affine.{Affine}
 use Rattle.sp_bank.specs.Banking.{Banking, InSpace}
@@ -19,7 +19,7 @@ IsLexicographicallyLess (x ∷ xs) (y ∷ ys) = (x < y) ⊎ ((x ≡ y) × IsLexi
 abbrev pub Precedes : Banking → Banking → Type 0
 Precedes s t =
     (s.banks < t.banks) ⊎ ((s.banks ≡ t.banks) × ((s.block < t.block) ⊎ ((s.block ≡ t.block) ×
-      (IsLexicographicallyLess s.alpha t.alpha ⊎ ((s.alpha ≡ t.alpha) × (s.hinge < t.hinge))))))
+    (IsLexicographicallyLess s.alpha t.alpha ⊎ ((s.alpha ≡ t.alpha) × (s.hinge < t.hinge))))))
 
 -- a scheme of the space for so many dimensions that separates all groups
 pub record Serves (rank : ℕ) (groups : List (List Affine)) (s : Banking) : Type 0 where
@@ -31,3 +31,8 @@ pub record Serves (rank : ℕ) (groups : List (List Affine)) (s : Banking) : Typ
 pub record IsFirst (rank : ℕ) (groups : List (List Affine)) (s : Banking) : Type 0 where
   pub serves : Serves rank groups s
   pub first : (t : Banking) → Serves rank groups t → ¬ (Precedes t s)
+
+-- the digits of a number to a base, so many and the highest first
+abbrev pub digits : ℕ → ℕ → ℕ → List ℕ
+digits zero base number = []
+digits (suc n) base number = (number / base ^ n) ∷ digits n base (number % base ^ n)

@@ -60,7 +60,7 @@ pub record IsFirstClash (b : Banking) (group : List Affine) (first second : ℕ)
   pub inside : second < access_count (length b.alpha) group
   pub clash : ¬ (PairApart b group first second)
   pub least : (u v : ℕ) → u < access_count (length b.alpha) group → v < access_count (length b.alpha) group →
-    (u < first) ⊎ ((u ≡ first) × (v < second)) → PairApart b group u v
+      (u < first) ⊎ ((u ≡ first) × (v < second)) → PairApart b group u v
 
 -- alpha·c within the period, access by access
 abbrev pub differences_of : Banking → List Affine → List ℤ

@@ -2,10 +2,9 @@
 ghost use Rattle.std.specs.Prelude.{◌≡◌, ◌↔◌, ℕ, ◌<◌, ◌≤◌, length, IsTrue, IfSome, IfNone};
 ghost use Rattle.sp_bank.specs.Separation.{PairApart, Separates, IsGroup, IsFirstClash, access, access_count};
 
-use sp_affine::Form;
-
 use crate::scheme::Scheme;
 use crate::separation::apart;
+use sp_affine::Form;
 
 /// Whether a scheme keeps the accesses of a group apart from one another.
 ///

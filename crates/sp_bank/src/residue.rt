@@ -4,9 +4,8 @@ ghost use Rattle.std.specs.Int.{int_rem_euclid};
 ghost use Rattle.std.specs.List.{All};
 ghost use Rattle.sp_bank.specs.Separation.{constants, weighted_sum, residue_of};
 
-use sp_affine::Form;
-
 use crate::scheme::Scheme;
+use sp_affine::Form;
 
 /// `alpha·c` modulo the period, where c are the constants of an access.
 pub fn residue(s: &Scheme, access: &[Form]) -> u32

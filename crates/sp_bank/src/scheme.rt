@@ -1,14 +1,14 @@
-ghost use Rattle.std.specs.Prelude.{◌≡◌, ◌↔◌, ◌<◌, length, IsTrue, IsNone, IfSome};
+ghost use Rattle.std.specs.Prelude.{◌≡◌, ◌↔◌, ◌<◌, length, IsTrue, IsNone, IfSome, IfOk, MatchResult};
 ghost use Rattle.std.specs.List.{All};
 ghost use Rattle.sp_bank.specs.Banking.{InSpace, IsAllowedSize};
 
+use crate::divisor::gcd;
 use smallvec::SmallVec;
+use std::alloc::AllocError;
 use std::marker::Model;
 
-use crate::divisor::gcd;
-
 /// A way to divide a memory into banks: element x stands in bank `alpha·x / block mod banks`.
-#[derive(Clone, Debug, Drop)]
+#[derive(Debug, Drop)]
 pub struct Scheme {
     /// From 1 to 32.
     pub banks: u32,
@@ -28,6 +28,23 @@ impl Model for Scheme {
     ghost view = { λ s. record { banks = s.banks; block = s.block; alpha = s.alpha.items; hinge = s.hinge } };
 
     ghost invariant = { λ s. InSpace (record { banks = s.banks; block = s.block; alpha = s.alpha.items; hinge = s.hinge }) };
+}
+
+impl Clone for Scheme {
+    ghost is_clone = { λ s t. t ≡ s };
+
+    fn clone(&self) -> Result<Scheme, AllocError>
+        ensures same { IfOk result (λ s. s ≡ self.now) }
+        ensures cases { MatchResult result (λ s. s ≡ self.now) (λ _. ¬ ⊥) }
+    {
+        let alpha = SmallVec::from_slice(*self.alpha.allocator(), self.alpha.as_slice())?;
+        Ok(Scheme {
+            banks: self.banks,
+            block: self.block,
+            alpha,
+            hinge: self.hinge,
+        })
+    }
 }
 
 impl Scheme {
@@ -65,7 +82,10 @@ fn is_in_space(banks: u32, block: u32, alpha: &[u32], hinge: u8) -> bool
 fn has_allowed_sizes(banks: u32, block: u32, rank: usize, hinge: usize) -> bool
     ensures { IsTrue result ↔ IsAllowedSize banks block rank hinge }
 {
-    (1..=32).contains(&banks) && matches!(block, 1 | 2 | 4) && (1..=3).contains(&rank) && hinge < rank
+    (1..=32).contains(&banks)
+        && matches!(block, 1 | 2 | 4)
+        && (1..=3).contains(&rank)
+        && hinge < rank
 }
 
 fn all_below(alpha: &[u32], banks: u32) -> bool

@@ -3,10 +3,9 @@ ghost use Rattle.std.specs.Prelude.{◌≡◌, ◌↔◌, ◌<◌, ◌*◌, ◌+
 ghost use Rattle.sp_bank.specs.Banking.{InSpace};
 ghost use Rattle.sp_bank.specs.Separation.{AreApart, AreFar, PairApart, Separates, IsGroup, access, access_count, constants, residue_of};
 
-use sp_affine::Form;
-
 use crate::residue::residue;
 use crate::scheme::Scheme;
+use sp_affine::Form;
 
 /// Whether a scheme puts two accesses in different banks wherever their elements differ: each
 /// access has a form for each dimension, and the two have equal linear parts.

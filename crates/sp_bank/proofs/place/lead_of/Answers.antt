@@ -18,8 +18,8 @@ row_major_from-requires-clause-small c =
     let whole = product_of-remove c.args.dims.now c.args.hinge c.requires.hinge in
     let scaled = ap (λ z. z * get_or c.args.dims.now c.args.hinge 0) others in
     rw (rest_is c.args.dims.now c.args.hinge)
-      (room_after c.row_major_from-before.result (product_of (take c.args.hinge c.args.dims.now)) (product_of (drop (suc c.args.hinge) c.args.dims.now))
-        (get_or c.args.dims.now c.args.hinge 0) 4294967296 before (omega (arith, size)) (omega (arith, scaled, whole, c.requires.small)))
+    (room_after c.row_major_from-before.result (product_of (take c.args.hinge c.args.dims.now)) (product_of (drop (suc c.args.hinge) c.args.dims.now))
+    (get_or c.args.dims.now c.args.hinge 0) 4294967296 before (omega (arith, size)) (omega (arith, scaled, whole, c.requires.small)))
 
 pub row_major_from-requires-clause-inside : goal.row_major_from-requires-clause-inside
 row_major_from-requires-clause-inside c =
@@ -29,7 +29,7 @@ pub returns-clause-value : goal.returns-clause-value
 returns-clause-value c =
     let last = rw (rest_is c.args.dims.now c.args.hinge, rest_is c.args.x.now c.args.hinge) at c.row_major_from.ensures in
     let whole = row_major-append (take c.args.hinge c.args.dims.now) (drop (suc c.args.hinge) c.args.dims.now) (take c.args.hinge c.args.x.now) (drop (suc c.args.hinge) c.args.x.now)
-      (IsInside-take c.args.dims.now c.args.x.now c.args.hinge c.requires.inside) in
+    (IsInside-take c.args.dims.now c.args.x.now c.args.hinge c.requires.inside) in
     let first : c.row_major_from-before.result ≡ row_major (take c.args.hinge c.args.dims.now) (take c.args.hinge c.args.x.now) = omega (arith, c.row_major_from-before.ensures) in
     let scaled = ap (λ z. z * product_of (drop (suc c.args.hinge) c.args.dims.now)) first in
     omega (arith, last, whole, scaled)

@@ -17,7 +17,7 @@ overflow_mul-row c =
     let period : c.from-period.result ≡ c.args.s.now.banks * c.args.s.now.block = cc in
     let block : c.from-block.result ≡ c.args.s.now.block = cc in
     let size = sizes c.args.s.now c.args.dims.now c.args.x.now c.from-hinge.result c.lead_of-lead.result c.from.result (get_or c.args.x.now c.from-hinge.result 0) c.from-period.result c.div_ceil-periods.result c.from-block.result
-      space c.requires.rank c.requires.inside c.requires.small q c.from.ensures refl period c.div_ceil-periods.ensures c.lead_of-lead.ensures.below block in
+    space c.requires.rank c.requires.inside c.requires.small q c.from.ensures refl period c.div_ceil-periods.ensures c.lead_of-lead.ensures.below block in
     omega (arith, size.row_fits)
 
 pub overflow_add-row : goal.overflow_add-row
@@ -27,7 +27,7 @@ overflow_add-row c =
     let period : c.from-period.result ≡ c.args.s.now.banks * c.args.s.now.block = cc in
     let block : c.from-block.result ≡ c.args.s.now.block = cc in
     let size = sizes c.args.s.now c.args.dims.now c.args.x.now c.from-hinge.result c.lead_of-lead.result c.from.result c.from-2.result c.from-period.result c.div_ceil-periods.result c.from-block.result
-      space c.requires.rank c.requires.inside c.requires.small q c.from.ensures c.from-2.ensures period c.div_ceil-periods.ensures c.lead_of-lead.ensures.below block in
+    space c.requires.rank c.requires.inside c.requires.small q c.from.ensures c.from-2.ensures period c.div_ceil-periods.ensures c.lead_of-lead.ensures.below block in
     omega (arith, size.row_fits)
 
 pub overflow_mul-result : goal.overflow_mul-result
@@ -37,7 +37,7 @@ overflow_mul-result c =
     let period : c.from-period.result ≡ c.args.s.now.banks * c.args.s.now.block = cc in
     let block : c.from-block.result ≡ c.args.s.now.block = cc in
     let size = sizes c.args.s.now c.args.dims.now c.args.x.now c.from-hinge.result c.lead_of-lead.result c.from.result c.from-2.result c.from-period.result c.div_ceil-periods.result c.from-block.result
-      space c.requires.rank c.requires.inside c.requires.small q c.from.ensures c.from-2.ensures period c.div_ceil-periods.ensures c.lead_of-lead.ensures.below block in
+    space c.requires.rank c.requires.inside c.requires.small q c.from.ensures c.from-2.ensures period c.div_ceil-periods.ensures c.lead_of-lead.ensures.below block in
     omega (arith, cells_small _ c.from-block.result 0 size.row_fits size.block_fits size.some_block)
 
 pub overflow_add-result : goal.overflow_add-result
@@ -47,9 +47,12 @@ overflow_add-result c =
     let period : c.from-period.result ≡ c.args.s.now.banks * c.args.s.now.block = cc in
     let block : c.from-block.result ≡ c.args.s.now.block = cc in
     let size = sizes c.args.s.now c.args.dims.now c.args.x.now c.from-hinge.result c.lead_of-lead.result c.from.result c.from-2.result c.from-period.result c.div_ceil-periods.result c.from-block.result
-      space c.requires.rank c.requires.inside c.requires.small q c.from.ensures c.from-2.ensures period c.div_ceil-periods.ensures c.lead_of-lead.ensures.below block in
-    omega (arith, cells_small _ c.from-block.result (c.weighted_place.result % c.from-block.result) size.row_fits size.block_fits
-      (mod_below c.weighted_place.result c.from-block.result size.some_block))
+    space c.requires.rank c.requires.inside c.requires.small q c.from.ensures c.from-2.ensures period c.div_ceil-periods.ensures c.lead_of-lead.ensures.below block in
+    omega (
+      arith,
+      cells_small _ c.from-block.result (c.weighted_place.result % c.from-block.result) size.row_fits size.block_fits
+          (mod_below c.weighted_place.result c.from-block.result size.some_block),
+    )
 
 pub weighted_place-requires-clause-rank : goal.weighted_place-requires-clause-rank
 weighted_place-requires-clause-rank c =
@@ -64,8 +67,8 @@ returns-clause-place c =
     let alpha : c.as_slice.result.now ≡ c.args.s.now.alpha = cc in
     let weighed : c.weighted_place.result ≡ weighted c.args.s.now.alpha c.args.x.now = c.weighted_place.ensures ∙ ap (λ z. weighted z c.args.x.now) alpha in
     is_offset c.args.s.now c.args.dims.now c.args.x.now c.from-hinge.result c.lead_of-lead.result c.from.result c.from-2.result c.from-period.result
-      c.div_ceil-periods.result c.from-block.result c.weighted_place.result q c.from.ensures c.from-2.ensures period c.div_ceil-periods.ensures
-      c.lead_of-lead.ensures.value block weighed
+    c.div_ceil-periods.result c.from-block.result c.weighted_place.result q c.from.ensures c.from-2.ensures period c.div_ceil-periods.ensures
+    c.lead_of-lead.ensures.value block weighed
 
 pub returns-clause-below : goal.returns-clause-below
 returns-clause-below c =

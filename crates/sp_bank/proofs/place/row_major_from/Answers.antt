@@ -10,11 +10,11 @@ overflow_mul-number c =
     let inside : c.loop-i.i < length c.args.dims.now = c.loop-i-test.true in
     let index = IsInside-at c.args.dims.now c.args.x.now c.loop-i.i inside c.requires.inside in
     let below = step_below c.args.start c.loop-i.number (product_of (take c.loop-i.i c.args.dims.now)) (get_or c.args.dims.now c.loop-i.i 0) (get_or c.args.x.now c.loop-i.i 0)
-      c.loop-i.invariant.below index in
+    c.loop-i.invariant.below index in
     let product = product_of-take c.args.dims.now c.loop-i.i inside in
     let fits = step_fits c.args.start _ _ (2 ^ 32) (product_of-take-le c.args.dims.now c.args.x.now (c.loop-i.i + 1) c.requires.inside) c.requires.small in
     let same : (c.args.start + 1) * product_of (take (c.loop-i.i + 1) c.args.dims.now) ≡ (c.args.start + 1) * (product_of (take c.loop-i.i c.args.dims.now) * get_or c.args.dims.now c.loop-i.i 0) =
-      ap (λ z. (c.args.start + 1) * z) product in
+    ap (λ z. (c.args.start + 1) * z) product in
     let size = ap (λ z. c.loop-i.number * z) c.from.ensures in
     omega (arith, below, same, fits, size)
 
@@ -23,11 +23,11 @@ overflow_add-number c =
     let inside : c.loop-i.i < length c.args.dims.now = c.loop-i-test.true in
     let index = IsInside-at c.args.dims.now c.args.x.now c.loop-i.i inside c.requires.inside in
     let below = step_below c.args.start c.loop-i.number (product_of (take c.loop-i.i c.args.dims.now)) (get_or c.args.dims.now c.loop-i.i 0) (get_or c.args.x.now c.loop-i.i 0)
-      c.loop-i.invariant.below index in
+    c.loop-i.invariant.below index in
     let product = product_of-take c.args.dims.now c.loop-i.i inside in
     let fits = step_fits c.args.start _ _ (2 ^ 32) (product_of-take-le c.args.dims.now c.args.x.now (c.loop-i.i + 1) c.requires.inside) c.requires.small in
     let same : (c.args.start + 1) * product_of (take (c.loop-i.i + 1) c.args.dims.now) ≡ (c.args.start + 1) * (product_of (take c.loop-i.i c.args.dims.now) * get_or c.args.dims.now c.loop-i.i 0) =
-      ap (λ z. (c.args.start + 1) * z) product in
+    ap (λ z. (c.args.start + 1) * z) product in
     let size = ap (λ z. c.loop-i.number * z) c.from.ensures in
     omega (arith, below, same, fits, size, c.from-in-loop-i.ensures)
 
@@ -36,11 +36,11 @@ loop-i-preserved c =
     let inside : c.loop-i.i < length c.args.dims.now = c.loop-i-test.true in
     let index = IsInside-at c.args.dims.now c.args.x.now c.loop-i.i inside c.requires.inside in
     let below = step_below c.args.start c.loop-i.number (product_of (take c.loop-i.i c.args.dims.now)) (get_or c.args.dims.now c.loop-i.i 0) (get_or c.args.x.now c.loop-i.i 0)
-      c.loop-i.invariant.below index in
+    c.loop-i.invariant.below index in
     let product = product_of-take c.args.dims.now c.loop-i.i inside in
     let fits = step_fits c.args.start _ _ (2 ^ 32) (product_of-take-le c.args.dims.now c.args.x.now (c.loop-i.i + 1) c.requires.inside) c.requires.small in
     let same : (c.args.start + 1) * product_of (take (c.loop-i.i + 1) c.args.dims.now) ≡ (c.args.start + 1) * (product_of (take c.loop-i.i c.args.dims.now) * get_or c.args.dims.now c.loop-i.i 0) =
-      ap (λ z. (c.args.start + 1) * z) product in
+    ap (λ z. (c.args.start + 1) * z) product in
     let long = IsInside-length c.args.dims.now c.args.x.now c.requires.inside in
     let number = row_major-take c.args.dims.now c.args.x.now c.loop-i.i c.requires.inside long inside in
     let size = ap (λ z. c.loop-i.number * z) c.from.ensures in
@@ -48,7 +48,8 @@ loop-i-preserved c =
     let grown = ap (λ z. c.args.start * z) product in
     record {
       is_number = omega (arith, number, size, known, grown, c.from-in-loop-i.ensures);
-      below = omega (arith, below, same, size, c.from-in-loop-i.ensures) }
+      below = omega (arith, below, same, size, c.from-in-loop-i.ensures);
+    }
 
 pub returns : goal.returns
 returns c =

@@ -15,19 +15,20 @@ loop-i-preserved c =
     let below : c.loop-i.i < length c.args.alpha.now = omega arith in
     let fits : FitsSigned w64 c.form.inside.constant = search rules in
     let shown : c.form.inside.constant ≡ (get_or c.args.access.now c.loop-i.i c.index-access-i.result).constant =
-      ap (λ f. f.constant) c.form.view_is ∙ ap (λ f. f.constant) c.index-access-i.is in
+    ap (λ f. f.constant) c.form.view_is ∙ ap (λ f. f.constant) c.index-access-i.is in
     let constant = shown ∙ sym (constants-at c.args.access.now c.loop-i.i c.index-access-i.result c.loop-i-test.true) in
     let value = c.remainder.ensures.value ∙ ap (λ z. int_rem_euclid z (pos c.args.period)) (to_z-of_z w64 _ fits ∙ constant) in
     let W : ℤ → Type 0 = λ z. IsCongruent c.args.period z (c.loop-i.sum + get_or c.args.alpha.now c.loop-i.i 0 * c.remainder.result) in
     record {
       congruent = subst W (sym (weighted_sum-take c.args.alpha.now (constants c.args.access.now) c.loop-i.i count below))
-        (congruent_more c.args.period _ c.loop-i.sum (get_or c.args.alpha.now c.loop-i.i 0) _ c.remainder.result c.requires.some c.loop-i.invariant.congruent value);
+          (congruent_more c.args.period _ c.loop-i.sum (get_or c.args.alpha.now c.loop-i.i 0) _ c.remainder.result c.requires.some c.loop-i.invariant.congruent value);
       small = step_small c.loop-i.sum c.loop-i.i (get_or c.args.alpha.now c.loop-i.i 0) c.remainder.result c.loop-i.invariant.small
-        (c.requires.weights c.loop-i.i 0 below) (omega (arith, c.remainder.ensures.below)) }
+          (c.requires.weights c.loop-i.i 0 below) (omega (arith, c.remainder.ensures.below));
+    }
 
 pub returns-clause-value : goal.returns-clause-value
 returns-clause-value c =
     let past : length c.args.alpha.now ≤ c.loop-i.i = omega arith in
     let count : length (constants c.args.access.now) ≤ c.loop-i.i = omega (arith, length-map c.args.access.now (λ f. f.constant)) in
     residue_from_congruent c.args.period _ _ c.requires.some
-      (rw (take_all c.loop-i.i c.args.alpha.now past, take_all c.loop-i.i (constants c.args.access.now) count) at c.loop-i.invariant.congruent)
+    (rw (take_all c.loop-i.i c.args.alpha.now past, take_all c.loop-i.i (constants c.args.access.now) count) at c.loop-i.invariant.congruent)

@@ -10,9 +10,10 @@ use Rattle.sp_bank.proofs.scheme.is_in_space.Goals as goal
 decided : (s : Banking) (g : ℕ) → IsAllowedSize s.banks s.block (length s.alpha) s.hinge → All (λ a. a < s.banks) s.alpha →
     IsGcd (get_or s.alpha s.hinge 0) (s.banks * s.block) g → IsTrue (nat_eq g 1) ↔ InSpace s
 decided s g size weights divisor =
-    let D : ℕ → Type 0 = λ d. IsGcd (get_or s.alpha s.hinge 0) (s.banks * s.block) d in
-    (λ e. record { size = size; weights = weights; hinge = subst D (eqb-true g 1 e) divisor },
-     λ space. eq-eqb g 1 (same_from_IsGcd _ _ g 1 divisor space.hinge))
+    let D : ℕ → Type 0 = λ d. IsGcd (get_or s.alpha s.hinge 0) (s.banks * s.block) d in (
+      λ e. record { size = size; weights = weights; hinge = subst D (eqb-true g 1 e) divisor },
+      λ space. eq-eqb g 1 (same_from_IsGcd _ _ g 1 divisor space.hinge),
+    )
 
 pub returns-then-all_below : goal.returns-then-all_below
 returns-then-all_below c =
