@@ -1,0 +1,11 @@
+pub mod ApartLemmas
+pub mod Differences
+pub mod Distinct
+pub mod First
+pub mod Floor
+pub mod Gcd
+pub mod Integers
+pub mod MemorySizes
+pub mod Order
+pub mod PlaceFacts
+pub mod ResidueLemmas

@@ -1,0 +1,4 @@
+pub mod Banking
+pub mod Places
+pub mod Search
+pub mod Separation

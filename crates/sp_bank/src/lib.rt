@@ -1,0 +1,23 @@
+//! Schemes that divide a memory into banks: the first one that keeps accesses apart, and certificates.
+#![tactic(auto)]
+
+mod certificate;
+mod clash;
+mod divisor;
+mod group;
+mod place;
+mod residue;
+mod scheme;
+mod searching;
+mod separation;
+
+pub use certificate::{CertError, Certificate, certify, check_certificate};
+pub use clash::separates;
+pub use group::{are_groups, is_group};
+pub use place::{bank_of, offset_of};
+pub use scheme::Scheme;
+pub use searching::search;
+pub use separation::apart;
+
+#[cfg(test)]
+mod tests;
