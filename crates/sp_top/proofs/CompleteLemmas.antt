@@ -24,37 +24,36 @@ past standing bytes told small long =
 same_bytes : (standing : Standing) (bytes others : List ℕ) → standing ≡ Holds bytes → IsAllOf standing others → others ≡ bytes
 same_bytes standing bytes others told all = subst (λ (s : Standing). IsAllOf s others) told all
 
-not_too_long : (said : List (List ℕ)) (told : List ℕ → Standing) (program bytes name : List ℕ) (command : Command)
+not_too_long : (said : List (List ℕ)) (told : List ℕ → Standing) (failed : List ℕ → Type 0) (program bytes name : List ℕ) (command : Command)
     → IsCommand said (compile program) → told program ≡ Holds bytes → length bytes ≤ longest_program
-    → IsCommand said command → MayRefuse told command (too_long name) → ⊥
-not_too_long said told program bytes name (compile other) is holds small also refuses =
+    → IsCommand said command → MayRefuse told failed command (too_long name) → ⊥
+not_too_long said told failed program bytes name (compile other) is holds small also refuses =
     past (told other) bytes (ap told (one_program said other program also is) ∙ holds) small refuses.1
 
-not_unbuilt : (said : List (List ℕ)) (told : List ℕ → Standing) (program bytes : List ℕ) (lines : List Line) (line : ℕ) (command : Command)
+not_unbuilt : (said : List (List ℕ)) (told : List ℕ → Standing) (failed : List ℕ → Type 0) (program bytes : List ℕ) (lines : List Line) (line : ℕ) (command : Command)
     → IsCommand said (compile program) → told program ≡ Holds bytes → IsStraight bytes lines
-    → IsCommand said command → MayRefuse told command (unbuilt line) → ⊥
-not_unbuilt said told program bytes lines line (compile other) is holds straight also refuses =
+    → IsCommand said command → MayRefuse told failed command (unbuilt line) → ⊥
+not_unbuilt said told failed program bytes lines line (compile other) is holds straight also refuses =
     let same : refuses.0 ≡ bytes = same_bytes (told other) bytes refuses.0 (ap told (one_program said other program also is) ∙ holds) refuses.1.all in
     breaks_or_reads bytes line lines (subst (λ (b : List ℕ). BreaksAt b line) same refuses.2) straight
 
--- a fault of reading is one of a name that isn't sure
-unread : (said : List (List ℕ)) (sure : List ℕ → Type 0) (program name : List ℕ) (command : Command)
-    → IsCommand said (compile program) → sure program → IsCommand said command → AsksFor command name → (sure name → ⊥) → ⊥
-unread said sure program name (compile other) is is_sure also asked not_sure =
-    not_sure (subst sure (one_program said program other is also ∙ sym asked) is_sure)
+-- a fault of reading is one of a name that is asked for
+unread : (said : List (List ℕ)) (told : List ℕ → Standing) (failed : List ℕ → Type 0) (program : List ℕ) (command : Command)
+    → IsCommand said (compile program) → (failed program → ⊥) → IsCommand said command → MayRefuse told failed command read_fault → ⊥
+unread said told failed program (compile other) is read also refuses =
+    read (subst failed (refuses.1 ∙ one_program said other program also is) refuses.2)
 
-pub complete : (said : List (List ℕ)) (told : List ℕ → Standing) (sure : List ℕ → Type 0) (out aside : SinkChange) (result : PlainStatus)
-    (program bytes : List ℕ) (lines : List Line) → Records (MayEnd said told) out aside result
-    → (result ≡ read_fault → (command : Command) × IsCommand said command × (name : List ℕ) × AsksFor command name × (sure name → ⊥))
-    → IsCommand said (compile program) → sure program → told program ≡ Holds bytes → length bytes ≤ longest_program → IsStraight bytes lines
+pub complete : (said : List (List ℕ)) (told : List ℕ → Standing) (failed : List ℕ → Type 0) (out aside : SinkChange) (result : PlainStatus)
+    (program bytes : List ℕ) (lines : List Line) → Records (MayEnd said told failed) out aside result
+    → IsCommand said (compile program) → (failed program → ⊥) → told program ≡ Holds bytes → length bytes ≤ longest_program → IsStraight bytes lines
     → NotRefused result
-complete said told sure out aside done program bytes lines records fault is is_sure holds small straight = tt
-complete said told sure out aside memory program bytes lines records fault is is_sure holds small straight = tt
-complete said told sure out aside (write_fault which) program bytes lines records fault is is_sure holds small straight = tt
-complete said told sure out aside words program bytes lines records fault is is_sure holds small straight = records.2.0 (compile program) is
-complete said told sure out aside read_fault program bytes lines records fault is is_sure holds small straight =
-    let f = fault refl in unread said sure program f.2 f.0 is is_sure f.1 f.3 f.4
-complete said told sure out aside (too_long name) program bytes lines records fault is is_sure holds small straight =
-    let m = records.2 in not_too_long said told program bytes name m.0 is holds small m.1 m.2
-complete said told sure out aside (unbuilt line) program bytes lines records fault is is_sure holds small straight =
-    let m = records.2 in not_unbuilt said told program bytes lines line m.0 is holds straight m.1 m.2
+complete said told failed out aside done program bytes lines records is read holds small straight = tt
+complete said told failed out aside memory program bytes lines records is read holds small straight = tt
+complete said told failed out aside (write_fault which) program bytes lines records is read holds small straight = tt
+complete said told failed out aside words program bytes lines records is read holds small straight = records.2.0 (compile program) is
+complete said told failed out aside read_fault program bytes lines records is read holds small straight =
+    let m = records.2 in unread said told failed program m.0 is read m.1 m.2
+complete said told failed out aside (too_long name) program bytes lines records is read holds small straight =
+    let m = records.2 in not_too_long said told failed program bytes name m.0 is holds small m.1 m.2
+complete said told failed out aside (unbuilt line) program bytes lines records is read holds small straight =
+    let m = records.2 in not_unbuilt said told failed program bytes lines line m.0 is holds straight m.1 m.2

@@ -62,30 +62,30 @@ pub record Compiles (told : List ℕ → Standing) (program out aside : List ℕ
 abbrev pub DoneTexts : (List ℕ → Standing) → Command → (out aside : List ℕ) → Type 0
 DoneTexts told (compile program) out aside = Compiles told program out aside
 
--- The statuses in which a command may refuse, each with its cause. That a name couldn't be read has a cause of
--- its own; want of memory may come always.
-abbrev pub MayRefuse : (List ℕ → Standing) → Command → PlainStatus → Type 0
-MayRefuse told command done = ⊥
-MayRefuse told command words = ⊥
-MayRefuse told command (write_fault which) = ⊥
-MayRefuse told command read_fault = Unit {0}
-MayRefuse told command memory = Unit {0}
-MayRefuse told (compile program) (too_long name) = (name ≡ program) × IsPastProgram told program
-MayRefuse told (compile program) (unbuilt line) = (bytes : List ℕ) × GivesProgram told program bytes × BreaksAt bytes line
-
 -- the names that a command asks for
 abbrev pub AsksFor : Command → List ℕ → Type 0
 AsksFor (compile program) name = name ≡ program
 
+-- The statuses in which a command may refuse, each with its cause, where `failed` says of a name that reading it
+-- may have failed. Want of memory may come always.
+abbrev pub MayRefuse : (List ℕ → Standing) → (List ℕ → Type 0) → Command → PlainStatus → Type 0
+MayRefuse told failed command done = ⊥
+MayRefuse told failed command words = ⊥
+MayRefuse told failed command (write_fault which) = ⊥
+MayRefuse told failed command read_fault = (name : List ℕ) × AsksFor command name × failed name
+MayRefuse told failed command memory = Unit {0}
+MayRefuse told failed (compile program) (too_long name) = (name ≡ program) × IsPastProgram told program
+MayRefuse told failed (compile program) (unbuilt line) = (bytes : List ℕ) × GivesProgram told program bytes × BreaksAt bytes line
+
 -- How a call with these words may end, with the texts for `out` and `aside` that belong to it: a command is
 -- done with its texts, or refuses with the status's line; words that are no command are refused.
-abbrev pub MayEnd : List (List ℕ) → (List ℕ → Standing) → PlainStatus → (out aside : List ℕ) → Type 0
-MayEnd said told done out aside = (command : Command) × IsCommand said command × DoneTexts told command out aside
-MayEnd said told words out aside = ((command : Command) → IsCommand said command → ⊥) × (out ≡ line_of words) × (aside ≡ [])
-MayEnd said told (write_fault which) out aside = ⊥
-MayEnd said told memory out aside = (out ≡ line_of memory) × (aside ≡ [])
-MayEnd said told status out aside =
-    (command : Command) × IsCommand said command × MayRefuse told command status × (out ≡ line_of status) × (aside ≡ [])
+abbrev pub MayEnd : List (List ℕ) → (List ℕ → Standing) → (List ℕ → Type 0) → PlainStatus → (out aside : List ℕ) → Type 0
+MayEnd said told failed done out aside = (command : Command) × IsCommand said command × DoneTexts told command out aside
+MayEnd said told failed words out aside = ((command : Command) → IsCommand said command → ⊥) × (out ≡ line_of words) × (aside ≡ [])
+MayEnd said told failed (write_fault which) out aside = ⊥
+MayEnd said told failed memory out aside = (out ≡ line_of memory) × (aside ≡ [])
+MayEnd said told failed status out aside =
+    (command : Command) × IsCommand said command × MayRefuse told failed command status × (out ≡ line_of status) × (aside ≡ [])
 
 -- the call wasn't refused for its words, its input or its text
 abbrev pub NotRefused : PlainStatus → Type 0

@@ -29,8 +29,8 @@ fn too_long(alloc: Global, name: &str) -> Status
 // The bytes of a program.
 fn read_program<I: Inputs>(alloc: Global, name: &str, inputs: &mut I) -> Result<Vec<u8>, Status>
     ensures given { IfOk result (λ bytes. GivesProgram (I.told inputs.old) name.now bytes.items) }
-    ensures refused { IfErr result (λ status. MayRefuse (I.told inputs.old) (compile name.now) (plain_status status)) }
-    ensures fault { IfErr result (λ status. plain_status status ≡ read_fault → Rose (I.faults inputs.old) (I.faults inputs.new) × (I.sure inputs.old name.now → ⊥)) }
+    ensures refused { IfErr result (λ status. MayRefuse (I.told inputs.old)
+        (λ name. Rose (I.faults inputs.old) (I.faults inputs.new) × (I.sure inputs.old name → ⊥)) (compile name.now) (plain_status status)) }
 {
     let mut bytes = Vec::new(alloc);
     match inputs.read_into(name, LONGEST_PROGRAM, &mut bytes) {
@@ -74,9 +74,8 @@ fn listing_of_program(alloc: Global, bytes: &[u8]) -> Result<String, Status>
 /// Reads a program and gives the listing of its netlist for `out`, and nothing for `aside`.
 pub fn compile<I: Inputs>(alloc: Global, program: &str, inputs: &mut I) -> Result<Texts, Status>
     ensures done { IfOk result (λ texts. DoneTexts (I.told inputs.old) (compile program.now) (string_bytes texts.out) (string_bytes texts.aside)) }
-    ensures refused { IfErr result (λ status. MayRefuse (I.told inputs.old) (compile program.now) (plain_status status)) }
-    ensures fault { IfErr result (λ status. plain_status status ≡ read_fault → Rose (I.faults inputs.old) (I.faults inputs.new)
-        × (name : _) × AsksFor (compile program.now) name × (I.sure inputs.old name → ⊥)) }
+    ensures refused { IfErr result (λ status. MayRefuse (I.told inputs.old)
+        (λ name. Rose (I.faults inputs.old) (I.faults inputs.new) × (I.sure inputs.old name → ⊥)) (compile program.now) (plain_status status)) }
 {
     let bytes = read_program(alloc, program, inputs)?;
     Ok(Texts {

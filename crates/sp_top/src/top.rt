@@ -19,9 +19,8 @@ use std::alloc::Global;
 // The texts of a command, or why it refuses.
 fn texts_of<I: Inputs>(alloc: Global, command: Command<'_>, inputs: &mut I) -> Result<Texts, Status>
     ensures done { IfOk result (λ texts. DoneTexts (I.told inputs.old) (plain_command command.entry) (string_bytes texts.out) (string_bytes texts.aside)) }
-    ensures refused { IfErr result (λ status. MayRefuse (I.told inputs.old) (plain_command command.entry) (plain_status status)) }
-    ensures fault { IfErr result (λ status. plain_status status ≡ read_fault → Rose (I.faults inputs.old) (I.faults inputs.new)
-        × (name : _) × AsksFor (plain_command command.entry) name × (I.sure inputs.old name → ⊥)) }
+    ensures refused { IfErr result (λ status. MayRefuse (I.told inputs.old)
+        (λ name. Rose (I.faults inputs.old) (I.faults inputs.new) × (I.sure inputs.old name → ⊥)) (plain_command command.entry) (plain_status status)) }
 {
     match command {
         Command::Compile { program } => compile(alloc, program, inputs),
@@ -36,12 +35,10 @@ fn answer<I: Inputs, K: Sink, A: Sink>(
     out: &mut K,
     aside: &mut A,
 ) -> Status
-    ensures record { Records (MayEnd (map string_bytes words.now) (I.told inputs.old))
+    ensures record { Records (MayEnd (map string_bytes words.now) (I.told inputs.old) (λ name. Rose (I.faults inputs.old) (I.faults inputs.new) × (I.sure inputs.old name → ⊥)))
         (record { before = K.taken out.old; after = K.taken out.new; faults_before = K.faults out.old; faults_after = K.faults out.new; room = K.sure_room out.old })
         (record { before = A.taken aside.old; after = A.taken aside.new; faults_before = A.faults aside.old; faults_after = A.faults aside.new; room = A.sure_room aside.old })
         (plain_status result) }
-    ensures read_fault { plain_status result ≡ read_fault → Rose (I.faults inputs.old) (I.faults inputs.new)
-        × (command : commands.Command) × IsCommand (map string_bytes words.now) command × (name : List ℕ) × AsksFor command name × (I.sure inputs.old name → ⊥) }
 {
     let Some(command) = command_of(words) else {
         return refuse(alloc, out, Status::Words);
@@ -62,13 +59,10 @@ pub fn spatialc<I: Inputs, K: Sink, A: Sink>(
     aside: &mut A,
 ) -> Status
     // What the sinks gained belongs to the status, and each status has its cause.
-    ensures record { Records (MayEnd (map string_bytes words.now) (I.told inputs.old))
+    ensures record { Records (MayEnd (map string_bytes words.now) (I.told inputs.old) (λ name. Rose (I.faults inputs.old) (I.faults inputs.new) × (I.sure inputs.old name → ⊥)))
         (record { before = K.taken out.old; after = K.taken out.new; faults_before = K.faults out.old; faults_after = K.faults out.new; room = K.sure_room out.old })
         (record { before = A.taken aside.old; after = A.taken aside.new; faults_before = A.faults aside.old; faults_after = A.faults aside.new; room = A.sure_room aside.old })
         (plain_status result) }
-    // A name can't be read only where reading failed in this call, for a name that wasn't sure.
-    ensures read_fault { plain_status result ≡ read_fault → Rose (I.faults inputs.old) (I.faults inputs.new)
-        × (command : commands.Command) × IsCommand (map string_bytes words.now) command × (name : List ℕ) × AsksFor command name × (I.sure inputs.old name → ⊥) }
     // A program of the form under a sure name isn't refused.
     ensures complete { (program bytes : List ℕ) (lines : List Line) → IsCommand (map string_bytes words.now) (commands.compile program) → I.sure inputs.old program
         → I.told inputs.old program ≡ Holds bytes → length bytes ≤ longest_program → IsStraight bytes lines → NotRefused (plain_status result) }
