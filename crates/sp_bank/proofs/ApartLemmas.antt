@@ -5,7 +5,7 @@ use Rattle.std.proofs.lemmas.Int.{ints}
 use Rattle.std.proofs.lemmas.Nat.{mul-lt}
 use Rattle.std.proofs.lemmas.Bool.Decides.{leb_tells}
 use borrow.Author.Differences.{up, down, sum_is_lem, neg_is}
-use Rattle.sp_bank.specs.Banking.{Banking, period}
+use Rattle.sp_bank.specs.Banking.{Banking}
 use Rattle.sp_bank.specs.Separation.{bank_at, weighted_sum, AreApart, IsAbove, AreFar, residue_of}
 use Rattle.sp_bank.proofs.Floor.{Parts, parts, quotient_of, remainder_of, between}
 

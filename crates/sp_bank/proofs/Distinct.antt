@@ -1,5 +1,5 @@
 -- Bank and offset determine the element.
-use Rattle.std.proofs.Common.{◌≡◌, ℕ, zero, suc, ◌+◌, ◌-◌, ◌*◌, ◌/◌, ◌%◌, ◌<◌, ◌≤◌, List, [], ◌∷◌, ◌++◌, length, get_or, take, drop, refl, ap, sym, ◌∙◌, subst, arith, ◌⊎◌, inl, inr, min}
+use Rattle.std.proofs.Common.{◌≡◌, ℕ, zero, suc, ◌+◌, ◌-◌, ◌*◌, ◌/◌, ◌%◌, ◌<◌, ◌≤◌, List, [], ◌∷◌, length, get_or, refl, ap, sym, ◌∙◌, arith, ◌⊎◌, inl, inr, min}
 use Rattle.std.specs.List.{remove}
 use Rattle.std.specs.Int.{IsGcd, div_ceil, ◌∣◌}
 use Rattle.std.proofs.lemmas.Nat.{div-add-mod', mod_below, same_from_place, mul-add-lt, mul-lt, div_below}

@@ -1,11 +1,10 @@
 -- The search through all weights of one number of banks and one block.
-use Rattle.std.proofs.Common.{◌≡◌, ℕ, ◌+◌, ◌*◌, ◌^◌, ◌<◌, ◌≤◌, List, length, get_or, refl, ap, sym, ◌∙◌, subst, arith, ◌⊎◌, inl, inr}
+use Rattle.std.proofs.Common.{◌≡◌, ℕ, ◌*◌, ◌^◌, ◌<◌, List, length, get_or, ap, sym, ◌∙◌, subst, arith, inl, inr}
 use Rattle.std.specs.List.{All}
 use Rattle.std.specs.Int.{IsGcd}
 use Rattle.sp_affine.specs.Affine.{Affine}
 use Rattle.sp_bank.specs.Banking.{Banking, InSpace, IsAllowedSize}
-use Rattle.sp_bank.specs.Separation.{Separates}
-use Rattle.sp_bank.specs.Search.{Serves, SeparatesAll, Precedes, IsLexicographicallyLess, digits}
+use Rattle.sp_bank.specs.Search.{Serves, SeparatesAll, Precedes, digits}
 use Rattle.sp_bank.proofs.Order.{code_of, code_of-below, digits-code_of, code_of-digits, code_of-less, digits-below, length-digits}
 
 weights_at : (t : Banking) (banks : ℕ) → InSpace t → t.banks ≡ banks → All (λ a. a < banks) t.alpha

@@ -1,8 +1,8 @@
 -- The sizes of a memory's parts.
-use Rattle.std.proofs.Common.{◌≡◌, ℕ, zero, suc, ◌+◌, ◌-◌, ◌*◌, ◌/◌, ◌%◌, ◌<◌, ◌≤◌, ◌^◌, List, [], ◌∷◌, ◌++◌, length, get_or, take, drop, refl, ap, sym, ◌∙◌, subst, arith, min}
+use Rattle.std.proofs.Common.{◌≡◌, ℕ, zero, suc, ◌+◌, ◌-◌, ◌*◌, ◌/◌, ◌%◌, ◌<◌, ◌≤◌, ◌^◌, List, [], ◌∷◌, ◌++◌, length, get_or, take, drop, ap, ◌∙◌, arith, min}
 use Rattle.std.specs.List.{remove}
 use Rattle.std.specs.Int.{div_ceil}
-use Rattle.std.proofs.lemmas.Nat.{div-add-mod', mod_below, mul-le, mul-add-lt}
+use Rattle.std.proofs.lemmas.Nat.{div-add-mod', mul-le, mul-add-lt}
 use Rattle.std.proofs.lemmas.List.{take_more, take_all, length-drop}
 use Rattle.sp_bank.specs.Places.{product_of, IsInside, row_major}
 

@@ -1,12 +1,12 @@
 -- alpha·c within the period, weight by weight.
-use Rattle.std.proofs.Common.{◌≡◌, ℕ, zero, suc, ◌+◌, ◌*◌, ◌<◌, ◌≤◌, ◌/◌, ◌%◌, ℤ, pos, ◌+ℤ◌, ◌*ℤ◌, List, [], ◌∷◌, length, get_or, take, refl, ap, sym, ◌∙◌, arith, add-one}
+use Rattle.std.proofs.Common.{◌≡◌, ℕ, zero, suc, ◌+◌, ◌*◌, ◌<◌, ◌≤◌, ◌/◌, ◌%◌, ℤ, pos, ◌+ℤ◌, ◌*ℤ◌, List, [], ◌∷◌, length, get_or, take, ap, sym, ◌∙◌, arith, add-one}
 use Rattle.std.specs.Int.{int_div_euclid, int_rem_euclid}
 use Rattle.std.proofs.lemmas.Int.{ints}
 use Rattle.std.proofs.lemmas.Nat.{div-add-mod', mod_below, mul-le}
 use Rattle.std.proofs.lemmas.List.{get_or-map}
 use Rattle.sp_affine.specs.Affine.{Affine}
 use Rattle.sp_bank.specs.Separation.{weighted_sum, constants}
-use Rattle.sp_bank.proofs.Floor.{Parts, parts, remainder_of}
+use Rattle.sp_bank.proofs.Floor.{parts, remainder_of}
 use Rattle.sp_bank.proofs.Integers.{add-mul_ℤ, mul-add_ℤ, mul_assoc_ℤ}
 
 -- w and n differ by whole periods

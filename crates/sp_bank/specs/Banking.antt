@@ -1,5 +1,5 @@
 -- How a memory of one to three dimensions is divided into banks, after Wang, Li and Cong, "Theory and algorithm for generalized memory partitioning" (FPGA 2014).
-use Rattle.std.specs.Prelude.{◌≡◌, ℕ, ◌+◌, ◌*◌, ◌/◌, ◌%◌, ◌<◌, ◌≤◌, ◌⊎◌, List, [], ◌∷◌, length, slice_index}
+use Rattle.std.specs.Prelude.{◌≡◌, ℕ, ◌*◌, ◌<◌, ◌≤◌, ◌⊎◌, List, length, slice_index}
 use Rattle.std.specs.List.{All}
 use Rattle.std.specs.Int.{IsGcd}
 

@@ -1,5 +1,5 @@
 -- Where an element of a memory stands: its bank, and its place in the bank.
-use Rattle.std.specs.Prelude.{◌≡◌, ℕ, suc, ◌+◌, ◌*◌, ◌/◌, ◌%◌, ◌<◌, ◌≤◌, List, [], ◌∷◌, length, slice_index}
+use Rattle.std.specs.Prelude.{ℕ, ◌+◌, ◌*◌, ◌/◌, ◌%◌, ◌<◌, List, [], ◌∷◌, slice_index}
 use Rattle.std.specs.List.{remove}
 use Rattle.std.specs.Int.{div_ceil}
 use Rattle.sp_bank.specs.Banking.{Banking, period}

@@ -1,7 +1,5 @@
 use Rattle.std.proofs.Common.{◌≡◌, ℕ, subst}
 use Rattle.sp_bank.specs.Separation.{IsFirstClash}
-use Rattle.sp_bank.specs.declared.certificate.CertError.{CertError}
-use Rattle.sp_bank.specs.declared.certificate.CertError.TheVariants.{Pair}
 use Rattle.sp_bank.proofs.Differences.{first_clash_unique}
 use Rattle.sp_bank.proofs.certificate.certify.Goals as goal
 

@@ -1,9 +1,9 @@
-use Rattle.std.proofs.Common.{◌≡◌, ◌+◌, ◌/◌, ◌<◌, ◌≤◌, ℕ, ℤ, pos, List, [], ◌∷◌, ◌++◌, length, get_or, take, ap, sym, ◌∙◌, arith, rules, refl, subst, FitsSigned, to_z, of_z}
+use Rattle.std.proofs.Common.{◌≡◌, ◌/◌, ◌<◌, ◌≤◌, pos, length, get_or, ap, sym, ◌∙◌, arith, rules, refl, FitsSigned, to_z, of_z}
 use Rattle.std.specs.Int.{w64}
 use Rattle.std.proofs.lemmas.Int.{to_z-of_z}
 use Rattle.std.proofs.lemmas.List.{take_all, take_more_same}
 use Rattle.sp_bank.specs.Separation.{differences_of, residue_of, constants, access, access_count}
-use Rattle.sp_bank.proofs.Differences.{length-differences_of, get_or-differences_of, take-differences_of}
+use Rattle.sp_bank.proofs.Differences.{length-differences_of, get_or-differences_of}
 use Rattle.sp_bank.proofs.certificate.has_differences_of.Goals as goal
 
 pub returns-then-differences-group : goal.returns-then-differences-group

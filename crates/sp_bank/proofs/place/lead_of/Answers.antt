@@ -1,7 +1,7 @@
-use Rattle.std.proofs.Common.{◌≡◌, ◌+◌, ◌*◌, ◌<◌, ◌≤◌, ℕ, suc, List, length, get_or, take, drop, ap, sym, ◌∙◌, arith, subst}
+use Rattle.std.proofs.Common.{◌≡◌, ◌*◌, ◌<◌, ℕ, suc, get_or, take, drop, ap, sym, arith, subst}
 use Rattle.std.specs.List.{remove}
-use Rattle.sp_bank.specs.Places.{product_of, row_major, IsInside}
-use Rattle.sp_bank.proofs.Distinct.{IsInside-at, IsInside-length, IsInside-remove, row_major-below}
+use Rattle.sp_bank.specs.Places.{product_of, row_major}
+use Rattle.sp_bank.proofs.Distinct.{IsInside-at, IsInside-remove, row_major-below}
 use Rattle.sp_bank.proofs.MemorySizes.{IsInside-take, IsInside-drop, product_of-take-le, product_of-append, product_of-remove, row_major-append, rest_is, room_after}
 use Rattle.sp_bank.proofs.place.lead_of.Goals as goal
 

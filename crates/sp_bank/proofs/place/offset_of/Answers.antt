@@ -1,6 +1,6 @@
-use Rattle.std.proofs.Common.{◌≡◌, ◌+◌, ◌*◌, ◌/◌, ◌%◌, ◌<◌, ◌≤◌, ℕ, length, get_or, ap, sym, ◌∙◌, arith, refl, subst}
+use Rattle.std.proofs.Common.{◌≡◌, ◌*◌, ◌%◌, ◌<◌, ℕ, length, get_or, ap, sym, ◌∙◌, arith, refl, subst}
 use Rattle.std.proofs.lemmas.Nat.{mod_below}
-use Rattle.sp_bank.specs.Banking.{Banking, InSpace}
+use Rattle.sp_bank.specs.Banking.{InSpace}
 use Rattle.sp_bank.specs.Places.{weighted, bank_length}
 use Rattle.sp_bank.proofs.Distinct.{IsInside-length, same_element, offset-below}
 use Rattle.sp_bank.proofs.MemorySizes.{cells_small}

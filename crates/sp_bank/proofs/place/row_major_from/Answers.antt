@@ -1,6 +1,6 @@
-use Rattle.std.proofs.Common.{◌≡◌, ◌+◌, ◌*◌, ◌<◌, ◌≤◌, ◌^◌, ℕ, length, get_or, take, ap, sym, ◌∙◌, arith, refl}
+use Rattle.std.proofs.Common.{◌≡◌, ◌+◌, ◌*◌, ◌<◌, ◌≤◌, ◌^◌, length, get_or, take, ap, arith}
 use Rattle.std.proofs.lemmas.List.{take_all}
-use Rattle.sp_bank.specs.Places.{product_of, row_major}
+use Rattle.sp_bank.specs.Places.{product_of}
 use Rattle.sp_bank.proofs.Distinct.{IsInside-at, IsInside-length}
 use Rattle.sp_bank.proofs.MemorySizes.{product_of-take, row_major-take, product_of-take-le, step_below, step_fits}
 use Rattle.sp_bank.proofs.place.row_major_from.Goals as goal

@@ -1,8 +1,8 @@
-use Rattle.std.proofs.Common.{◌≡◌, ◌+◌, ◌*◌, ◌<◌, ◌≤◌, ℕ, ℤ, pos, ◌+ℤ◌, ◌*ℤ◌, length, get_or, take, ap, sym, ◌∙◌, arith, rules, refl, subst, FitsSigned}
+use Rattle.std.proofs.Common.{◌≡◌, ◌+◌, ◌*◌, ◌<◌, ◌≤◌, ℤ, pos, length, get_or, ap, sym, ◌∙◌, arith, rules, subst, FitsSigned}
 use Rattle.std.specs.Int.{w64, int_rem_euclid}
 use Rattle.std.proofs.lemmas.Int.{to_z-of_z}
 use Rattle.std.proofs.lemmas.List.{take_all, length-map}
-use Rattle.sp_bank.specs.Separation.{constants, weighted_sum}
+use Rattle.sp_bank.specs.Separation.{constants}
 use Rattle.sp_bank.proofs.ResidueLemmas.{IsCongruent, congruent_zero, congruent_more, weighted_sum-take, residue_from_congruent, constants-at, step_small}
 use Rattle.sp_bank.proofs.residue.weighted_residue.Goals as goal
 

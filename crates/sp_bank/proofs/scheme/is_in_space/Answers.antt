@@ -1,4 +1,4 @@
-use Rattle.std.proofs.Common.{◌≡◌, ℕ, ◌*◌, ◌<◌, List, Bool, true, IsTrue, nat_eq, ◌↔◌, length, get_or, subst, sym, eq-eqb, arith, rules, refl}
+use Rattle.std.proofs.Common.{ℕ, ◌*◌, ◌<◌, IsTrue, nat_eq, ◌↔◌, length, get_or, subst, eq-eqb, rules, refl}
 use Rattle.std.specs.List.{All}
 use Rattle.std.specs.Int.{IsGcd}
 use Rattle.std.proofs.lemmas.Bool.{eqb-true}

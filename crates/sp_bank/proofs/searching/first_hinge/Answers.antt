@@ -1,4 +1,4 @@
-use Rattle.std.proofs.Common.{◌≡◌, ℕ, get_or, subst, below_more}
+use Rattle.std.proofs.Common.{ℕ, get_or, subst, below_more}
 use Rattle.std.specs.Int.{IsGcd}
 use Rattle.std.proofs.lemmas.Nat.Gcd.{same_from_IsGcd}
 use Rattle.sp_bank.proofs.searching.first_hinge.Goals as goal

@@ -1,9 +1,6 @@
-use Rattle.std.proofs.Common.{◌≡◌, ◌+◌, ◌*◌, ◌^◌, ◌<◌, ◌≤◌, ◌⊎◌, inl, inr, ℕ, List, length, get_or, ap, sym, ◌∙◌, subst, arith, refl}
-use Rattle.std.specs.Int.{IsGcd}
+use Rattle.std.proofs.Common.{◌≡◌, ◌+◌, ◌^◌, ◌<◌, inl, inr, ℕ, ap, ◌∙◌, arith}
 use Rattle.std.specs.Prelude.{map}
 use Rattle.std.proofs.lemmas.Bool.Decides.{eqb_tells}
-use Rattle.sp_bank.specs.Banking.{Banking}
-use Rattle.sp_bank.specs.Search.{Serves, Precedes, digits}
 use Rattle.sp_bank.proofs.Order.{code_of, power_small}
 use Rattle.sp_bank.proofs.First.{alpha_of_code, code_below, none_before}
 use Rattle.sp_bank.proofs.searching.first_of_size.Goals as goal

@@ -1,8 +1,6 @@
-use Rattle.std.proofs.Common.{◌≡◌, ◌*◌, ◌<◌, ◌≤◌, ℕ, List, length, get_or, ap, sym, ◌∙◌, subst, arith, refl}
+use Rattle.std.proofs.Common.{◌≡◌, ◌*◌, ◌<◌, ℕ, List, length, get_or, ap, sym, ◌∙◌, subst, arith}
 use Rattle.std.specs.Int.{IsGcd}
-use Rattle.std.specs.List.{All}
 use Rattle.sp_bank.specs.Separation.{IsGroup}
-use Rattle.sp_bank.specs.Search.{Serves, digits}
 use Rattle.sp_bank.proofs.Order.{length-digits}
 use Rattle.sp_bank.proofs.First.{space_of, no_hinge}
 use Rattle.sp_bank.proofs.searching.scheme_at.Goals as goal

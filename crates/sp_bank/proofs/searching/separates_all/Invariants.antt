@@ -1,8 +1,7 @@
 use Rattle.std.proofs.Common.{ℕ, ◌<◌, get_or}
 use Rattle.std.specs.Prelude.{map}
-use Rattle.std.specs.List.{slice_index_or}
 use Rattle.sp_affine.specs.Affine.{Affine}
-use Rattle.std.proofs.Common.{List, []}
+use Rattle.std.proofs.Common.{List}
 use Rattle.sp_bank.specs.Separation.{Separates}
 use Rattle.sp_bank.proofs.searching.separates_all.Given as goal
 

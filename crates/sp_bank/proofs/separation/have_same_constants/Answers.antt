@@ -1,4 +1,4 @@
-use Rattle.std.proofs.Common.{◌≡◌, ◌<◌, ℕ, ℤ, pos, length, get_or, take, ap, sym, ◌∙◌, arith, rules, FitsSigned, of_z, to_z}
+use Rattle.std.proofs.Common.{◌≡◌, ◌<◌, pos, length, get_or, ap, sym, ◌∙◌, arith, rules, FitsSigned, of_z, to_z}
 use Rattle.std.specs.Int.{w64}
 use Rattle.std.proofs.lemmas.Int.{to_z-of_z}
 use Rattle.std.proofs.lemmas.List.{take_more_same, length-map}
