@@ -1,5 +1,6 @@
 pub mod Interface
 pub mod Laws
+pub mod Memory
 pub mod Types
 pub mod WholeNumbers
 pub mod Words

@@ -2,7 +2,10 @@
 #![tactic(auto)]
 
 mod interface;
+mod kind;
 mod laws;
+mod memory_kind;
+mod memory_number;
 mod operators;
 #[cfg(test)]
 mod tests;
@@ -10,10 +13,13 @@ mod types;
 mod words;
 
 pub use interface::{Input, Output, PortDecl, Ports, fits};
+pub use kind::{BinOp, Kind, Style, UnOp};
 pub use laws::{
     divisions_leave_remainders, operators_associate, operators_commute, operators_give_words,
     parts_make_the_type, values_are_a_range, wrapping_is_kept,
 };
+pub use memory_kind::{ArgIn, ArgOut, Dram, Fifo, LineBuf, MemKind, Readable, Reg, Sram, Writable};
+pub use memory_number::{MemId, ReadPort, WritePort};
 pub use operators::{add, and, cast, div, eq, lt, max, min, mul, not, or, rem, shl, shr, sub, xor};
 pub use types::{FixTy, Ty};
 pub use words::is_word;
