@@ -1,3 +1,4 @@
+pub mod Footprints
 pub mod Interface
 pub mod Laws
 pub mod Memory

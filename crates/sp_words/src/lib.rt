@@ -5,6 +5,7 @@ mod interface;
 mod kind;
 mod laws;
 mod memory_kind;
+mod memory_laws;
 mod memory_number;
 mod operators;
 #[cfg(test)]
@@ -19,6 +20,7 @@ pub use laws::{
     parts_make_the_type, values_are_a_range, wrapping_is_kept,
 };
 pub use memory_kind::{ArgIn, ArgOut, Dram, Fifo, LineBuf, MemKind, Readable, Reg, Sram, Writable};
+pub use memory_laws::{accesses_are_footprints, fresh_memories_fit, states_are_what_is_held};
 pub use memory_number::{MemId, ReadPort, WritePort};
 pub use operators::{add, and, cast, div, eq, lt, max, min, mul, not, or, rem, shl, shr, sub, xor};
 pub use types::{FixTy, Ty};
