@@ -12,7 +12,7 @@ pub data Contents : Type 0 where
   cells : List (Option ℕ) → Contents
   -- words in a queue, the oldest first: a FIFO
   queue : List ℕ → Contents
-  -- rows of such cells: a line buffer
+  -- rows of such cells, the oldest first: a line buffer
   rows : List (List (Option ℕ)) → Contents
   -- words: a DRAM in row-major order, or an argument or an output, which is one word
   words : List ℕ → Contents

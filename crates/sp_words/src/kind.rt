@@ -10,8 +10,8 @@ pub enum Kind {
     ArgOut,
 }
 
-/// How a controller goes through its body: iterations that overlap, one at a time, or statements side
-/// by side.
+/// How the parts of a controller may lie in time: overlapping, one after another, or side by side. It
+/// changes no result.
 #[derive(Clone, Copy, Debug, PartialEq, Eq, Hash)]
 pub enum Style {
     Pipe,

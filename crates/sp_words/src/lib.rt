@@ -7,6 +7,8 @@ mod laws;
 mod memory_kind;
 mod memory_laws;
 mod memory_number;
+#[cfg(test)]
+mod memory_tests;
 mod operators;
 #[cfg(test)]
 mod tests;
@@ -20,7 +22,10 @@ pub use laws::{
     parts_make_the_type, values_are_a_range, wrapping_is_kept,
 };
 pub use memory_kind::{ArgIn, ArgOut, Dram, Fifo, LineBuf, MemKind, Readable, Reg, Sram, Writable};
-pub use memory_laws::{accesses_are_footprints, fresh_memories_fit, states_are_what_is_held};
+pub use memory_laws::{
+    accesses_are_footprints, fresh_memories_fit, kinds_decide, states_are_what_is_held,
+    types_name_their_kinds,
+};
 pub use memory_number::{MemId, ReadPort, WritePort};
 pub use operators::{add, and, cast, div, eq, lt, max, min, mul, not, or, rem, shl, shr, sub, xor};
 pub use types::{FixTy, Ty};

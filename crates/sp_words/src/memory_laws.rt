@@ -2,10 +2,11 @@
 
 ghost use Rattle.std.specs.Prelude.{◌≡◌, ◌≢◌, ℕ, List, Option, Some};
 ghost use Rattle.sp_words.specs.declared.kind.Kind.{Kind};
-ghost use Rattle.sp_words.specs.Memory.{Contents, State, Access, held, update, fresh_of};
+ghost use Rattle.sp_words.specs.declared.kind.Kind.TheVariants as kinds;
+ghost use Rattle.sp_words.specs.Memory.{Contents, State, Access, held, update, least_rank, greatest_rank, fresh_of};
 ghost use Rattle.sp_words.specs.Footprints.{IsFootprint, IsContentsOf, IsDeclared};
 
-use crate::memory_kind::MemKind;
+use crate::memory_kind::{ArgIn, ArgOut, Dram, Fifo, LineBuf, MemKind, Reg, Sram};
 use crate::memory_number::MemId;
 
 /// An access, whatever it does to its memory and whatever it answers, changes and looks at only the
@@ -27,4 +28,22 @@ pub fn states_are_what_is_held()
 /// A fresh memory holds as much as its kind and dimensions say.
 pub fn fresh_memories_fit()
     ensures { (kind : Kind) (dims : List ℕ) (start : Option ℕ) (given : List ℕ) → IsDeclared kind dims given → IsContentsOf kind dims (fresh_of kind dims start given) }
+{}
+
+/// Each type names its kind, which says the ranks of its accesses and what a fresh memory holds.
+pub fn types_name_their_kinds()
+    ensures register { ⟦<Reg as MemKind>⟧.KIND ≡ kinds.Reg }
+    ensures sram { ⟦<Sram as MemKind>⟧.KIND ≡ kinds.Sram }
+    ensures fifo { ⟦<Fifo as MemKind>⟧.KIND ≡ kinds.Fifo }
+    ensures line_buffer { ⟦<LineBuf as MemKind>⟧.KIND ≡ kinds.LineBuf }
+    ensures dram { ⟦<Dram as MemKind>⟧.KIND ≡ kinds.Dram }
+    ensures argument { ⟦<ArgIn as MemKind>⟧.KIND ≡ kinds.ArgIn }
+    ensures output { ⟦<ArgOut as MemKind>⟧.KIND ≡ kinds.ArgOut }
+{}
+
+/// What a kind says as a type is what it says as a `Kind`.
+pub fn kinds_decide<K: MemKind>()
+    ensures least_rank { K.MIN_RANK ≡ least_rank K.KIND }
+    ensures greatest_rank { K.MAX_RANK ≡ greatest_rank K.KIND }
+    ensures fresh { (dims : List ℕ) (start : Option ℕ) (given : List ℕ) → K.fresh dims start given ≡ fresh_of K.KIND dims start given }
 {}
