@@ -1,5 +1,6 @@
 pub mod InterfaceLemmas
 pub mod LawLemmas
+pub mod MemoryLemmas
 pub mod OperatorLemmas
 pub mod OrderLemmas
 pub mod Residues

@@ -1,5 +1,7 @@
+pub mod Footprints
 pub mod Interface
 pub mod Laws
+pub mod Memory
 pub mod Types
 pub mod WholeNumbers
 pub mod Words

@@ -2,7 +2,13 @@
 #![tactic(auto)]
 
 mod interface;
+mod kind;
 mod laws;
+mod memory_kind;
+mod memory_laws;
+mod memory_number;
+#[cfg(test)]
+mod memory_tests;
 mod operators;
 #[cfg(test)]
 mod tests;
@@ -10,10 +16,17 @@ mod types;
 mod words;
 
 pub use interface::{Input, Output, PortDecl, Ports, fits};
+pub use kind::{BinOp, Kind, Style, UnOp};
 pub use laws::{
     divisions_leave_remainders, operators_associate, operators_commute, operators_give_words,
     parts_make_the_type, values_are_a_range, wrapping_is_kept,
 };
+pub use memory_kind::{ArgIn, ArgOut, Dram, Fifo, LineBuf, MemKind, Readable, Reg, Sram, Writable};
+pub use memory_laws::{
+    accesses_are_footprints, fresh_memories_fit, kinds_decide, states_are_what_is_held,
+    types_name_their_kinds,
+};
+pub use memory_number::{MemId, ReadPort, WritePort};
 pub use operators::{add, and, cast, div, eq, lt, max, min, mul, not, or, rem, shl, shr, sub, xor};
 pub use types::{FixTy, Ty};
 pub use words::is_word;
