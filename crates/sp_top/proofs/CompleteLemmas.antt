@@ -1,10 +1,10 @@
 -- A program of the form under a sure name isn't refused.
-use Rattle.std.proofs.Common.{◌≡◌, refl, sym, ◌∙◌, ap, subst, ℕ, ◌+◌, ◌≤◌, List, length, take, arith}
+use Rattle.std.proofs.Common.{◌≡◌, refl, sym, ◌∙◌, ap, subst, ℕ, ◌+◌, ◌≤◌, List, [], ◌∷◌, length, take, min, arith}
 use Rattle.std.proofs.lemmas.List.{length-take}
-use Rattle.sp_edges.specs.Standing.{Standing, Holds, IsAllOf, BeginsWith}
+use Rattle.sp_edges.specs.Standing.{Standing, Untold, Missing, Holds, IsAllOf, BeginsWith}
 use Rattle.sp_top.specs.Form.{Line, IsStraight, BreaksAt}
 use Rattle.sp_top.specs.Status.{PlainStatus, done, words, read_fault, write_fault, memory, too_long, unbuilt}
-use Rattle.sp_top.specs.Commands.{Command, compile, IsCommand, AsksFor, MayRefuse, MayEnd, NotRefused, longest_program}
+use Rattle.sp_top.specs.Commands.{Command, compile, IsCommand, AsksFor, GivesProgram, IsPastProgram, MayRefuse, MayEnd, NotRefused, longest_program}
 use Rattle.sp_top.specs.Record.{SinkChange, Records}
 use Rattle.sp_top.proofs.LawLemmas.{breaks_or_reads}
 

@@ -1,12 +1,12 @@
 -- From what a part of a call did to what the whole call records.
-use Rattle.std.proofs.Common.{◌≡◌, sym, ap, subst, ℕ, List, [], ◌⊎◌, inl, inr}
+use Rattle.std.proofs.Common.{◌≡◌, refl, sym, ap, subst, ℕ, List, [], ◌++◌, ◌⊎◌, inl, inr}
 use Rattle.std.specs.Prelude.{Option, Some, None}
 use Rattle.std.proofs.lemmas.List.{append-nil}
 use Rattle.sp_edges.specs.Gained.{Gained}
 use Rattle.sp_top.specs.declared.status.SinkName.{SinkName}
 use Rattle.sp_top.specs.declared.status.SinkName.TheVariants.{Out, Aside}
 use Rattle.sp_top.specs.Status.{PlainStatus, done, words, read_fault, write_fault, memory, too_long, unbuilt, line_of}
-use Rattle.sp_top.specs.Record.{SinkChange, Took, TookNothing, Puts, Refuses, Delivers, Ends, Records}
+use Rattle.sp_top.specs.Record.{SinkChange, Took, TookNothing, TookPart, Puts, Refuses, Delivers, Ends, Records}
 
 -- a sink that wasn't used gained nothing
 pub Gained-same : (taken : Option (List ℕ)) → Gained taken taken []
