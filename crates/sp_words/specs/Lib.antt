@@ -1,3 +1,4 @@
+pub mod Decimal
 pub mod Interface
 pub mod Laws
 pub mod Types

@@ -1,6 +1,7 @@
 //! Types, words and the operators on them: what every other crate of the compiler stands on.
 #![tactic(auto)]
 
+mod decimal;
 mod interface;
 mod laws;
 mod operators;
@@ -9,6 +10,7 @@ mod tests;
 mod types;
 mod words;
 
+pub use decimal::of_decimal;
 pub use interface::{Input, Output, PortDecl, Ports, fits};
 pub use laws::{
     divisions_leave_remainders, operators_associate, operators_commute, operators_give_words,
