@@ -1,15 +1,19 @@
 -- Digits after a point, and the numbers that they make.
-use Rattle.std.proofs.Common.{◌≡◌, ℕ, zero, suc, ◌+◌, ◌-◌, ◌*◌, ◌/◌, ◌%◌, ◌^◌, ◌<◌, ◌≤◌, Bool, true, false, cond, List, [], ◌∷◌, length, get_or, take, drop, refl, sym, subst, Option, None, ◌∙◌, ap, arith}
-use Rattle.std.specs.Prelude.{pos, neg_ℤ, ◌≤ℤ◌, ◌<ℤ◌, ℤ, IsSome}
+use Rattle.std.proofs.Common.{◌≡◌, ℕ, zero, suc, ◌+◌, ◌-◌, ◌*◌, ◌/◌, ◌%◌, ◌^◌, ◌<◌, ◌≤◌, Bool, true, false, cond, List, [], ◌∷◌, ◌++◌, append_assoc, append-nil, length, get_or, take, drop, refl, sym, subst, Option, None, ◌∙◌, ap, arith}
+use Rattle.std.specs.Prelude.{pos, neg_ℤ, ◌≤ℤ◌, ◌<ℤ◌, ℤ, IsSome, map, ◌==◌, unsigned_abs}
+use Rattle.std.proofs.lemmas.Bool.Decides.{nat_tests}
 use Rattle.std.specs.Bool.{MatchBool}
 use Rattle.std.proofs.lemmas.Int.{ints}
 use Rattle.std.proofs.lemmas.Grind.{common_steps}
-use Rattle.std.proofs.Math.Nat.{add-mul-div_right, div-div-eq-div-mul, div-eq_of_lt, mod-eq_of_lt, mul-le-mul_right, pow-succ', pow-le-pow_right}
+use Rattle.std.proofs.lemmas.Nat.{pow_pos}
+use Rattle.std.proofs.Math.Nat.{pow-suc, div-lt_iff_lt-mul, add-mul-div_right, div-div-eq-div-mul, div-eq_of_lt, mod-eq_of_lt, mul-le-mul_right, pow-succ', pow-le-pow_right}
 use Rattle.sp_words.specs.declared.types.Ty.{Ty}
 use Rattle.sp_words.specs.Types.{signed_of, frac_of, width_of}
 use Rattle.sp_words.specs.Laws.{IsInRange}
 use Rattle.sp_words.proofs.OperatorLemmas.{width-le, frac-le}
-use Rattle.sp_words.specs.Decimal.{AreDigits, digits_number, decimal_value}
+use Rattle.sp_words.specs.Decimal.{AreDigits, digits_number, decimal_value, digits_after_point, with_point, text_of}
+use Rattle.sp_words.specs.Words.{has_sign, value_of}
+use Rattle.std.specs.Fmt.{decimal}
 use Rattle.sp_words.specs.WholeNumbers.{floor_div, with_sign}
 
 pub pow-pos : (k : ℕ) → 0 < 10 ^ k
@@ -150,3 +154,92 @@ pub none_iff : {P : Type 0} (r : Option ℕ) → r ≡ None → (P → ⊥) → 
 none_iff {P = P} r e n =
     let Q : Option ℕ → Type 0 = λ r. (IsSome r → P) × (P → IsSome r) in
     subst Q (sym e) (λ s. no_some s, λ p. absurd (n p))
+
+-- ---- the digits that are printed
+
+pub digits_none : (f n : ℕ) → n ≡ 0 → digits_after_point f n ≡ []
+unfolding digits_after_point
+digits_none zero n e = refl
+digits_none (suc f) n e = rw e refl
+
+not_zero : (n : ℕ) → 0 < n → (n == 0) ≡ false
+not_zero n h = grind (arith, nat_tests)
+
+digits_more : (f n : ℕ) → 0 < n → digits_after_point (suc f) n ≡ (5 * n / 2 ^ f) ∷ digits_after_point f (5 * n % 2 ^ f)
+unfolding digits_after_point
+digits_more f n h = ap (λ b. cond b [] ((5 * n / 2 ^ f) ∷ digits_after_point f (5 * n % 2 ^ f))) (not_zero n h)
+
+pub digit_small : (f n : ℕ) → n < 2 ^ f → 5 * n / 2 ^ (f - 1) < 10
+digit_small zero n h =
+    let e : n ≡ 0 = omega arith in
+    rw e (omega arith)
+digit_small (suc f) n h =
+    let k : suc f - 1 ≡ f = omega arith in
+    let g : 5 * n < 10 * 2 ^ f = omega (arith, pow-suc 2 f) in
+    rw k ((div-lt_iff_lt-mul (pow_pos f)).1 g)
+
+above_zero : (n : ℕ) → (n ≡ 0 → ⊥) → 0 < n
+above_zero zero h = absurd (h refl)
+above_zero (suc n) h = omega arith
+
+pub digits_joined : (f n ch : ℕ) (e old mid new : List ℕ) → (n ≡ 0 → ⊥) → n < 2 ^ f → f ≤ 64 → ch ≡ 48 + 5 * n / 2 ^ (f - 1)
+    → mid ≡ old ++ e → (ch < 128 → e ≡ ch ∷ [])
+    → new ≡ mid ++ map (λ digit. 48 + digit) (digits_after_point (f - 1) (5 * n % (1 * 2 ^ (f - 1) % 2 ^ 128)))
+    → new ≡ old ++ map (λ digit. 48 + digit) (digits_after_point f n)
+digits_joined zero n ch e old mid new h g k c m a r = absurd (h (omega arith))
+digits_joined (suc f) n ch e old mid new h g k c m a r =
+    let p : suc f - 1 ≡ f = omega arith in
+    let low : f ≤ 64 = omega arith in
+    let s : 1 * 2 ^ f % 2 ^ 128 ≡ 2 ^ f = shifted 1 f (omega arith) low ∙ omega arith in
+    let small : ch < 128 = omega (arith, digit_small (suc f) n g) in
+    let positive : 0 < n = above_zero n h in
+    let glyph : ch ≡ 48 + 5 * n / 2 ^ f = c ∙ ap (λ k. 48 + 5 * n / 2 ^ k) p in
+    let rest = map (λ digit. 48 + digit) (digits_after_point f (5 * n % 2 ^ f)) in
+    let scale : new ≡ mid ++ rest =
+    r ∙ ap (λ k. mid ++ map (λ digit. 48 + digit) (digits_after_point k (5 * n % (1 * 2 ^ k % 2 ^ 128)))) p
+    ∙ ap (λ k. mid ++ map (λ digit. 48 + digit) (digits_after_point f (5 * n % k))) s in
+    let front : mid ≡ old ++ ((48 + 5 * n / 2 ^ f) ∷ []) = m ∙ ap (λ t. old ++ t) (a small ∙ ap (λ d. d ∷ []) glyph) in
+    scale ∙ ap (λ t. t ++ rest) front ∙ append_assoc old ((48 + 5 * n / 2 ^ f) ∷ []) rest
+    ∙ ap (λ ds. old ++ map (λ digit. 48 + digit) ds) (sym (digits_more f n positive))
+
+-- ---- the text of a word
+
+pub one_more : (new old e : List ℕ) (ch : ℕ) → new ≡ old ++ e → (ch < 128 → e ≡ ch ∷ []) → ch < 128 → new ≡ old ++ (ch ∷ [])
+one_more new old e ch m a h = m ∙ ap (λ t. old ++ t) (a h)
+
+scale_same : (f : ℕ) → f ≤ 64 → 1 * 2 ^ f % 2 ^ 128 ≡ 2 ^ f
+scale_same f h = shifted 1 f (omega arith) h ∙ omega arith
+
+pub pointed : (f m : ℕ) (t mid new : List ℕ) → f ≤ 64 → (m % (1 * 2 ^ f % 2 ^ 128) ≡ 0 → ⊥) → mid ≡ t ++ (46 ∷ [])
+    → new ≡ mid ++ map (λ digit. 48 + digit) (digits_after_point f (m % (1 * 2 ^ f % 2 ^ 128)))
+    → new ≡ t ++ with_point (digits_after_point f (m % 2 ^ f))
+pointed zero m t mid new k h e g =
+    let one : 1 * 2 ^ 0 % 2 ^ 128 ≡ 1 = refl in
+    absurd (h (ap (λ d. m % d) one ∙ omega arith))
+pointed (suc f) m t mid new k h e g =
+    let s : 1 * 2 ^ suc f % 2 ^ 128 ≡ 2 ^ suc f = scale_same (suc f) k in
+    let n = m % (1 * 2 ^ suc f % 2 ^ 128) in
+    let more : digits_after_point (suc f) n ≡ (5 * n / 2 ^ f) ∷ digits_after_point f (5 * n % 2 ^ f) = digits_more f n (above_zero n h) in
+    let shown = map (λ digit. 48 + digit) (digits_after_point (suc f) n) in
+    g ∙ ap (λ l. l ++ shown) e ∙ append_assoc t (46 ∷ []) shown
+    ∙ ap (λ ds. t ++ (46 ∷ map (λ digit. 48 + digit) ds)) more
+    ∙ ap (λ ds. t ++ with_point ds) (sym more)
+    ∙ ap (λ d. t ++ with_point (digits_after_point (suc f) (m % d))) s
+
+pub unpointed : (f m : ℕ) (t new : List ℕ) → f ≤ 64 → m % (1 * 2 ^ f % 2 ^ 128) ≡ 0 → new ≡ t
+    → new ≡ t ++ with_point (digits_after_point f (m % 2 ^ f))
+unpointed f m t new k h e =
+    let z : m % 2 ^ f ≡ 0 = ap (λ d. m % d) (sym (scale_same f k)) ∙ h in
+    e ∙ sym (ap (λ ds. t ++ with_point ds) (digits_none f (m % 2 ^ f) z) ∙ append-nil t)
+
+pub text_joined : (ty : Ty) (w m f : ℕ) (first mid new : List ℕ) → m ≡ unsigned_abs (value_of ty w) → f ≡ frac_of ty
+    → first ≡ cond (has_sign ty w) (45 ∷ []) [] → mid ≡ first ++ decimal (m / 2 ^ f)
+    → new ≡ mid ++ with_point (digits_after_point f (m % 2 ^ f)) → new ≡ text_of ty w
+unfolding text_of
+text_joined ty w m f first mid new e g a b c =
+    let sign : List ℕ = cond (has_sign ty w) (45 ∷ []) [] in
+    let point : List ℕ = with_point (digits_after_point f (m % 2 ^ f)) in
+    c ∙ ap (λ l. l ++ point) b
+    ∙ ap (λ l. l ++ decimal (m / 2 ^ f) ++ point) a
+    ∙ ap (λ m. sign ++ decimal (m / 2 ^ f) ++ with_point (digits_after_point f (m % 2 ^ f))) e
+    ∙ ap (λ f. sign ++ decimal (unsigned_abs (value_of ty w) / 2 ^ f) ++ with_point (digits_after_point f (unsigned_abs (value_of ty w) % 2 ^ f))) g

@@ -1,5 +1,5 @@
-ghost use Rattle.std.specs.Prelude.{◌≡◌, ◌+◌, ◌-◌, ◌*◌, ◌/◌, ◌^◌, ◌<◌, ◌≤◌, ◌↔◌, if◌then◌else◌, length, IsSome, IfSome, IsTrue};
-ghost use Rattle.sp_words.specs.Decimal.{AreDigits, digits_number, decimal_value};
+ghost use Rattle.std.specs.Prelude.{◌≡◌, ◌+◌, ◌-◌, ◌*◌, ◌/◌, ◌^◌, ◌<◌, ◌≤◌, ◌↔◌, if◌then◌else◌, length, ◌++◌, map, string_bytes, IsSome, IfSome, IsTrue, IfOk, OnOk};
+ghost use Rattle.sp_words.specs.Decimal.{AreDigits, digits_number, decimal_value, digits_after_point, text_of};
 ghost use Rattle.sp_words.specs.Laws.{IsInRange};
 ghost use Rattle.sp_words.specs.WholeNumbers.{with_sign};
 ghost use Rattle.sp_words.specs.Words.{IsWord, value_of};
@@ -8,7 +8,8 @@ ghost use Rattle.sp_words.specs.Words.{IsWord, value_of};
 mod tests;
 
 use crate::types::Ty;
-use crate::words::{mask, word_of};
+use crate::words::{is_negative, mask, value, word_of};
+use std::alloc::{AllocError as NoMemory, Global};
 
 /// The digits after a point, times `2 ^ frac`: rounded down, or up where `up` is set.
 fn fraction(frac: u8, up: bool, digits: &[u8]) -> u128
@@ -59,4 +60,42 @@ pub fn of_decimal(ty: Ty, negative: bool, whole: u128, digits: &[u8]) -> Option<
     } else {
         None
     }
+}
+
+/// Appends the digits after the point of `numerator / 2 ^ frac`, without trailing zeros.
+fn push_digits(text: &mut String, frac: u8, numerator: u128) -> Result<(), NoMemory>
+    requires in_a_word { frac ≤ 64 }
+    requires below_one { numerator < 2 ^ frac }
+    ensures { OnOk result (string_bytes text.new ≡ string_bytes text.old ++ map (λ digit. 48 + digit) (digits_after_point frac numerator)) }
+{
+    if numerator == 0 {
+        return Ok(());
+    }
+    let place = frac - 1;
+    let tenfold = 5 * numerator;
+    let digit = (tenfold >> place) as u8;
+    text.push(char::from(b'0' + digit))?;
+    push_digits(text, place, tenfold % (1 << place))
+}
+
+/// The number that the word means, exactly: a `-` where it is negative, its whole part, and where it has
+/// a fraction a point and its digits.
+pub fn value_text(alloc: Global, ty: Ty, word: u64) -> Result<String, NoMemory>
+    requires { IsWord ty word }
+    ensures { IfOk result (λ text. string_bytes text ≡ text_of ty word) }
+{
+    let magnitude = value(ty, word).unsigned_abs();
+    let frac = ty.frac();
+    let whole = magnitude >> frac;
+    let numerator = magnitude % (1 << frac);
+    let mut text = String::new(alloc);
+    if is_negative(ty, word) {
+        text.push('-')?;
+    }
+    write!(text, "{whole}")?;
+    if numerator != 0 {
+        text.push('.')?;
+        push_digits(&mut text, frac, numerator)?;
+    }
+    Ok(text)
 }

@@ -2,7 +2,7 @@ ghost use Rattle.std.specs.Prelude.{◌↔◌, IsTrue};
 ghost use Rattle.sp_words.specs.Decimal.{AreDigits};
 
 use super::*;
-use crate::{FixTy, Ty};
+use crate::{FixTy, Ty, is_word};
 use std::process::Abort;
 use std::test::Fail;
 
@@ -123,4 +123,53 @@ fn decimals_round_down_to_words(rt: HostRuntime) {
         let want = fields.next().expect(&rt, "a word").parse::<u64>().ok();
         assert_eq!(rt; word_of_text(&rt, ty, text), want, "at {line}");
     }
+}
+
+// A type, a word of it and the number that it means.
+const TEXTS: &str = "\
+s 8 8 64672 -3.375\n\
+s 8 8 384 1.5\n\
+s 8 8 1 0.00390625\n\
+s 8 8 32768 -128\n\
+s 8 8 32767 127.99609375\n\
+s 8 8 65535 -0.00390625\n\
+s 8 8 256 1\n\
+u 64 0 18446744073709551615 18446744073709551615\n\
+s 64 0 9223372036854775808 -9223372036854775808\n\
+s 32 0 4294967295 -1\n\
+s 32 0 2147483647 2147483647\n\
+u 0 64 18446744073709551615 0.9999999999999999999457898913757247782996273599565029144287109375\n\
+u 0 64 1 0.0000000000000000000542101086242752217003726400434970855712890625\n\
+u 0 64 9223372036854775808 0.5\n\
+s 0 64 9223372036854775808 -0.5\n\
+s 0 64 18446744073709551615 -0.0000000000000000000542101086242752217003726400434970855712890625\n\
+b 1 0 0 0\n\
+b 1 0 1 1\n\
+s 1 0 1 -1\n\
+u 4 4 16 1\n\
+u 4 4 26 1.625\n\
+s 16 16 4294934528 -0.5\n\
+s 1 63 9223372036854775808 -1\n\
+u 32 32 42949672960 10\n\
+";
+
+#[test]
+fn words_print_as_exact_decimals_and_read_back(rt: HostRuntime) -> Result<(), Fail> {
+    let alloc = rt.alloc();
+    for line in TEXTS.lines() {
+        let mut fields = line.split(' ');
+        let kind = fields.next().expect(&rt, "a kind");
+        let ty = type_of(&rt, kind, fields.next(), fields.next());
+        let field = fields.next().expect(&rt, "a word");
+        let word: u64 = field.parse().ok().expect(&rt, "a word");
+        assert!(rt; is_word(ty, word));
+        let text = value_text(alloc, ty, word)?;
+        assert_eq!(rt; Some(text.as_str()), fields.next(), "at {line}");
+        assert_eq!(rt;
+            word_of_text(&rt, ty, text.as_str()),
+            Some(word),
+            "at {line}"
+        );
+    }
+    Ok(())
 }
