@@ -1,3 +1,4 @@
+pub mod DecimalLemmas
 pub mod InterfaceLemmas
 pub mod LawLemmas
 pub mod MemoryLemmas

@@ -1,4 +1,5 @@
 pub mod Footprints
+pub mod Decimal
 pub mod Interface
 pub mod Laws
 pub mod Memory

@@ -1,6 +1,7 @@
 //! Types, words and the operators on them: what every other crate of the compiler stands on.
 #![tactic(auto)]
 
+mod decimal;
 mod interface;
 mod kind;
 mod laws;
@@ -15,6 +16,7 @@ mod tests;
 mod types;
 mod words;
 
+pub use decimal::{of_decimal, value_text};
 pub use interface::{Input, Output, PortDecl, Ports, fits};
 pub use kind::{BinOp, Kind, Style, UnOp};
 pub use laws::{

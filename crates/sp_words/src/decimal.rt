@@ -1,0 +1,101 @@
+ghost use Rattle.std.specs.Prelude.{◌≡◌, ◌+◌, ◌-◌, ◌*◌, ◌/◌, ◌^◌, ◌<◌, ◌≤◌, ◌↔◌, if◌then◌else◌, length, ◌++◌, map, string_bytes, IsSome, IfSome, IsTrue, IfOk, OnOk};
+ghost use Rattle.sp_words.specs.Decimal.{AreDigits, digits_number, decimal_value, digits_after_point, text_of};
+ghost use Rattle.sp_words.specs.Laws.{IsInRange};
+ghost use Rattle.sp_words.specs.WholeNumbers.{with_sign};
+ghost use Rattle.sp_words.specs.Words.{IsWord, value_of};
+
+#[cfg(test)]
+mod tests;
+
+use crate::types::Ty;
+use crate::words::{is_negative, mask, value, word_of};
+use std::alloc::{AllocError as NoMemory, Global};
+
+/// The digits after a point, times `2 ^ frac`: rounded down, or up where `up` is set.
+fn fraction(frac: u8, up: bool, digits: &[u8]) -> u128
+    requires in_a_word { frac ≤ 64 }
+    requires digits { AreDigits digits.now }
+    ensures value { result ≡ (digits_number digits.now * 2 ^ frac + (if up then 10 ^ length digits.now - 1 else 0)) / 10 ^ length digits.now }
+    ensures at_most_one { result ≤ 2 ^ frac }
+{
+    match digits {
+        [] => 0,
+        [first, rest @ ..] => {
+            let below = fraction(frac, up, rest);
+            ((u128::from(*first) << frac) + below + if up { 9 } else { 0 }) / 10
+        }
+    }
+}
+
+/// Whether the number with this sign and absolute value is a value of the type.
+fn is_value(ty: Ty, negative: bool, magnitude: u128) -> bool
+    ensures { IsTrue result ↔ IsInRange ty (with_sign negative magnitude) }
+{
+    if !ty.signed() {
+        return magnitude <= if negative { 0 } else { u128::from(mask(ty)) };
+    }
+    let half: u128 = 1 << (ty.width() - 1);
+    if negative {
+        magnitude <= half
+    } else {
+        magnitude < half
+    }
+}
+
+/// The word of the number `whole.digits` with its sign, rounded down to what the type can hold; `None`
+/// where what is left is outside of the type. A digit is a number from 0 to 9.
+pub fn of_decimal(ty: Ty, negative: bool, whole: u128, digits: &[u8]) -> Option<u64>
+    requires few { length digits.now ≤ 64 }
+    requires digits { AreDigits digits.now }
+    ensures exists { IsSome result ↔ IsInRange ty (decimal_value ty negative whole digits.now) }
+    ensures is_word { IfSome result (λ word. IsWord ty word) }
+    ensures value { IfSome result (λ word. value_of ty word ≡ decimal_value ty negative whole digits.now) }
+{
+    let frac = ty.frac();
+    let below = fraction(frac, negative, digits);
+    let scaled = whole.checked_mul(1 << frac)?;
+    let magnitude = scaled.checked_add(below)?;
+    if is_value(ty, negative, magnitude) {
+        Some(word_of(ty, negative, magnitude))
+    } else {
+        None
+    }
+}
+
+/// Appends the digits after the point of `numerator / 2 ^ frac`, without trailing zeros.
+fn push_digits(text: &mut String, frac: u8, numerator: u128) -> Result<(), NoMemory>
+    requires in_a_word { frac ≤ 64 }
+    requires below_one { numerator < 2 ^ frac }
+    ensures { OnOk result (string_bytes text.new ≡ string_bytes text.old ++ map (λ digit. 48 + digit) (digits_after_point frac numerator)) }
+{
+    if numerator == 0 {
+        return Ok(());
+    }
+    let place = frac - 1;
+    let tenfold = 5 * numerator;
+    let digit = (tenfold >> place) as u8;
+    text.push(char::from(b'0' + digit))?;
+    push_digits(text, place, tenfold % (1 << place))
+}
+
+/// The number that the word means, exactly: a `-` where it is negative, its whole part, and where it has
+/// a fraction a point and its digits.
+pub fn value_text(alloc: Global, ty: Ty, word: u64) -> Result<String, NoMemory>
+    requires { IsWord ty word }
+    ensures { IfOk result (λ text. string_bytes text ≡ text_of ty word) }
+{
+    let magnitude = value(ty, word).unsigned_abs();
+    let frac = ty.frac();
+    let whole = magnitude >> frac;
+    let numerator = magnitude % (1 << frac);
+    let mut text = String::new(alloc);
+    if is_negative(ty, word) {
+        text.push('-')?;
+    }
+    write!(text, "{whole}")?;
+    if numerator != 0 {
+        text.push('.')?;
+        push_digits(&mut text, frac, numerator)?;
+    }
+    Ok(text)
+}
