@@ -1,9 +1,9 @@
 //! `compile P`: from a name to the listing of its program's netlist.
 ghost use Rattle.std.specs.Prelude.{◌≡◌, ℕ, IfOk, IfErr, string_bytes};
 ghost use Rattle.sp_edges.specs.Counts.{Rose};
-ghost use Rattle.sp_top.specs.Status.{plain_status, read_fault, memory};
+ghost use Rattle.sp_top.specs.Status.{plain_status, memory};
 ghost use Rattle.sp_top.specs.Said.{status_of_error};
-ghost use Rattle.sp_top.specs.Commands.{compile, AsksFor, DoneTexts, ListsProgram, RefusesProgram, GivesProgram, MayRefuse, TooLongOrMemory};
+ghost use Rattle.sp_top.specs.Commands.{compile, DoneTexts, ListsProgram, RefusesProgram, GivesProgram, MayRefuse, TooLongOrMemory};
 
 use crate::sinks::Texts;
 use crate::status::Status;

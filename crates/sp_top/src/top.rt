@@ -1,10 +1,10 @@
 //! The top call.
 ghost use Rattle.std.specs.Prelude.{◌≡◌, ◌≤◌, ℕ, List, length, map, string_bytes, IfOk, IfErr};
 ghost use Rattle.sp_edges.specs.Counts.{Rose};
-ghost use Rattle.sp_top.specs.Status.{plain_status, read_fault};
+ghost use Rattle.sp_top.specs.Status.{plain_status};
 ghost use Rattle.sp_edges.specs.Standing.{Holds};
 ghost use Rattle.sp_top.specs.Form.{Line, IsStraight};
-ghost use Rattle.sp_top.specs.Commands.{IsCommand, AsksFor, DoneTexts, MayRefuse, MayEnd, NotRefused, longest_program};
+ghost use Rattle.sp_top.specs.Commands.{IsCommand, DoneTexts, MayRefuse, MayEnd, NotRefused, longest_program};
 ghost use Rattle.sp_top.specs.Commands as commands;
 ghost use Rattle.sp_top.specs.Said.{plain_command};
 ghost use Rattle.sp_top.specs.Record.{Records};
@@ -35,7 +35,7 @@ fn answer<I: Inputs, K: Sink, A: Sink>(
     out: &mut K,
     aside: &mut A,
 ) -> Status
-    ensures record { Records (MayEnd (map string_bytes words.now) (I.told inputs.old) (λ name. Rose (I.faults inputs.old) (I.faults inputs.new) × (I.sure inputs.old name → ⊥)))
+    ensures { Records (MayEnd (map string_bytes words.now) (I.told inputs.old) (λ name. Rose (I.faults inputs.old) (I.faults inputs.new) × (I.sure inputs.old name → ⊥)))
         (record { before = K.taken out.old; after = K.taken out.new; faults_before = K.faults out.old; faults_after = K.faults out.new; room = K.sure_room out.old })
         (record { before = A.taken aside.old; after = A.taken aside.new; faults_before = A.faults aside.old; faults_after = A.faults aside.new; room = A.sure_room aside.old })
         (plain_status result) }
