@@ -10,7 +10,7 @@ mod tests;
 mod types;
 mod words;
 
-pub use decimal::{of_decimal, value_text};
+pub use decimal::{of_decimal, texts_read_back, value_text};
 pub use interface::{Input, Output, PortDecl, Ports, fits};
 pub use laws::{
     divisions_leave_remainders, operators_associate, operators_commute, operators_give_words,
