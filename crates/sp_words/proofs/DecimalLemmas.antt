@@ -320,3 +320,20 @@ reads_back ty w h =
     ∙ ap (λ x. with_sign (has_sign ty w) (m / s * s + x)) below
     ∙ ap (with_sign (has_sign ty w)) all
     ∙ abs_signed ty w h
+
+first_and_rest : (d : ℕ) (ds : List ℕ) → d < 10 → AreDigits ds → AreDigits (d ∷ ds)
+first_and_rest d ds h a zero e k = h
+first_and_rest d ds h a (suc i) e k = a i e (omega arith)
+
+digits_all : (f n : ℕ) → n < 2 ^ f → AreDigits (digits_after_point f n)
+digits_all zero n h = subst AreDigits (sym (digits_none zero n (omega arith))) (λ k d e. absurd (omega arith))
+digits_all (suc f) zero h = subst AreDigits (sym (digits_none (suc f) 0 refl)) (λ k d e. absurd (omega arith))
+digits_all (suc f) (suc n) h =
+    let k : suc f - 1 ≡ f = omega arith in
+    let small : 5 * suc n / 2 ^ f < 10 = subst (λ j. 5 * suc n / 2 ^ j < 10) k (digit_small (suc f) (suc n) h) in
+    let low : 5 * suc n % 2 ^ f < 2 ^ f = mod-lt (5 * suc n) (pow_pos f) in
+    subst AreDigits (sym (digits_more f (suc n) (omega arith)))
+    (first_and_rest (5 * suc n / 2 ^ f) (digits_after_point f (5 * suc n % 2 ^ f)) small (digits_all f (5 * suc n % 2 ^ f) low))
+
+pub fraction_are_digits : (ty : Ty) (w : ℕ) → AreDigits (fraction_digits ty w)
+fraction_are_digits ty w = digits_all (frac_of ty) (unsigned_abs (value_of ty w) % 2 ^ frac_of ty) (mod-lt (unsigned_abs (value_of ty w)) (pow_pos (frac_of ty)))

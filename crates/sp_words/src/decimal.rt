@@ -105,6 +105,7 @@ pub fn value_text(alloc: Global, ty: Ty, word: u64) -> Result<String, NoMemory>
 /// from them again. Each function of this kind does nothing: what it ensures is the law.
 pub fn texts_read_back()
     ensures few { (ty : Ty) (w : ℕ) → length (fraction_digits ty w) ≤ 64 }
+    ensures digits { (ty : Ty) (w : ℕ) → AreDigits (fraction_digits ty w) }
     ensures value { (ty : Ty) (w : ℕ) → IsWord ty w → decimal_value ty (has_sign ty w) (whole_part ty w) (fraction_digits ty w) ≡ value_of ty w }
     ensures one_word { (ty : Ty) (v w : ℕ) → IsWord ty v → IsWord ty w → value_of ty v ≡ value_of ty w → v ≡ w }
 {}
