@@ -1,18 +1,18 @@
 -- Digits after a point, and the numbers that they make.
 use Rattle.std.proofs.Common.{◌≡◌, ℕ, zero, suc, ◌+◌, ◌-◌, ◌*◌, ◌/◌, ◌%◌, ◌^◌, ◌<◌, ◌≤◌, Bool, true, false, cond, List, [], ◌∷◌, ◌++◌, append_assoc, append-nil, length, get_or, take, drop, refl, sym, subst, Option, None, ◌∙◌, ap, arith}
-use Rattle.std.specs.Prelude.{pos, neg_ℤ, ◌≤ℤ◌, ◌<ℤ◌, ℤ, IsSome, map, ◌==◌, unsigned_abs}
+use Rattle.std.specs.Prelude.{pos, neg_ℤ, ◌≤ℤ◌, ◌<ℤ◌, ℤ, IsSome, map, ◌==◌, unsigned_abs, ◌-ℤ◌, negsuc}
 use Rattle.std.proofs.lemmas.Bool.Decides.{nat_tests}
 use Rattle.std.specs.Bool.{MatchBool}
 use Rattle.std.proofs.lemmas.Int.{ints}
 use Rattle.std.proofs.lemmas.Grind.{common_steps}
 use Rattle.std.proofs.lemmas.Nat.{pow_pos}
-use Rattle.std.proofs.Math.Nat.{pow-suc, div-lt_iff_lt-mul, add-mul-div_right, div-div-eq-div-mul, div-eq_of_lt, mod-eq_of_lt, mul-le-mul_right, pow-succ', pow-le-pow_right}
+use Rattle.std.proofs.Math.Nat.{div-add-mod', mod-lt, pow-suc, div-lt_iff_lt-mul, add-mul-div_right, div-div-eq-div-mul, div-eq_of_lt, mod-eq_of_lt, mul-le-mul_right, pow-succ', pow-le-pow_right}
 use Rattle.sp_words.specs.declared.types.Ty.{Ty}
 use Rattle.sp_words.specs.Types.{signed_of, frac_of, width_of}
 use Rattle.sp_words.specs.Laws.{IsInRange}
 use Rattle.sp_words.proofs.OperatorLemmas.{width-le, frac-le}
-use Rattle.sp_words.specs.Decimal.{AreDigits, digits_number, decimal_value, digits_after_point, with_point, text_of}
-use Rattle.sp_words.specs.Words.{has_sign, value_of}
+use Rattle.sp_words.specs.Decimal.{AreDigits, digits_number, decimal_value, digits_after_point, with_point, text_of, whole_part, fraction_digits}
+use Rattle.sp_words.specs.Words.{IsWord, has_sign, value_of}
 use Rattle.std.specs.Fmt.{decimal}
 use Rattle.sp_words.specs.WholeNumbers.{floor_div, with_sign}
 
@@ -243,3 +243,97 @@ text_joined ty w m f first mid new e g a b c =
     ∙ ap (λ l. l ++ decimal (m / 2 ^ f) ++ point) a
     ∙ ap (λ m. sign ++ decimal (m / 2 ^ f) ++ with_point (digits_after_point f (m % 2 ^ f))) e
     ∙ ap (λ f. sign ++ decimal (unsigned_abs (value_of ty w) / 2 ^ f) ++ with_point (digits_after_point f (unsigned_abs (value_of ty w) % 2 ^ f))) g
+
+-- ---- what is printed reads back
+
+exact_step : (d p x q r n : ℕ) → x * q ≡ r * p → d * q + r ≡ 5 * n → (d * p + x) * (2 * q) ≡ n * (10 * p)
+exact_step d p x q r n e g =
+    let f : (d * q + r) * p ≡ 5 * n * p = ap (λ k. k * p) g in
+    omega (arith, e, f)
+
+pub digits_exact : (f n : ℕ) → n < 2 ^ f → digits_number (digits_after_point f n) * 2 ^ f ≡ n * 10 ^ length (digits_after_point f n)
+digits_exact zero n h =
+    let e : n ≡ 0 = omega arith in
+    ap (λ ds. digits_number ds * 2 ^ 0) (digits_none 0 n e) ∙ omega arith ∙ sym (ap (λ k. k * 10 ^ length (digits_after_point 0 n)) e)
+digits_exact (suc f) zero h =
+    ap (λ ds. digits_number ds * 2 ^ suc f) (digits_none (suc f) 0 refl) ∙ omega arith
+digits_exact (suc f) (suc n) h =
+    let d = 5 * suc n / 2 ^ f in
+    let r = 5 * suc n % 2 ^ f in
+    let ds : List ℕ = digits_after_point f r in
+    let small : r < 2 ^ f = mod-lt (5 * suc n) (pow_pos f) in
+    let inner : digits_number ds * 2 ^ f ≡ r * 10 ^ length ds = digits_exact f r small in
+    let more : digits_after_point (suc f) (suc n) ≡ d ∷ ds = digits_more f (suc n) (omega arith) in
+    let split : d * 2 ^ f + r ≡ 5 * suc n = div-add-mod' (5 * suc n) (2 ^ f) in
+    let p = 10 ^ length ds in
+    let q = 2 ^ f in
+    let x = digits_number ds in
+    let both : (d * p + x) * (2 * q) ≡ suc n * (10 * p) = exact_step d p x q r (suc n) inner split in
+    ap (λ ds. digits_number ds * 2 ^ suc f) more
+    ∙ ap (λ k. (d * p + x) * k) (pow-succ' 2 f) ∙ both
+    ∙ ap (λ k. suc n * k) (sym (pow-succ' 10 (length ds)))
+    ∙ sym (ap (λ ds. suc n * 10 ^ length ds) more)
+
+digits_few_none : (n : ℕ) → length (digits_after_point zero n) ≤ zero
+unfolding digits_after_point
+digits_few_none n = omega arith
+
+pub digits_few : (f n : ℕ) → length (digits_after_point f n) ≤ f
+digits_few zero n = digits_few_none n
+digits_few (suc f) zero = omega (arith, ap (length {A = ℕ}) (digits_none (suc f) 0 refl))
+digits_few (suc f) (suc n) =
+    let r = 5 * suc n % 2 ^ f in
+    omega (arith, digits_few f r, ap (length {A = ℕ}) (digits_more f (suc n) (omega arith)))
+
+sign_back : (w m : ℕ) → w < m → with_sign true (unsigned_abs (pos w -ℤ pos m)) ≡ pos w -ℤ pos m
+sign_back w m h =
+    let e : pos w -ℤ pos m ≡ negsuc (m - w - 1) = omega (arith, ints) in
+    rw e refl
+
+abs_signed : (ty : Ty) (w : ℕ) → IsWord ty w → with_sign (has_sign ty w) (unsigned_abs (value_of ty w)) ≡ value_of ty w
+unfolding value_of
+abs_signed ty w h =
+    elim (has_sign ty w) as (λ s. with_sign s (unsigned_abs (cond s (pos w -ℤ pos (2 ^ width_of ty)) (pos w))) ≡ cond s (pos w -ℤ pos (2 ^ width_of ty)) (pos w))
+    [ true ↦ sign_back w (2 ^ width_of ty) h | false ↦ refl ]
+
+slack_lt : (up : Bool) (p : ℕ) → 0 < p → slack up p < p
+slack_lt true p h = omega arith
+slack_lt false p h = h
+
+pub reads_back : (ty : Ty) (w : ℕ) → IsWord ty w → decimal_value ty (has_sign ty w) (whole_part ty w) (fraction_digits ty w) ≡ value_of ty w
+reads_back ty w h =
+    let m = unsigned_abs (value_of ty w) in
+    let s = 2 ^ frac_of ty in
+    let n = m % s in
+    let ds : List ℕ = fraction_digits ty w in
+    let p = 10 ^ length ds in
+    let positive : 0 < p = pow-pos (length ds) in
+    let low : n < s = mod-lt m (pow_pos (frac_of ty)) in
+    let exact : digits_number ds * s ≡ n * p = digits_exact (frac_of ty) n low in
+    let k = slack (has_sign ty w) p in
+    let none : k / p ≡ 0 = div-eq_of_lt (slack_lt (has_sign ty w) p positive) in
+    let regroup : digits_number ds * s + k ≡ k + n * p = omega (arith, exact) in
+    let below : (digits_number ds * s + k) / p ≡ n =
+    ap (λ x. x / p) regroup ∙ add-mul-div_right k n positive ∙ ap (λ x. x + n) none ∙ omega arith in
+    let all : m / s * s + n ≡ m = div-add-mod' m s in
+    decimal_is (has_sign ty w) (m / s) (digits_number ds) s p positive
+    ∙ ap (λ x. with_sign (has_sign ty w) (m / s * s + x)) below
+    ∙ ap (with_sign (has_sign ty w)) all
+    ∙ abs_signed ty w h
+
+first_and_rest : (d : ℕ) (ds : List ℕ) → d < 10 → AreDigits ds → AreDigits (d ∷ ds)
+first_and_rest d ds h a zero e k = h
+first_and_rest d ds h a (suc i) e k = a i e (omega arith)
+
+digits_all : (f n : ℕ) → n < 2 ^ f → AreDigits (digits_after_point f n)
+digits_all zero n h = subst AreDigits (sym (digits_none zero n (omega arith))) (λ k d e. absurd (omega arith))
+digits_all (suc f) zero h = subst AreDigits (sym (digits_none (suc f) 0 refl)) (λ k d e. absurd (omega arith))
+digits_all (suc f) (suc n) h =
+    let k : suc f - 1 ≡ f = omega arith in
+    let small : 5 * suc n / 2 ^ f < 10 = subst (λ j. 5 * suc n / 2 ^ j < 10) k (digit_small (suc f) (suc n) h) in
+    let low : 5 * suc n % 2 ^ f < 2 ^ f = mod-lt (5 * suc n) (pow_pos f) in
+    subst AreDigits (sym (digits_more f (suc n) (omega arith)))
+    (first_and_rest (5 * suc n / 2 ^ f) (digits_after_point f (5 * suc n % 2 ^ f)) small (digits_all f (5 * suc n % 2 ^ f) low))
+
+pub fraction_are_digits : (ty : Ty) (w : ℕ) → AreDigits (fraction_digits ty w)
+fraction_are_digits ty w = digits_all (frac_of ty) (unsigned_abs (value_of ty w) % 2 ^ frac_of ty) (mod-lt (unsigned_abs (value_of ty w)) (pow_pos (frac_of ty)))

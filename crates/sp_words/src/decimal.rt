@@ -1,8 +1,9 @@
-ghost use Rattle.std.specs.Prelude.{◌≡◌, ◌+◌, ◌-◌, ◌*◌, ◌/◌, ◌^◌, ◌<◌, ◌≤◌, ◌↔◌, if◌then◌else◌, length, ◌++◌, map, string_bytes, IsSome, IfSome, IsTrue, IfOk, OnOk};
-ghost use Rattle.sp_words.specs.Decimal.{AreDigits, digits_number, decimal_value, digits_after_point, text_of};
+ghost use Rattle.std.specs.Prelude.{◌≡◌, ℕ, ◌+◌, ◌-◌, ◌*◌, ◌/◌, ◌^◌, ◌<◌, ◌≤◌, ◌↔◌, if◌then◌else◌, length, ◌++◌, map, string_bytes, IsSome, IfSome, IsTrue, IfOk, OnOk};
+ghost use Rattle.sp_words.specs.Decimal.{AreDigits, digits_number, decimal_value, digits_after_point, text_of, whole_part, fraction_digits};
 ghost use Rattle.sp_words.specs.Laws.{IsInRange};
+ghost use Rattle.sp_words.specs.declared.types.Ty.{Ty};
 ghost use Rattle.sp_words.specs.WholeNumbers.{with_sign};
-ghost use Rattle.sp_words.specs.Words.{IsWord, value_of};
+ghost use Rattle.sp_words.specs.Words.{IsWord, has_sign, value_of};
 
 #[cfg(test)]
 mod tests;
@@ -99,3 +100,12 @@ pub fn value_text(alloc: Global, ty: Ty, word: u64) -> Result<String, NoMemory>
     }
     Ok(text)
 }
+
+/// The parts of the number that a word means have the word's value, so that `of_decimal` reads the word
+/// from them again. Each function of this kind does nothing: what it ensures is the law.
+pub fn texts_read_back()
+    ensures few { (ty : Ty) (w : ℕ) → length (fraction_digits ty w) ≤ 64 }
+    ensures digits { (ty : Ty) (w : ℕ) → AreDigits (fraction_digits ty w) }
+    ensures value { (ty : Ty) (w : ℕ) → IsWord ty w → decimal_value ty (has_sign ty w) (whole_part ty w) (fraction_digits ty w) ≡ value_of ty w }
+    ensures one_word { (ty : Ty) (v w : ℕ) → IsWord ty v → IsWord ty w → value_of ty v ≡ value_of ty w → v ≡ w }
+{}

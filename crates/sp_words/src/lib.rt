@@ -16,7 +16,7 @@ mod tests;
 mod types;
 mod words;
 
-pub use decimal::{of_decimal, value_text};
+pub use decimal::{of_decimal, texts_read_back, value_text};
 pub use interface::{Input, Output, PortDecl, Ports, fits};
 pub use kind::{BinOp, Kind, Style, UnOp};
 pub use laws::{

@@ -1,4 +1,4 @@
-use Rattle.std.proofs.Common.{◌≡◌, ◌≤◌, ◌∙◌, ◌++◌, ◌%◌, ◌*◌, ◌^◌, List, ℕ, [], ◌∷◌, cond, sym, ap, arith}
+use Rattle.std.proofs.Common.{◌≡◌, ◌≤◌, ◌∙◌, ◌++◌, ◌%◌, ◌^◌, [], ◌∷◌, cond, sym, ap, arith}
 use Rattle.std.specs.Prelude.{string_bytes, unsigned_abs}
 use Rattle.std.specs.Int.{w128, cast_signed, cast_unsigned}
 use Rattle.std.proofs.lemmas.Int.{ints}
