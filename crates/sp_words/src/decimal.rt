@@ -10,7 +10,7 @@ mod tests;
 
 use crate::types::Ty;
 use crate::words::{is_negative, mask, value, word_of};
-use std::alloc::{AllocError as NoMemory, Global};
+use std::alloc::Global;
 
 /// The digits after a point, times `2 ^ frac`: rounded down, or up where `up` is set.
 fn fraction(frac: u8, up: bool, digits: &[u8]) -> u128

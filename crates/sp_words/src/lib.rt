@@ -30,5 +30,6 @@ pub use memory_laws::{
 };
 pub use memory_number::{MemId, ReadPort, WritePort};
 pub use operators::{add, and, cast, div, eq, lt, max, min, mul, not, or, rem, shl, shr, sub, xor};
+pub use std::alloc::AllocError as NoMemory;
 pub use types::{FixTy, Ty};
 pub use words::is_word;
