@@ -8,6 +8,7 @@ ghost use Rattle.sp_words.specs.Words.{IsWord, has_sign, value_of};
 #[cfg(test)]
 mod tests;
 
+use crate::NoMemory;
 use crate::types::Ty;
 use crate::words::{is_negative, mask, value, word_of};
 use std::alloc::Global;
