@@ -7,6 +7,6 @@ use Rattle.sp_top.proofs.top.spatialc.Goals as goal
 pub returns-clause-complete : goal.returns-clause-complete
 returns-clause-complete g c = λ program bytes lines is sure holds small straight.
     let failed : List ℕ → Type 0 =
-        λ name. Rose (g.I.Inputs.faults c.args.inputs.now) (g.I.Inputs.faults c.answer.new.inputs) × (g.I.Inputs.sure c.args.inputs.now name → ⊥) in
+    λ name. Rose (g.I.Inputs.faults c.args.inputs.now) (g.I.Inputs.faults c.answer.new.inputs) × (g.I.Inputs.sure c.args.inputs.now name → ⊥) in
     let read : failed program → ⊥ = λ f. f.1 sure in
     complete _ _ failed _ _ _ program bytes lines c.answer.ensures is read holds small straight
