@@ -21,3 +21,5 @@ pub mod Determined
 pub mod PartLaws
 pub mod SmallParts
 pub mod Serving
+pub mod CheckLemmas
+pub mod TableLemmas

@@ -9,3 +9,4 @@ pub mod Examples
 pub mod Parts
 pub mod PartExamples
 pub mod Channels
+pub mod Refusals

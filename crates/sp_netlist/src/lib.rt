@@ -4,9 +4,11 @@
 
 mod builder;
 mod cell;
+mod check;
 mod laws;
 mod netlist;
 mod parts;
+mod tables;
 #[cfg(test)]
 mod tests;
 

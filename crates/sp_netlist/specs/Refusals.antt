@@ -1,0 +1,76 @@
+-- Why a list of cells is refused whose cells obey the rules one by one: it is too large, or a net isn't driven
+-- once, stands at two widths, or is computed from itself.
+use Rattle.std.specs.Prelude.{◌≡◌, ◌≢◌, ℕ, ◌+◌, ◌*◌, ◌≤◌, ◌<◌, List, [], ◌∷◌, ◌++◌, length, map, slice_index, count_by, Option, Some, None, Contains, nat_lt, if◌then◌else◌}
+use Rattle.sp_words.specs.Types.{width_of}
+use Rattle.sp_netlist.specs.declared.parts.Wire.{Wire}
+use Rattle.sp_netlist.specs.Cells.{PlainCell, bank_cell, read_tap, write_tap, dram_cell, load_unit, store_unit}
+use Rattle.sp_netlist.specs.Rules.{IsRight, Leads, is_done, is_bank, is_dram, bank_width, dram_width, size_of_dims, driven_nets, read_nets}
+use Rattle.sp_netlist.specs.Draft.{driver_count}
+
+-- each cell obeys the rules after those before it, and one done stands
+pub record AreLines (cells : List PlainCell) : Type 0 where
+  pub right : (before : List PlainCell) (cell : PlainCell) (after : List PlainCell) → cells ≡ before ++ cell ∷ after → IsRight cells before cell
+  pub one_done : count_by is_done cells ≡ 1
+
+-- how many words the banks have, and the DRAMs
+abbrev pub bank_words : List PlainCell → ℕ
+bank_words [] = 0
+bank_words (bank_cell bank width len ∷ cells) = len + bank_words cells
+bank_words (cell ∷ cells) = bank_words cells
+
+abbrev pub dram_words : List PlainCell → ℕ
+dram_words [] = 0
+dram_words (dram_cell dram name ty dims ∷ cells) = size_of_dims dims + dram_words cells
+dram_words (cell ∷ cells) = dram_words cells
+
+-- the first of the three counts that passes its limit
+abbrev pub count_over : List PlainCell → Option ℕ
+count_over cells =
+    if nat_lt 2000000 (length cells) then Some (length cells) else
+    (if nat_lt 67108864 (bank_words cells) then Some (bank_words cells) else
+    (if nat_lt 67108864 (dram_words cells) then Some (dram_words cells) else None))
+
+-- a net that is driven or read, but isn't driven once
+abbrev pub DrivenNotOnce : List PlainCell → ℕ → Type 0
+DrivenNotOnce cells net = Contains (map (λ p. p.0) (driven_nets cells ++ read_nets cells)) net × (driver_count cells net ≢ 1)
+
+-- a net that is read at another width than its driver gives it
+abbrev pub WidthsDiffer : List PlainCell → ℕ → Type 0
+WidthsDiffer cells net = (given : ℕ) × (read : ℕ) × Contains (driven_nets cells) (net, given) × Contains (read_nets cells) (net, read) × (given ≢ read)
+
+-- a net that is computed from itself
+abbrev pub IsLooped : List PlainCell → ℕ → Type 0
+IsLooped cells net = Leads cells net net
+
+-- the least number of which a fact holds
+pub record IsLeast (P : ℕ → Type 0) (n : ℕ) : Type 0 where
+  pub holds : P n
+  pub least : (m : ℕ) → P m → n ≤ m
+
+-- the widths of the banks and of the DRAMs in order
+abbrev pub bank_width_in : PlainCell → Option ℕ
+bank_width_in (bank_cell bank width len) = Some width
+bank_width_in cell = None
+
+abbrev pub dram_width_in : PlainCell → Option ℕ
+dram_width_in (dram_cell dram name ty dims) = Some (width_of ty)
+dram_width_in cell = None
+
+-- two lists have the width of each bank and of each DRAM at its number
+pub record AreWidths (cells : List PlainCell) (banks drams : List ℕ) : Type 0 where
+  pub bank_within : (bank : ℕ) → bank < count_by is_bank cells → bank < length banks
+  pub bank_at : (bank : ℕ) → bank < count_by is_bank cells → slice_index banks bank ≡ bank_width cells bank
+  pub dram_within : (dram : ℕ) → dram < count_by is_dram cells → dram < length drams
+  pub dram_at : (dram : ℕ) → dram < count_by is_dram cells → slice_index drams dram ≡ dram_width cells dram
+
+-- the bank or the DRAM that the cell names stands
+abbrev pub NamesStanding : List PlainCell → PlainCell → Type 0
+NamesStanding cells (read_tap net bank enable addr) = bank < count_by is_bank cells
+NamesStanding cells (write_tap bank enable addr word) = bank < count_by is_bank cells
+NamesStanding cells (load_unit channel dram ready net request last addr) = dram < count_by is_dram cells
+NamesStanding cells (store_unit channel dram ready request last addr word) = dram < count_by is_dram cells
+NamesStanding cells cell = Unit {0}
+
+-- nets with their widths
+abbrev pub wire_pairs : List Wire → List (ℕ × ℕ)
+wire_pairs = map (λ w. (w.net, w.width))
