@@ -1,6 +1,6 @@
 -- Counts that are capped, cell by cell.
-use Rattle.std.proofs.Common.{◌≡◌, ℕ, zero, suc, ◌+◌, ◌*◌, ◌-◌, ◌^◌, ◌<◌, ◌≤◌, min, List, [], ◌∷◌, ◌++◌, length, get_or, take, map, refl, sym, ap, ◌∙◌, ◌⊎◌, inl, inr, arith, mul_assoc, mul-one}
-use Rattle.std.proofs.lemmas.List.{take_more, map_push, map_more}
+use Rattle.std.proofs.Common.{◌≡◌, ℕ, zero, suc, ◌+◌, ◌*◌, ◌<◌, ◌≤◌, min, List, [], ◌∷◌, ◌++◌, length, get_or, take, sym, ap, ◌∙◌, ◌⊎◌, inl, inr, arith, mul_assoc}
+use Rattle.std.proofs.lemmas.List.{take_more, map_push}
 use Rattle.std.proofs.lemmas.Bool.{cases_lt}
 use Rattle.std.proofs.Math.Nat.{min-eq_left, mul-le-mul_right, le_of_lt}
 use Rattle.sp_netlist.specs.declared.cell.Cell.{Cell}

@@ -105,13 +105,13 @@ count_by-map p f (x ∷ xs) =
     one ∙ rw more (sym two)
 
 -- a net in the list is counted, and one that is counted is in the list
-counted_net : (nets : List (ℕ × ℕ)) (net : ℕ) → Contains (map (λ p. p.0) nets) net → 1 ≤ count_by (λ p. p.0 == net) nets
+pub counted_net : (nets : List (ℕ × ℕ)) (net : ℕ) → Contains (map (λ p. p.0) nets) net → 1 ≤ count_by (λ p. p.0 == net) nets
 counted_net nets net h =
     let one = counted (λ n. n == net) (map (λ p. p.0) nets) net h (eq-eqb net net refl) in
     let same = count_by-map (λ n. n == net) (λ (p : ℕ × ℕ). p.0) nets in
     omega (arith, one, same)
 
-net_counted : (nets : List (ℕ × ℕ)) (net : ℕ) → 1 ≤ count_by (λ p. p.0 == net) nets → (p : ℕ × ℕ) × Contains nets p × (p.0 ≡ net)
+pub net_counted : (nets : List (ℕ × ℕ)) (net : ℕ) → 1 ≤ count_by (λ p. p.0 == net) nets → (p : ℕ × ℕ) × Contains nets p × (p.0 ≡ net)
 net_counted [] net h = absurd (omega (arith, h))
 net_counted (p ∷ nets) net h =
     elim (cases_eq p.0 net) [

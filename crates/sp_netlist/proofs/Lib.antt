@@ -23,3 +23,5 @@ pub mod SmallParts
 pub mod Serving
 pub mod CheckLemmas
 pub mod TableLemmas
+pub mod DriverTables
+pub mod NetFaults

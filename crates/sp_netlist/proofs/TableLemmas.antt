@@ -1,5 +1,5 @@
 -- The widths of banks and DRAMs stand in the order of their numbers.
-use Rattle.std.proofs.Common.{◌≡◌, ℕ, zero, suc, ◌+◌, ◌-◌, ◌<◌, ◌≤◌, ◌==◌, Bool, true, false, cond, List, [], ◌∷◌, ◌++◌, length, map, get_or, take, flat_map, Contains, Option, filter_map, count_by, slice_index, refl, sym, ap, ◌∙◌, subst, append_assoc, append-nil, inl, inr, arith, ne_eqb, eq-eqb}
+use Rattle.std.proofs.Common.{◌≡◌, ℕ, suc, ◌+◌, ◌-◌, ◌<◌, ◌≤◌, cond, List, [], ◌∷◌, ◌++◌, length, get_or, take, flat_map, Contains, Option, filter_map, count_by, slice_index, refl, sym, ap, ◌∙◌, subst, append_assoc, append-nil, inl, inr, arith, ne_eqb, eq-eqb}
 use Rattle.std.proofs.lemmas.Bool.{cases_eq}
 use Rattle.std.proofs.lemmas.List.Sums.{sum_by-append}
 use Rattle.std.proofs.lemmas.List.{length-map, get_or-map}
@@ -25,16 +25,16 @@ bank_at cells before (bank_cell bank width len ∷ rest) n lines split from belo
     let number = (lines.right before (bank_cell bank width len) rest split).0 in
     let grown = sum_by-append (λ x. cond (is_bank x) 1 0) before (bank_cell bank width len ∷ []) in
     elim (cases_eq bank n) [
-      inl here ↦
-        let none : n - count_by is_bank before ≡ 0 = omega (arith, number, here) in
-        let test = eq-eqb bank n here in
-        record { within = omega (arith, none); at = rw (none, test) refl }
+      | inl here ↦
+          let none : n - count_by is_bank before ≡ 0 = omega (arith, number, here) in
+          let test = eq-eqb bank n here in
+          record { within = omega (arith, none); at = rw (none, test) refl }
       | inr other ↦
-        let next = bank_at cells (before ++ bank_cell bank width len ∷ []) rest n lines (split ∙ sym (append_assoc before (bank_cell bank width len ∷ []) rest)) (omega (arith, grown, number, from, other)) below in
-        let step : n - count_by is_bank before ≡ suc (n - count_by is_bank (before ++ bank_cell bank width len ∷ [])) = omega (arith, grown, number, from, other) in
-        let test = ne_eqb bank n other in
-        let w = next.within in
-        record { within = omega (arith, w, step); at = rw (step, test) next.at }
+          let next = bank_at cells (before ++ bank_cell bank width len ∷ []) rest n lines (split ∙ sym (append_assoc before (bank_cell bank width len ∷ []) rest)) (omega (arith, grown, number, from, other)) below in
+          let step : n - count_by is_bank before ≡ suc (n - count_by is_bank (before ++ bank_cell bank width len ∷ [])) = omega (arith, grown, number, from, other) in
+          let test = ne_eqb bank n other in
+          let w = next.within in
+          record { within = omega (arith, w, step); at = rw (step, test) next.at }
     ]
 bank_at cells before (x ∷ rest) n lines split from below =
     let grown = sum_by-append (λ y. cond (is_bank y) 1 0) before (x ∷ []) in
@@ -54,16 +54,16 @@ dram_at cells before (dram_cell dram name ty dims ∷ rest) n lines split from b
     let number = (lines.right before (dram_cell dram name ty dims) rest split).0 in
     let grown = sum_by-append (λ x. cond (is_dram x) 1 0) before (dram_cell dram name ty dims ∷ []) in
     elim (cases_eq dram n) [
-      inl here ↦
-        let none : n - count_by is_dram before ≡ 0 = omega (arith, number, here) in
-        let test = eq-eqb dram n here in
-        record { within = omega (arith, none); at = rw (none, test) refl }
+      | inl here ↦
+          let none : n - count_by is_dram before ≡ 0 = omega (arith, number, here) in
+          let test = eq-eqb dram n here in
+          record { within = omega (arith, none); at = rw (none, test) refl }
       | inr other ↦
-        let next = dram_at cells (before ++ dram_cell dram name ty dims ∷ []) rest n lines (split ∙ sym (append_assoc before (dram_cell dram name ty dims ∷ []) rest)) (omega (arith, grown, number, from, other)) below in
-        let step : n - count_by is_dram before ≡ suc (n - count_by is_dram (before ++ dram_cell dram name ty dims ∷ [])) = omega (arith, grown, number, from, other) in
-        let test = ne_eqb dram n other in
-        let w = next.within in
-        record { within = omega (arith, w, step); at = rw (step, test) next.at }
+          let next = dram_at cells (before ++ dram_cell dram name ty dims ∷ []) rest n lines (split ∙ sym (append_assoc before (dram_cell dram name ty dims ∷ []) rest)) (omega (arith, grown, number, from, other)) below in
+          let step : n - count_by is_dram before ≡ suc (n - count_by is_dram (before ++ dram_cell dram name ty dims ∷ [])) = omega (arith, grown, number, from, other) in
+          let test = ne_eqb dram n other in
+          let w = next.within in
+          record { within = omega (arith, w, step); at = rw (step, test) next.at }
     ]
 dram_at cells before (x ∷ rest) n lines split from below =
     let grown = sum_by-append (λ y. cond (is_dram y) 1 0) before (x ∷ []) in

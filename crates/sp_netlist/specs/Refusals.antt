@@ -1,11 +1,11 @@
 -- Why a list of cells is refused whose cells obey the rules one by one: it is too large, or a net isn't driven
 -- once, stands at two widths, or is computed from itself.
-use Rattle.std.specs.Prelude.{◌≡◌, ◌≢◌, ℕ, ◌+◌, ◌*◌, ◌≤◌, ◌<◌, List, [], ◌∷◌, ◌++◌, length, map, slice_index, count_by, Option, Some, None, Contains, nat_lt, if◌then◌else◌}
+use Rattle.std.specs.Prelude.{◌≡◌, ◌≢◌, ℕ, ◌+◌, ◌≤◌, ◌<◌, List, [], ◌∷◌, ◌++◌, length, map, slice_index, min, Bool, false, not, ◌==◌, count_by, Option, Some, None, Contains, nat_lt, if◌then◌else◌}
 use Rattle.sp_words.specs.Types.{width_of}
 use Rattle.sp_netlist.specs.declared.parts.Wire.{Wire}
 use Rattle.sp_netlist.specs.Cells.{PlainCell, bank_cell, read_tap, write_tap, dram_cell, load_unit, store_unit}
 use Rattle.sp_netlist.specs.Rules.{IsRight, Leads, is_done, is_bank, is_dram, bank_width, dram_width, size_of_dims, driven_nets, read_nets}
-use Rattle.sp_netlist.specs.Draft.{driver_count}
+use Rattle.sp_netlist.specs.Draft.{driver_count, net_count}
 
 -- each cell obeys the rules after those before it, and one done stands
 pub record AreLines (cells : List PlainCell) : Type 0 where
@@ -74,3 +74,38 @@ NamesStanding cells cell = Unit {0}
 -- nets with their widths
 abbrev pub wire_pairs : List Wire → List (ℕ × ℕ)
 wire_pairs = map (λ w. (w.net, w.width))
+
+-- nothing where the fact holds of no number, and else the least of which it holds
+abbrev pub IsLeastOrNone : (ℕ → Type 0) → Option ℕ → Type 0
+IsLeastOrNone P None = (n : ℕ) → P n → ⊥
+IsLeastOrNone P (Some n) = IsLeast P n
+
+abbrev pub least_with : Option ℕ → ℕ → ℕ
+least_with None n = n
+least_with (Some b) n = min b n
+
+-- the width with which a list of nets last has a net
+abbrev pub or_else : Option ℕ → Option ℕ → Option ℕ
+or_else (Some width) other = Some width
+or_else None other = other
+
+abbrev pub latest : List (ℕ × ℕ) → ℕ → Option ℕ
+latest [] net = None
+latest (p ∷ nets) net = or_else (latest nets net) (if p.0 == net then Some p.1 else None)
+
+-- a net that is read and has no driver, where `given` has the width that each driven net is given
+abbrev pub IsMissing : (ℕ → Option ℕ) → List (ℕ × ℕ) → ℕ → Type 0
+IsMissing given read net = (1 ≤ net_count read net) × (given net ≡ None)
+
+-- one that is read at another width than it is given
+abbrev pub IsClash : (ℕ → Option ℕ) → List (ℕ × ℕ) → ℕ → Type 0
+IsClash given read net = (width : ℕ) × (other : ℕ) × (given net ≡ Some width) × Contains read (net, other) × (width ≢ other)
+
+abbrev pub differs_from : Option ℕ → ℕ → Bool
+differs_from (Some given) width = not (given == width)
+differs_from None width = false
+
+-- the lesser of two that may be missing
+abbrev pub least_of : Option ℕ → Option ℕ → Option ℕ
+least_of best None = best
+least_of best (Some n) = Some (least_with best n)

@@ -8,7 +8,9 @@ use crate::cell::Cell;
 
 /// The most cells, words of banks and words of DRAMs that a netlist may have.
 pub const MAX_CELLS: u64 = 2_000_000;
+
 pub const MAX_BANK_WORDS: u64 = 67_108_864;
+
 pub const MAX_DRAM_WORDS: u64 = 67_108_864;
 
 /// The product, or the type's end where it is greater.

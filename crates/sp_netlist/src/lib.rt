@@ -5,6 +5,7 @@
 mod builder;
 mod cell;
 mod check;
+mod drivers;
 mod laws;
 mod netlist;
 mod parts;

@@ -134,7 +134,11 @@ impl<'a> Widths<'a> {
                 push_wire(wires, *net, self.dram(*dram))
             }
             Cell::StoreUnit(_, _, ready, _, _, _, _) => push_wire(wires, *ready, 1),
-            Cell::Out(_, _, _) | Cell::Done(_) | Cell::Bank(_, _, _) | Cell::WriteTap(_, _, _, _) | Cell::Dram(_, _, _, _) => Ok(()),
+            Cell::Out(_, _, _)
+            | Cell::Done(_)
+            | Cell::Bank(_, _, _)
+            | Cell::WriteTap(_, _, _, _)
+            | Cell::Dram(_, _, _, _) => Ok(()),
         }
     }
 
@@ -177,7 +181,10 @@ impl<'a> Widths<'a> {
                 push_address(wires, *last, *addr)?;
                 push_wire(wires, *word, self.dram(*dram))
             }
-            Cell::In(_, _, _) | Cell::Const(_, _, _) | Cell::Bank(_, _, _) | Cell::Dram(_, _, _, _) => Ok(()),
+            Cell::In(_, _, _)
+            | Cell::Const(_, _, _)
+            | Cell::Bank(_, _, _)
+            | Cell::Dram(_, _, _, _) => Ok(()),
         }
     }
 

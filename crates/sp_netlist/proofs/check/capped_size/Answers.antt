@@ -1,4 +1,4 @@
-use Rattle.std.proofs.Common.{◌-◌, ◌^◌, min, ap, sym, ◌∙◌, refl, arith, take}
+use Rattle.std.proofs.Common.{◌-◌, ◌^◌, min, ap, sym, ◌∙◌, take}
 use Rattle.sp_netlist.specs.Rules.{size_of_dims}
 use Rattle.sp_netlist.proofs.CheckLemmas.{capped_times, size_of_dims-more}
 use Rattle.sp_netlist.proofs.check.capped_size.Goals as goal

@@ -1,0 +1,15 @@
+use Rattle.std.proofs.Common.{◌<◌, subst, take_all}
+use Rattle.sp_netlist.specs.Draft.{net_count}
+use Rattle.sp_netlist.specs.Refusals.{IsLeastOrNone, wire_pairs}
+use Rattle.sp_netlist.proofs.DriverTables.{widths_more, twice_more}
+use Rattle.sp_netlist.proofs.drivers.driver_widths.Goals as goal
+
+pub loop-wire-preserved : goal.loop-wire-preserved
+loop-wire-preserved c = record {
+  widths = widths_more _ _ c.args.driven.now c.loop-wire.wire-index c.wire-item.result c.loop-wire-test.true c.wire-item.is c.loop-wire.invariant.widths c.in_ok-was.ensures.put;
+  twice = twice_more _ c.args.driven.now c.loop-wire.wire-index c.wire-item.result c.loop-wire.twice _ _ c.loop-wire-test.true c.wire-item.is c.loop-wire.invariant.widths c.loop-wire.invariant.twice c.in_ok-was.ensures.was c.noted-twice.ensures;
+}
+
+pub returns-clause-twice : goal.returns-clause-twice
+returns-clause-twice c =
+    subst (λ wires. IsLeastOrNone (λ net. 1 < net_count (wire_pairs wires) net) c.loop-wire.twice) (take_all c.loop-wire.wire-index c.args.driven.now c.loop-wire-test.false) c.loop-wire.invariant.twice

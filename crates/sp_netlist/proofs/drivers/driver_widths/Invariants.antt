@@ -1,0 +1,12 @@
+use Rattle.std.proofs.Common.{◌≡◌, ℕ, ◌<◌, take}
+use Rattle.std.specs.BTreeMap.{get}
+use Rattle.std.specs.Ordering.{nat_cmp}
+use Rattle.sp_netlist.specs.Draft.{net_count}
+use Rattle.sp_netlist.specs.Refusals.{IsLeastOrNone, latest, wire_pairs}
+use Rattle.sp_netlist.proofs.drivers.driver_widths.Given as goal
+
+abbrev pub invariant-loop-wire : goal.invariant-loop-wire
+invariant-loop-wire l = record {
+  widths : (net : ℕ) → get nat_cmp l.widths net ≡ latest (wire_pairs (take l.wire-index l.driven)) net;
+  twice : IsLeastOrNone (λ net. 1 < net_count (wire_pairs (take l.wire-index l.driven)) net) l.twice;
+}
