@@ -5,9 +5,9 @@
 mod builder;
 mod cell;
 mod check;
-mod drivers;
 mod laws;
 mod netlist;
+mod nets;
 mod parts;
 mod tables;
 #[cfg(test)]

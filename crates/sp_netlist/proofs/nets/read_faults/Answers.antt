@@ -1,5 +1,5 @@
 use Rattle.sp_netlist.proofs.DriverTables.{missing_more, clash_more}
-use Rattle.sp_netlist.proofs.drivers.read_faults.Goals as goal
+use Rattle.sp_netlist.proofs.nets.read_faults.Goals as goal
 
 pub loop-wire-preserved : goal.loop-wire-preserved
 loop-wire-preserved c = record {

@@ -3,7 +3,7 @@ use Rattle.std.specs.BTreeMap.{get}
 use Rattle.std.specs.Ordering.{nat_cmp}
 use Rattle.sp_netlist.specs.Draft.{net_count}
 use Rattle.sp_netlist.specs.Refusals.{IsLeastOrNone, latest, wire_pairs}
-use Rattle.sp_netlist.proofs.drivers.driver_widths.Given as goal
+use Rattle.sp_netlist.proofs.nets.driver_widths.Given as goal
 
 abbrev pub invariant-loop-wire : goal.invariant-loop-wire
 invariant-loop-wire l = record {

@@ -2,7 +2,7 @@ use Rattle.std.proofs.Common.{take}
 use Rattle.std.specs.BTreeMap.{get}
 use Rattle.std.specs.Ordering.{nat_cmp}
 use Rattle.sp_netlist.specs.Refusals.{IsLeastOrNone, wire_pairs, IsMissing, IsClash}
-use Rattle.sp_netlist.proofs.drivers.read_faults.Given as goal
+use Rattle.sp_netlist.proofs.nets.read_faults.Given as goal
 
 abbrev pub invariant-loop-wire : goal.invariant-loop-wire
 invariant-loop-wire l = record {

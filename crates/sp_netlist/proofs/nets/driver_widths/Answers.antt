@@ -2,7 +2,7 @@ use Rattle.std.proofs.Common.{◌<◌, subst, take_all}
 use Rattle.sp_netlist.specs.Draft.{net_count}
 use Rattle.sp_netlist.specs.Refusals.{IsLeastOrNone, wire_pairs}
 use Rattle.sp_netlist.proofs.DriverTables.{widths_more, twice_more}
-use Rattle.sp_netlist.proofs.drivers.driver_widths.Goals as goal
+use Rattle.sp_netlist.proofs.nets.driver_widths.Goals as goal
 
 pub loop-wire-preserved : goal.loop-wire-preserved
 loop-wire-preserved c = record {

@@ -3,7 +3,7 @@ use Rattle.sp_netlist.specs.Cells.{plain_cells}
 use Rattle.sp_netlist.specs.Rules.{driven_nets, read_nets}
 use Rattle.sp_netlist.specs.Refusals.{IsLeastOrNone, wire_pairs, DrivenNotOnce}
 use Rattle.sp_netlist.proofs.NetFaults.{not_once_at, widths_differ_at}
-use Rattle.sp_netlist.proofs.drivers.net_faults.Goals as goal
+use Rattle.sp_netlist.proofs.nets.net_faults.Goals as goal
 
 pub returns-clause-driven : goal.returns-clause-driven
 returns-clause-driven c =
