@@ -1,0 +1,10 @@
+pub mod Closing
+pub mod Cycles
+pub mod Entering
+pub mod Finished
+pub mod Graphs
+pub mod Looking
+pub mod Marks
+pub mod Paths
+pub mod Steps
+pub mod Visits

@@ -1,0 +1,12 @@
+//! Directed graphs, and the groups of nodes that lie on cycles together.
+#![tactic(auto)]
+
+mod connected;
+mod graph;
+mod search;
+#[cfg(test)]
+mod tests;
+
+pub use connected::{components, numbers_tell_components};
+pub use graph::Graph;
+pub use std::alloc::AllocError as NoMemory;
