@@ -337,3 +337,33 @@ digits_all (suc f) (suc n) h =
 
 pub fraction_are_digits : (ty : Ty) (w : ℕ) → AreDigits (fraction_digits ty w)
 fraction_are_digits ty w = digits_all (frac_of ty) (unsigned_abs (value_of ty w) % 2 ^ frac_of ty) (mod-lt (unsigned_abs (value_of ty w)) (pow_pos (frac_of ty)))
+
+some_digit : (f n : ℕ) → 0 < n → n < 2 ^ f → digits_after_point f n ≡ [] → ⊥
+some_digit zero n h g e = omega arith
+some_digit (suc f) n h g e =
+    let more = digits_more f n h in
+    cc
+
+no_end : (ds : List ℕ) → [] ≡ ds ++ (0 ∷ []) → ⊥
+no_end [] e = cc
+no_end (d ∷ ds) e = cc
+
+-- the last digit is not 0
+pub no_last_zero : (f n : ℕ) (ds : List ℕ) → n < 2 ^ f → digits_after_point f n ≡ ds ++ (0 ∷ []) → ⊥
+no_last_zero zero n ds h e = no_end ds (sym (digits_none zero n (omega arith)) ∙ e)
+no_last_zero (suc f) zero ds h e = no_end ds (sym (digits_none (suc f) 0 refl) ∙ e)
+no_last_zero (suc f) (suc n) [] h e =
+    let q = 5 * suc n / 2 ^ f in
+    let r = 5 * suc n % 2 ^ f in
+    let more = digits_more f (suc n) (omega arith) in
+    let first : q ≡ 0 = cc in
+    let none : digits_after_point f r ≡ [] = cc in
+    let all : q * 2 ^ f + r ≡ 5 * suc n = div-add-mod' (5 * suc n) (2 ^ f) in
+    let part : q * 2 ^ f ≡ 0 = ap (λ k. k * 2 ^ f) first ∙ omega arith in
+    let left : 0 < r = omega arith in
+    some_digit f r left (mod-lt (5 * suc n) (pow_pos f)) none
+no_last_zero (suc f) (suc n) (d ∷ ds) h e =
+    let r = 5 * suc n % 2 ^ f in
+    let more = digits_more f (suc n) (omega arith) in
+    let rest : digits_after_point f r ≡ ds ++ (0 ∷ []) = cc in
+    no_last_zero f r ds (mod-lt (5 * suc n) (pow_pos f)) rest

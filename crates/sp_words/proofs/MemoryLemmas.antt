@@ -1,6 +1,6 @@
 -- The laws of what memories hold.
 use Rattle.std.proofs.Common.{◌≢◌, ◌≡◌, ℕ, Bool, true, false, cond, refl, sym, ◌∙◌, ap, subst, arith, rules, List, [], ◌∷◌, length}
-use Rattle.std.specs.Prelude.{Option, Some, None, option_map, replicate}
+use Rattle.std.specs.Prelude.{Option, Some, None, option_map, replicate, IsTrue}
 use Rattle.std.specs.Ordering.{nat_cmp, eq_by_cmp}
 use Rattle.std.proofs.lemmas.Cmp.{nat_cmp_total}
 use Rattle.std.specs.FinMap.{gets, get-insert, same_map, nat_cmp-IsAntisymmetric}
@@ -95,3 +95,11 @@ fresh_fits LineBuf dims start given h = fresh-HasRows dims h
 fresh_fits Dram dims start given h = h
 fresh_fits ArgIn dims start given h = h
 fresh_fits ArgOut dims start given h = refl
+
+-- ---- kinds
+
+-- a kind that passes a test is none that fails it
+pub other_kind : (test : Kind → Bool) (k l : Kind) → IsTrue (test k) → test l ≡ false → k ≢ l
+other_kind test k l t f e =
+    let no : true ≡ false = sym t ∙ ap test e ∙ f in
+    cc

@@ -1,6 +1,6 @@
 -- When an input fits the ports of a program.
-use Rattle.std.specs.Prelude.{◌≡◌, ℕ, ◌*◌, List, length}
-use Rattle.std.specs.List.{All, AllZip, fold}
+use Rattle.std.specs.Prelude.{◌≡◌, ℕ, ◌*◌, List, [], ◌∷◌, length}
+use Rattle.std.specs.List.{All, AllZip}
 use Rattle.std.specs.Global.{Vec}
 use Rattle.sp_words.specs.declared.interface.PortDecl.{PortDecl}
 use Rattle.sp_words.specs.declared.interface.Ports.{Ports}
@@ -9,7 +9,8 @@ use Rattle.sp_words.specs.Words.{IsWord}
 
 -- how many words there are under these dimensions: their product, and 1 under none
 abbrev pub word_count : List ℕ → ℕ
-word_count dims = fold ◌*◌ 1 dims
+word_count [] = 1
+word_count (d ∷ dims) = d * word_count dims
 
 -- a word that an argument may have
 abbrev pub ArgFits : PortDecl → ℕ → Type 0

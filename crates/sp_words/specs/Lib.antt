@@ -1,8 +1,10 @@
-pub mod Footprints
 pub mod Decimal
+pub mod Footprints
 pub mod Interface
 pub mod Laws
 pub mod Memory
+pub mod NumberText
+pub mod Ports
 pub mod Types
 pub mod WholeNumbers
 pub mod Words

@@ -1,5 +1,5 @@
 -- What memories hold, and the state of a program as far as it is in its memories.
-use Rattle.std.specs.Prelude.{ℕ, List, [], ◌∷◌, replicate, Option, None, option_map}
+use Rattle.std.specs.Prelude.{ℕ, Bool, true, false, List, [], ◌∷◌, replicate, Option, None, option_map}
 use Rattle.std.specs.Ordering.{nat_cmp}
 use Rattle.std.specs.FinMap.{FinMap, get, insert}
 use Rattle.sp_words.specs.declared.kind.Kind.{Kind}
@@ -29,6 +29,23 @@ greatest_rank Sram = 3
 greatest_rank Dram = 3
 greatest_rank LineBuf = 2
 greatest_rank _ = 0
+
+-- the kinds that have read ports, and those that have write ports: a DRAM has neither, since it is read and
+-- written by transfers alone, and a line buffer is filled by them
+abbrev pub is_readable : Kind → Bool
+is_readable Reg = true
+is_readable Sram = true
+is_readable Fifo = true
+is_readable LineBuf = true
+is_readable ArgIn = true
+is_readable _ = false
+
+abbrev pub is_writable : Kind → Bool
+is_writable Reg = true
+is_writable Sram = true
+is_writable Fifo = true
+is_writable ArgOut = true
+is_writable _ = false
 
 -- what a fresh line buffer holds: R rows of C cells
 abbrev pub fresh_rows : List ℕ → List (List (Option ℕ))

@@ -1,5 +1,6 @@
-ghost use Rattle.std.specs.Prelude.{◌≡◌, ℕ, ◌+◌, ◌-◌, ◌*◌, ◌/◌, ◌^◌, ◌<◌, ◌≤◌, ◌↔◌, if◌then◌else◌, length, ◌++◌, map, string_bytes, IsSome, IfSome, IsTrue, IfOk, OnOk};
+ghost use Rattle.std.specs.Prelude.{◌≡◌, ◌≢◌, ℕ, ◌+◌, ◌-◌, ◌*◌, ◌/◌, ◌^◌, ◌<◌, ◌≤◌, ◌↔◌, if◌then◌else◌, Bool, List, [], ◌∷◌, length, ◌++◌, map, string_bytes, Some, IsSome, IfSome, IsTrue, IfOk, OnOk};
 ghost use Rattle.sp_words.specs.Decimal.{AreDigits, digits_number, decimal_value, digits_after_point, text_of, whole_part, fraction_digits};
+ghost use Rattle.sp_words.specs.NumberText.{IsNumberText, IsExactly, ReadsAs};
 ghost use Rattle.sp_words.specs.Laws.{IsInRange};
 ghost use Rattle.sp_words.specs.declared.types.Ty.{Ty};
 ghost use Rattle.sp_words.specs.WholeNumbers.{with_sign};
@@ -52,6 +53,9 @@ pub fn of_decimal(ty: Ty, negative: bool, whole: u128, digits: &[u8]) -> Option<
     ensures exists { IsSome result ↔ IsInRange ty (decimal_value ty negative whole digits.now) }
     ensures is_word { IfSome result (λ word. IsWord ty word) }
     ensures value { IfSome result (λ word. value_of ty word ≡ decimal_value ty negative whole digits.now) }
+
+    // a word that is printed as a text of these parts, whichever it is, is the result
+    ensures printed { (word : ℕ) → IsWord ty word → IsNumberText (text_of ty word) negative whole digits.now → result ≡ Some word }
 {
     let frac = ty.frac();
     let below = fraction(frac, negative, digits);
@@ -102,11 +106,13 @@ pub fn value_text(alloc: Global, ty: Ty, word: u64) -> Result<String, NoMemory>
     Ok(text)
 }
 
-/// The parts of the number that a word means have the word's value, so that `of_decimal` reads the word
-/// from them again. Each function of this kind does nothing: what it ensures is the law.
+/// The text of a word is a number text, is read in one way, and what is read is exactly the number that the
+/// word means, from which `of_decimal` makes the word. The function does nothing: what it ensures is the law.
 pub fn texts_read_back()
-    ensures few { (ty : Ty) (w : ℕ) → length (fraction_digits ty w) ≤ 64 }
-    ensures digits { (ty : Ty) (w : ℕ) → AreDigits (fraction_digits ty w) }
-    ensures value { (ty : Ty) (w : ℕ) → IsWord ty w → decimal_value ty (has_sign ty w) (whole_part ty w) (fraction_digits ty w) ≡ value_of ty w }
+    ensures one_reading { (bytes : List ℕ) (n m : Bool) (v w : ℕ) (ds es : List ℕ) → IsNumberText bytes n v ds → IsNumberText bytes m w es → (n ≡ m) × (v ≡ w) × (ds ≡ es) }
+    ensures printed { (ty : Ty) (word : ℕ) → IsWord ty word → IsNumberText (text_of ty word) (has_sign ty word) (whole_part ty word) (fraction_digits ty word) }
+    ensures exact { (ty : Ty) (word : ℕ) (negative : Bool) (whole : ℕ) (digits : List ℕ) → IsWord ty word → IsNumberText (text_of ty word) negative whole digits → IsExactly ty word negative whole digits }
+    ensures read { (ty : Ty) (word : ℕ) (negative : Bool) (whole : ℕ) (digits : List ℕ) → IsWord ty word → IsNumberText (text_of ty word) negative whole digits → ReadsAs ty word negative whole digits }
+    ensures no_last_zero { (ty : Ty) (word : ℕ) (digits : List ℕ) → fraction_digits ty word ≢ digits ++ 0 ∷ [] }
     ensures one_word { (ty : Ty) (v w : ℕ) → IsWord ty v → IsWord ty w → value_of ty v ≡ value_of ty w → v ≡ w }
 {}

@@ -25,8 +25,8 @@ pub use laws::{
 };
 pub use memory_kind::{ArgIn, ArgOut, Dram, Fifo, LineBuf, MemKind, Readable, Reg, Sram, Writable};
 pub use memory_laws::{
-    accesses_are_footprints, fresh_memories_fit, kinds_decide, states_are_what_is_held,
-    types_name_their_kinds,
+    accesses_are_footprints, fresh_memories_fit, kinds_decide, ports_keep_to_their_kinds,
+    states_are_what_is_held, types_name_their_kinds,
 };
 pub use memory_number::{MemId, ReadPort, WritePort};
 pub use operators::{add, and, cast, div, eq, lt, max, min, mul, not, or, rem, shl, shr, sub, xor};

@@ -1,10 +1,10 @@
 //! The kinds of memory as types, so that a port of a kind that cannot be read or written has no type.
 
-ghost use Rattle.std.specs.Prelude.{◌≡◌, ℕ, List, [], ◌∷◌, replicate, Option, None, refl};
+ghost use Rattle.std.specs.Prelude.{◌≡◌, ℕ, List, [], ◌∷◌, replicate, Option, None, IsTrue, refl};
 ghost use Rattle.sp_words.specs.declared.kind.Kind.{Kind};
 ghost use Rattle.sp_words.specs.declared.kind.Kind.TheVariants as kinds;
 ghost use Rattle.sp_words.specs.Interface.{word_count};
-ghost use Rattle.sp_words.specs.Memory.{Contents, cells, queue, rows, words, fresh_rows, fresh_of, least_rank, greatest_rank};
+ghost use Rattle.sp_words.specs.Memory.{Contents, cells, queue, rows, words, fresh_rows, fresh_of, least_rank, greatest_rank, is_readable, is_writable};
 
 use crate::kind::Kind;
 
@@ -33,10 +33,14 @@ pub trait MemKind {
 }
 
 /// A kind that has read ports.
-pub trait Readable: MemKind {}
+pub trait Readable: MemKind {
+    ghost readable: { IsTrue (is_readable Self.KIND) };
+}
 
 /// A kind that has write ports.
-pub trait Writable: MemKind {}
+pub trait Writable: MemKind {
+    ghost writable: { IsTrue (is_writable Self.KIND) };
+}
 
 /// A register: one word, which may have a start.
 #[derive(Clone, Copy, Debug, PartialEq, Eq, Hash)]
@@ -220,20 +224,38 @@ impl MemKind for ArgOut {
     ghost fresh_is = { λ dims start given. refl };
 }
 
-impl Readable for Reg {}
+impl Readable for Reg {
+    ghost readable = { refl };
+}
 
-impl Readable for Sram {}
+impl Readable for Sram {
+    ghost readable = { refl };
+}
 
-impl Readable for Fifo {}
+impl Readable for Fifo {
+    ghost readable = { refl };
+}
 
-impl Readable for LineBuf {}
+impl Readable for LineBuf {
+    ghost readable = { refl };
+}
 
-impl Readable for ArgIn {}
+impl Readable for ArgIn {
+    ghost readable = { refl };
+}
 
-impl Writable for Reg {}
+impl Writable for Reg {
+    ghost writable = { refl };
+}
 
-impl Writable for Sram {}
+impl Writable for Sram {
+    ghost writable = { refl };
+}
 
-impl Writable for Fifo {}
+impl Writable for Fifo {
+    ghost writable = { refl };
+}
 
-impl Writable for ArgOut {}
+impl Writable for ArgOut {
+    ghost writable = { refl };
+}

@@ -1,12 +1,14 @@
 //! Laws of what memories hold. Each function does nothing: what it ensures is the law.
 
-ghost use Rattle.std.specs.Prelude.{◌≡◌, ◌≢◌, ℕ, List, Option, Some};
+ghost use Rattle.std.specs.Prelude.{◌≡◌, ◌≢◌, ℕ, List, Option, Some, IsTrue};
 ghost use Rattle.sp_words.specs.declared.kind.Kind.{Kind};
 ghost use Rattle.sp_words.specs.declared.kind.Kind.TheVariants as kinds;
-ghost use Rattle.sp_words.specs.Memory.{Contents, State, Access, held, update, least_rank, greatest_rank, fresh_of};
+ghost use Rattle.sp_words.specs.Memory.{Contents, State, Access, held, update, least_rank, greatest_rank, is_readable, is_writable, fresh_of};
 ghost use Rattle.sp_words.specs.Footprints.{IsFootprint, IsContentsOf, IsDeclared};
 
-use crate::memory_kind::{ArgIn, ArgOut, Dram, Fifo, LineBuf, MemKind, Reg, Sram};
+use crate::memory_kind::{
+    ArgIn, ArgOut, Dram, Fifo, LineBuf, MemKind, Readable, Reg, Sram, Writable,
+};
 use crate::memory_number::MemId;
 
 /// An access, whatever it does to its memory and whatever it answers, changes and looks at only the
@@ -46,4 +48,16 @@ pub fn kinds_decide<K: MemKind>()
     ensures least_rank { K.MIN_RANK ≡ least_rank K.KIND }
     ensures greatest_rank { K.MAX_RANK ≡ greatest_rank K.KIND }
     ensures fresh { (dims : List ℕ) (start : Option ℕ) (given : List ℕ) → K.fresh dims start given ≡ fresh_of K.KIND dims start given }
+{}
+
+/// What has a read port is of a kind that may be read, and what has a write port of one that may be written.
+/// So no output has a read port, no argument and no line buffer a write port, and a DRAM neither.
+pub fn ports_keep_to_their_kinds<R: Readable, W: Writable>()
+    ensures read { IsTrue (is_readable R.KIND) }
+    ensures written { IsTrue (is_writable W.KIND) }
+    ensures no_output_read { R.KIND ≢ kinds.ArgOut }
+    ensures no_argument_written { W.KIND ≢ kinds.ArgIn }
+    ensures no_dram_read { R.KIND ≢ kinds.Dram }
+    ensures no_line_buffer_written { W.KIND ≢ kinds.LineBuf }
+    ensures no_dram_written { W.KIND ≢ kinds.Dram }
 {}

@@ -63,6 +63,7 @@ fn laws_of_memories_are_called_at_a_kind(rt: HostRuntime) {
     let memory = MemId::<Fifo>::new(4);
     accesses_are_footprints::<Fifo, u64>(memory);
     kinds_decide::<Fifo>();
+    ports_keep_to_their_kinds::<ArgIn, ArgOut>();
     types_name_their_kinds();
     fresh_memories_fit();
     states_are_what_is_held();
