@@ -147,7 +147,7 @@ AreApart-from_far b c d x y block banks is_x is_y far differ s same =
     ]
 
 -- how two numbers within the period are near
-near_cases : (b : Banking) (x y : ℕ) → ¬ (AreFar b x y) →
+pub near_cases : (b : Banking) (x y : ℕ) → ¬ (AreFar b x y) →
     ((y ≤ x) × (x < y + b.block)) ⊎ (((x ≤ y) × (y < x + b.block)) ⊎ ((y + b.banks * b.block < x + b.block) ⊎ (x + b.banks * b.block < y + b.block)))
 near_cases b x y not_far = elim (leb_tells (y + b.block) x) [
   | inl up_x ↦ elim (leb_tells (x + b.block) (y + b.banks * b.block)) [

@@ -7,5 +7,8 @@ pub mod Gcd
 pub mod Integers
 pub mod MemorySizes
 pub mod Order
+pub mod Pigeons
 pub mod PlaceFacts
 pub mod ResidueLemmas
+pub mod RowLemmas
+pub mod RowSeparates

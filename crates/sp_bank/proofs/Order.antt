@@ -1,6 +1,7 @@
 -- Weights as numbers: the lexicographic order is that of the numbers.
-use Rattle.std.proofs.Common.{◌≡◌, ℕ, zero, suc, ◌+◌, ◌-◌, ◌*◌, ◌/◌, ◌%◌, ◌^◌, ◌<◌, ◌≤◌, List, [], ◌∷◌, length, refl, ap, ◌∙◌, arith, inl, inr}
+use Rattle.std.proofs.Common.{◌≡◌, ℕ, zero, suc, ◌+◌, ◌-◌, ◌*◌, ◌/◌, ◌%◌, ◌^◌, ◌<◌, ◌≤◌, List, [], ◌∷◌, ◌++◌, length, length-append, get_or, add-one, sym, refl, ap, ◌∙◌, arith, inl, inr}
 use Rattle.std.specs.List.{All}
+use Rattle.std.proofs.lemmas.List.Elements.{All-append}
 use Rattle.std.proofs.lemmas.Nat.{div-mul-add, mod-mul-add, mul-add-lt, div-add-mod', mod_below, div_below}
 use native.Mathlib.Nat.{pow-zero, pow-suc, pow-succ', one-le-pow, pow-le-pow_left, pow-le-pow_right}
 use Rattle.sp_bank.specs.Search.{IsLexicographicallyLess, digits}
@@ -87,6 +88,47 @@ power_small b n h k =
 pub digits_step : (n b code : ℕ) → 0 < n → digits n b code ≡ (code / b ^ (n - 1)) ∷ digits (n - 1) b (code % b ^ (n - 1))
 digits_step zero b code h = absurd (omega arith)
 digits_step (suc n) b code h = ap (λ k. (code / b ^ k) ∷ digits k b (code % b ^ k)) (one_less n)
+  where
+    one_less : (m : ℕ) → m ≡ suc m - 1
+    one_less m = omega arith
+
+code_of-append : (b : ℕ) (xs : List ℕ) (x : ℕ) → code_of b (xs ++ x ∷ []) ≡ code_of b xs * b + x
+unfolding code_of
+code_of-append b [] x = first (b ^ length {A = ℕ} []) (pow-zero b)
+  where
+    first : (p : ℕ) → p ≡ 1 → x * p + 0 ≡ 0 * b + x
+    first p e = omega (arith, ap (λ z. x * z) e)
+code_of-append b (y ∷ xs) x =
+    let power : b ^ length (xs ++ x ∷ []) ≡ b ^ length xs * b = ap (λ n. b ^ n) (length-append xs (x ∷ []) ∙ add-one (length xs)) ∙ pow-suc b (length xs) in
+    let grown : y * b ^ length (xs ++ x ∷ []) ≡ y * (b ^ length xs * b) = ap (λ z. y * z) power in
+    omega (arith, grown, code_of-append b xs x)
+
+-- the number of a row's weights, and then the last weight
+pub digits_row : (n b row last : ℕ) → 0 < b → row < b ^ n → last < b → digits (n + 1) b (row * b + last) ≡ digits n b row ++ last ∷ []
+digits_row n b row last some low below =
+    let xs = digits n b row in
+    let size : length (xs ++ last ∷ []) ≡ n + 1 = length-append xs (last ∷ []) ∙ ap (λ z. z + 1) (length-digits n b row) in
+    let code : code_of b (xs ++ last ∷ []) ≡ row * b + last = code_of-append b xs last ∙ ap (λ z. z * b + last) (code_of-digits n b row some low) in
+    let all = All-append (λ x. x < b) xs (last ∷ []) (digits-below n b row some low) (λ k d h. one k d h) in
+    ap (λ z. digits z b (row * b + last)) (sym size) ∙ ap (λ z. digits (length (xs ++ last ∷ [])) b z) (sym code) ∙ digits-code_of b (xs ++ last ∷ []) all
+  where
+    one : (k d : ℕ) → k < 1 → get_or (last ∷ []) k d < b
+    one zero d h = below
+    one (suc k) d h = absurd (omega arith)
+
+-- the rows go on one after the other
+pub row_below : (rank b row last : ℕ) → 1 ≤ rank → row < b ^ (rank - 1) → last < b → row * b + last < b ^ rank
+row_below zero b row last h low below = absurd (omega arith)
+row_below (suc n) b row last h low below =
+    let same : b ^ (suc n - 1) ≡ b ^ n = ap (λ k. b ^ k) (one_less n) in
+    omega (arith, mul-add-lt row b last (b ^ n) (omega (arith, low, same)) below, pow-suc b n)
+  where
+    one_less : (m : ℕ) → suc m - 1 ≡ m
+    one_less m = omega arith
+
+pub power_rank : (rank b : ℕ) → 1 ≤ rank → b ^ rank ≡ b ^ (rank - 1) * b
+power_rank zero b h = absurd (omega arith)
+power_rank (suc n) b h = pow-suc b n ∙ ap (λ k. b ^ k * b) (one_less n)
   where
     one_less : (m : ℕ) → m ≡ suc m - 1
     one_less m = omega arith

@@ -36,3 +36,12 @@ pub record IsFirst (rank : ℕ) (groups : List (List Affine)) (s : Banking) : Ty
 abbrev pub digits : ℕ → ℕ → ℕ → List ℕ
 digits zero base number = []
 digits (suc n) base number = (number / base ^ n) ∷ digits n base (number % base ^ n)
+
+-- banks, blocks and weights alone: which accesses are apart does not hang on the hinge
+abbrev pub unhinged : ℕ → ℕ → List ℕ → Banking
+unhinged banks block alpha = record { banks = banks; block = block; alpha = alpha; hinge = 0 }
+
+-- no scheme of these sizes whose weights have this number serves
+abbrev pub HasNoneAt : ℕ → ℕ → ℕ → ℕ → List (List Affine) → Type 0
+HasNoneAt rank banks block code groups =
+    (t : Banking) → Serves rank groups t → t.banks ≡ banks → t.block ≡ block → t.alpha ≡ digits rank banks code → ⊥

@@ -1,5 +1,5 @@
 -- When the accesses of a group have different banks, whatever the counters and the symbol are: of an access the forms give constants c, and the forms without them give one number s to all accesses of a group, so that the place of the access is s + alpha·c.
-use Rattle.std.specs.Prelude.{◌≡◌, ◌≢◌, ℕ, ◌+◌, ◌*◌, ◌/◌, ◌^◌, ◌<◌, ◌≤◌, ◌⊎◌, ℤ, pos, ◌+ℤ◌, ◌*ℤ◌, List, [], ◌∷◌, length, take, drop, map}
+use Rattle.std.specs.Prelude.{◌≡◌, ◌≢◌, ℕ, ◌+◌, ◌*◌, ◌/◌, ◌^◌, ◌<◌, ◌≤◌, ◌⊎◌, ℤ, pos, ◌+ℤ◌, ◌*ℤ◌, List, [], ◌∷◌, length, take, drop, map, slice_index}
 use Rattle.std.specs.Int.{int_div_euclid, int_rem_euclid}
 use Rattle.std.specs.List.{range_with_len}
 use Rattle.sp_affine.specs.Affine.{Affine}
@@ -66,3 +66,12 @@ pub record IsFirstClash (b : Banking) (group : List Affine) (first second : ℕ)
 abbrev pub differences_of : Banking → List Affine → List ℤ
 differences_of b group =
     map (λ u. residue_of b (constants (access (length b.alpha) group u))) (range_with_len 0 (access_count (length b.alpha) group))
+
+-- accesses of the group, of which any two differ in a constant
+pub record AreDifferent (rank : ℕ) (group : List Affine) (us : List ℕ) : Type 0 where
+  pub inside : (i : ℕ) → i < length us → slice_index us i < access_count rank group
+  pub different : (i j : ℕ) → i < j → j < length us → constants (access rank group (slice_index us i)) ≢ constants (access rank group (slice_index us j))
+
+-- the access has the constants of one that is listed
+abbrev pub IsListed : ℕ → List Affine → List ℕ → ℕ → Type 0
+IsListed rank group us u = (i : ℕ) × (i < length us) × (constants (access rank group (slice_index us i)) ≡ constants (access rank group u))

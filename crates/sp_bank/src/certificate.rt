@@ -1,6 +1,7 @@
 //! A record of a scheme and a group that shows that the scheme separates the group.
-ghost use Rattle.std.specs.Prelude.{◌≡◌, ◌↔◌, ℕ, length, map, IsTrue, IfOk, OnOk};
+ghost use Rattle.std.specs.Prelude.{◌≡◌, ◌↔◌, ℕ, Some, length, map, IsTrue, IfOk, OnOk};
 ghost use Rattle.sp_bank.specs.Separation.{Separates, IsGroup, IsFirstClash, differences_of};
+ghost use Rattle.sp_bank.specs.Texts.{error_text};
 ghost use Rattle.sp_bank.specs.declared.certificate.CertError.TheVariants.{Memory};
 
 use crate::clash::{access_of, first_clash, separates};
@@ -31,6 +32,8 @@ pub enum CertError {
 }
 
 impl fmt::Display for CertError {
+    ghost output = { λ error. Some (error_text error) };
+
     fn fmt<W: fmt::Write>(&self, f: &mut fmt::Formatter<W>) -> fmt::Result {
         match self {
             CertError::Pair { first, second } => {

@@ -3,10 +3,12 @@
 
 mod certificate;
 mod clash;
+mod different;
 mod divisor;
 mod group;
 mod place;
 mod residue;
+mod row;
 mod scheme;
 mod searching;
 mod separation;

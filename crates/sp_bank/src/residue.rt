@@ -16,7 +16,8 @@ pub fn residue(s: &Scheme, access: &[Form]) -> u32
     weighted_residue(s.alpha.as_slice(), access, s.banks * s.block)
 }
 
-fn weighted_residue(alpha: &[u32], access: &[Form], period: u32) -> u32
+/// The weighted sum of an access's constants, modulo the period.
+pub fn weighted_residue(alpha: &[u32], access: &[Form], period: u32) -> u32
     requires rank { length access.now ≡ length alpha.now }
     requires few { length alpha.now ≤ 3 }
     requires weights { All (λ a. a < 32) alpha.now }
@@ -32,7 +33,8 @@ fn weighted_residue(alpha: &[u32], access: &[Form], period: u32) -> u32
     sum % period
 }
 
-fn remainder(constant: i64, period: u32) -> u32
+/// A constant modulo the period.
+pub fn remainder(constant: i64, period: u32) -> u32
     requires some { 0 < period }
     requires small { period ≤ 128 }
     ensures value { pos result ≡ int_rem_euclid constant (pos period) }

@@ -1,14 +1,15 @@
 //! The search for the first scheme that keeps all groups of a memory apart.
-ghost use Rattle.std.specs.Prelude.{◌≡◌, ◌↔◌, ◌≤◌, ◌<◌, ◌*◌, ◌^◌, ◌++◌, ℕ, length, map, slice_index, IsTrue, IfSome, IfNone};
+ghost use Rattle.std.specs.Prelude.{◌≡◌, ◌↔◌, ◌≤◌, ◌<◌, ◌+◌, ◌-◌, ◌*◌, ◌^◌, ◌++◌, ℕ, length, map, slice_index, IsTrue, IfSome, IfNone};
 ghost use Rattle.std.specs.List.{All};
 ghost use Rattle.std.specs.Int.{IsGcd};
 ghost use Rattle.smallvec.specs.SmallVec.{HasRoomFor};
-ghost use Rattle.sp_bank.specs.Banking.{Banking, IsAllowedSize};
+ghost use Rattle.sp_bank.specs.Banking.{Banking, InSpace, IsAllowedSize};
 ghost use Rattle.sp_bank.specs.Separation.{IsGroup};
-ghost use Rattle.sp_bank.specs.Search.{IsFirst, Serves, SeparatesAll, Precedes, digits};
+ghost use Rattle.sp_bank.specs.Search.{HasNoneAt, IsFirst, Serves, Precedes, digits};
 
-use crate::clash::separates;
+use crate::different::least_banks;
 use crate::divisor::gcd;
+use crate::row::separating_weights;
 use crate::scheme::Scheme;
 use smallvec::SmallVec;
 use sp_affine::Form;
@@ -28,7 +29,7 @@ pub fn search(alloc: Global, rank: u8, groups: &[Vec<Form>]) -> Option<Scheme>
     ensures first { IfSome result (IsFirst rank (map (λ g. g.items) groups.now)) }
     ensures none { IfNone result ((t : Banking) → ¬ (Serves rank (map (λ g. g.items) groups.now) t)) }
 {
-    for banks in 1..MOST_BANKS + 1 {
+    for banks in least_banks(alloc, rank, groups)..MOST_BANKS + 1 {
         if let Some(scheme) = first_of_banks(alloc, rank, banks, groups) {
             return Some(scheme);
         }
@@ -76,49 +77,68 @@ fn first_of_size(
     ensures none { IfNone result ((t : Banking) → Serves rank (map (λ g. g.items) groups.now) t →
         t.banks ≡ banks → t.block ≡ block → ⊥) }
 {
-    for code in 0..banks.pow(u32::from(rank)) {
-        if let Some(scheme) = scheme_at(alloc, rank, banks, block, code, groups) {
+    for row in 0..banks.pow(u32::from(rank - 1)) {
+        if let Some(scheme) = first_of_row(alloc, rank, banks, block, row, groups) {
             return Some(scheme);
         }
     }
     None
 }
 
-// The scheme of the weights with this number, if one separates all groups.
-fn scheme_at(
+// The first scheme whose weights before the last have this number.
+fn first_of_row(
     alloc: Global,
     rank: u8,
     banks: u32,
     block: u32,
-    code: u32,
+    row: u32,
     groups: &[Vec<Form>],
 ) -> Option<Scheme>
     requires size { IsAllowedSize banks block rank 0 }
-    requires inside { code < banks ^ rank }
+    requires inside { row < banks ^ (rank - 1) }
     requires groups { All (λ g. IsGroup rank g.items) groups.now }
     ensures serves { IfSome result (Serves rank (map (λ g. g.items) groups.now)) }
+    ensures size { IfSome result (λ s. (s.banks ≡ banks) × (s.block ≡ block)) }
+    ensures first { IfSome result (λ s. (last : ℕ) × (last < banks) × (s.alpha ≡ digits rank banks (row * banks + last)) ×
+        ((w : ℕ) → w < last → HasNoneAt rank banks block (row * banks + w) (map (λ g. g.items) groups.now))) }
+    ensures hinge { IfSome result (λ s. (r : ℕ) → r < s.hinge →
+        ¬ (IsGcd (slice_index s.alpha r) (banks * block) 1)) }
+    ensures none { IfNone result ((w : ℕ) → w < banks → HasNoneAt rank banks block (row * banks + w) (map (λ g. g.items) groups.now)) }
+{
+    let before = weights(alloc, rank - 1, banks, row);
+    let separating = separating_weights(alloc, before.as_slice(), banks, block, groups);
+    for last in 0..banks {
+        if separating[last as usize] {
+            if let Some(scheme) = scheme_at(alloc, rank, banks, block, row * banks + last) {
+                return Some(scheme);
+            }
+        }
+    }
+    None
+}
+
+// The scheme of the weights with this number, if one of them makes a hinge.
+fn scheme_at(alloc: Global, rank: u8, banks: u32, block: u32, code: u32) -> Option<Scheme>
+    requires size { IsAllowedSize banks block rank 0 }
+    requires inside { code < banks ^ rank }
+    ensures space { IfSome result InSpace }
     ensures size { IfSome result (λ s. (s.banks ≡ banks) × (s.block ≡ block)) }
     ensures weights { IfSome result (λ s. s.alpha ≡ digits rank banks code) }
     ensures hinge { IfSome result (λ s. (r : ℕ) → r < s.hinge →
         ¬ (IsGcd (slice_index s.alpha r) (banks * block) 1)) }
-    ensures none { IfNone result ((t : Banking) → Serves rank (map (λ g. g.items) groups.now) t →
+    ensures none { IfNone result ((t : Banking) → InSpace t →
         t.banks ≡ banks → t.block ≡ block → t.alpha ≡ digits rank banks code → ⊥) }
 {
     let alpha = weights(alloc, rank, banks, code);
     let Some(hinge) = first_hinge(alpha.as_slice(), banks * block) else {
         return None;
     };
-    let scheme = Scheme {
+    Some(Scheme {
         banks,
         block,
         alpha,
         hinge,
-    };
-    if separates_all(&scheme, groups) {
-        Some(scheme)
-    } else {
-        None
-    }
+    })
 }
 
 // The digits of a number to the base `banks`, the highest first.
@@ -163,16 +183,4 @@ fn first_hinge(alpha: &[u32], period: u32) -> Option<u8>
         }
     }
     None
-}
-
-fn separates_all(s: &Scheme, groups: &[Vec<Form>]) -> bool
-    requires { All (λ g. IsGroup (length s.now.alpha) g.items) groups.now }
-    ensures { IsTrue result ↔ SeparatesAll s.now (map (λ g. g.items) groups.now) }
-{
-    for group in groups {
-        if !separates(s, group.as_slice()) {
-            return false;
-        }
-    }
-    true
 }

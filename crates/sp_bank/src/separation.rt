@@ -17,7 +17,8 @@ pub fn apart(s: &Scheme, a: &[Form], b: &[Form]) -> bool
     have_same_constants(a, b) || are_far(s, residue(s, a), residue(s, b))
 }
 
-fn have_same_constants(a: &[Form], b: &[Form]) -> bool
+// Whether two accesses have equal constants, dimension by dimension.
+pub fn have_same_constants(a: &[Form], b: &[Form]) -> bool
     requires { length a.now ≡ length b.now }
     ensures { IsTrue result ↔ (constants a.now ≡ constants b.now) }
 {
