@@ -1,7 +1,7 @@
 -- The laws of parts.
 use Rattle.std.proofs.Common.{◌≡◌, ℕ, List, ◌∷◌, ◌++◌, Bool, true, nat_lt, if◌then◌else◌, refl, sym, ap, ◌∙◌, append_assoc, subst, eq-eqb}
 use Rattle.sp_netlist.specs.Cells.{PlainCell, in_cell, out_cell, done_cell, const_cell, op_cell, not_cell, shift_cell, cast_cell, mux_cell, reg_cell, bank_cell, read_tap, write_tap, dram_cell, load_unit, store_unit}
-use Rattle.sp_netlist.specs.Rules.{size_of_dims}
+use Rattle.sp_words.specs.Interface.{word_count}
 use Rattle.sp_netlist.specs.Signals.{Setting, Signals, bank_after, dram_after, RunsChannel, Obeys, IsRun}
 use Rattle.sp_netlist.specs.Parts.{stands_for_bank, stands_for_dram, SomeCell, IsPart, RunsPart}
 use Rattle.sp_netlist.proofs.Splits.{contains_split, any_contains}
@@ -41,7 +41,7 @@ obeys_alone g s front part rest p before (bank_cell bank width len) after e o =
 obeys_alone g s front part rest p before (dram_cell dram name ty dims) after e o =
     let apart = p.drams dram (some_cell (stands_for_dram dram) part before (dram_cell dram name ty dims) after e (eq-eqb dram dram refl)) in (
       o.0,
-      λ t addr. o.1 t addr ∙ ap (λ x. if nat_lt addr (size_of_dims dims) then x else 0)
+      λ t addr. o.1 t addr ∙ ap (λ x. if nat_lt addr (word_count dims) then x else 0)
           (subst (λ zs. dram_after zs (s.net t) dram addr (s.dram t dram addr) ≡ dram_after part (s.net t) dram addr (s.dram t dram addr)) (sym p.stands)
           (part_dram front part rest (s.net t) dram addr (s.dram t dram addr) apart.0 apart.1)),
     )

@@ -5,7 +5,8 @@ use Rattle.std.proofs.lemmas.Bool.{false≢true, cases_Bool, or_cases}
 use Rattle.std.proofs.lemmas.List.Elements.{All-contains}
 use Rattle.sp_words.specs.Words.{word_not, word_cast}
 use Rattle.sp_netlist.specs.Cells.{PlainCell, in_cell, const_cell, op_cell, not_cell, shift_cell, cast_cell, mux_cell, reg_cell, bank_cell, read_tap, write_tap, dram_cell, load_unit, store_unit}
-use Rattle.sp_netlist.specs.Rules.{size_of_dims, drives, reads, driven_nets, read_nets, bank_width, dram_width, is_computed}
+use Rattle.sp_words.specs.Interface.{word_count}
+use Rattle.sp_netlist.specs.Rules.{drives, reads, driven_nets, read_nets, bank_width, dram_width, is_computed}
 use Rattle.sp_netlist.specs.Signals.{Setting, Phase, idle, waiting, moving, Signals, op_word, shift_word, ready_word, asks, after_asking, next_phase, cell_asks, delay_of, bank_after, dram_after, given_words, Holds, RunsChannel, Obeys}
 use Rattle.sp_netlist.specs.Parts.{stands_for_bank, stands_for_dram, stands_for_channel, names_bank, names_dram, SomeCell, RunsPart, ReadsOnly, SameOutside, SamePart}
 use Rattle.sp_netlist.proofs.Splits.{Split, split_of, split_cons, contains_head, contains_tail, contains_flat, source, Source}
@@ -174,7 +175,7 @@ module _ (inputs : List ℕ) (part : List PlainCell) (only : ReadsOnly inputs pa
       let e = eqb-true n dram is in
       let old = ap (λ b. s.dram k b addr) e ∙ p.drams dram addr m ∙ ap (λ b. u.dram k b addr) (sym e) in
       subst (λ b. s.dram (suc k) b addr ≡ u.dram (suc k) b addr) e
-      (os.1 k addr ∙ ap (λ x. if nat_lt addr (size_of_dims dims) then x else 0) (dram_agrees part (s.net k) (u.net k) (agree k p) n addr part (λ x c. c) _ _ old) ∙ sym (ou.1 k addr))
+      (os.1 k addr ∙ ap (λ x. if nat_lt addr (word_count dims) then x else 0) (dram_agrees part (s.net k) (u.net k) (agree k p) n addr part (λ x c. c) _ _ old) ∙ sym (ou.1 k addr))
   dram_same t p before _ os ou dram addr l m is = absurd (false≢true is)
 
   drams_same : (t : ℕ) → Prior inputs part s u t → (dram addr : ℕ) → SomeCell (names_dram dram) part → s.dram t dram addr ≡ u.dram t dram addr

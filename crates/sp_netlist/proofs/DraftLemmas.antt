@@ -9,7 +9,8 @@ use Rattle.sp_netlist.specs.Cells.{PlainCell, in_cell, out_cell, done_cell, cons
 use Rattle.sp_netlist.specs.Rules.{IsRight, IsWidth, IsNetlist, IsRanked, Feeds, is_computed, is_bank, is_dram, drives, reads, driven_nets, read_nets}
 use Rattle.sp_netlist.specs.Draft.{Draft, IsDraft, CanAdd, IsComplete, IsReady, DrivesApart, Keeps, promised_width, driver_count, net_count}
 use Rattle.sp_netlist.proofs.Lists.{split_at, counted, slice_get_grown, Contains-here, Contains-later}
-use Rattle.sp_netlist.proofs.LookUps.{Declares-push, AllRight, AllRight-push, Names-all, drives-kept, reads-kept, driven_nets-push, read_nets-push, Names-right, bank_width-kept, dram_width-kept}
+use Rattle.sp_netlist.proofs.LookUps.{Declares-push, AllRight-push, Names-all, drives-kept, reads-kept, driven_nets-push, read_nets-push, Names-right, bank_width-kept, dram_width-kept}
+use Rattle.sp_netlist.specs.Tables.{AllRight}
 
 -- what is promised of a net stays when more are promised
 found_grown : {X Y : Type 0} (f : X → Y) (xs ys : List X) (i : ℕ) (y : Y) → option_map f (slice_get xs i) ≡ Some y → option_map f (slice_get (xs ++ ys) i) ≡ Some y
@@ -105,13 +106,13 @@ count_by-map p f (x ∷ xs) =
     one ∙ rw more (sym two)
 
 -- a net in the list is counted, and one that is counted is in the list
-counted_net : (nets : List (ℕ × ℕ)) (net : ℕ) → Contains (map (λ p. p.0) nets) net → 1 ≤ count_by (λ p. p.0 == net) nets
+pub counted_net : (nets : List (ℕ × ℕ)) (net : ℕ) → Contains (map (λ p. p.0) nets) net → 1 ≤ count_by (λ p. p.0 == net) nets
 counted_net nets net h =
     let one = counted (λ n. n == net) (map (λ p. p.0) nets) net h (eq-eqb net net refl) in
     let same = count_by-map (λ n. n == net) (λ (p : ℕ × ℕ). p.0) nets in
     omega (arith, one, same)
 
-net_counted : (nets : List (ℕ × ℕ)) (net : ℕ) → 1 ≤ count_by (λ p. p.0 == net) nets → (p : ℕ × ℕ) × Contains nets p × (p.0 ≡ net)
+pub net_counted : (nets : List (ℕ × ℕ)) (net : ℕ) → 1 ≤ count_by (λ p. p.0 == net) nets → (p : ℕ × ℕ) × Contains nets p × (p.0 ≡ net)
 net_counted [] net h = absurd (omega (arith, h))
 net_counted (p ∷ nets) net h =
     elim (cases_eq p.0 net) [

@@ -5,7 +5,8 @@ use Rattle.std.proofs.lemmas.Bool.{false≢true, cases_Bool, cases_order, cases_
 use Rattle.sp_netlist.specs.declared.cell.Port.{Port}
 use Rattle.sp_netlist.specs.declared.cell.Port.TheVariants.{Read, Write}
 use Rattle.sp_netlist.specs.Cells.{PlainCell, out_cell, done_cell, read_tap, write_tap, dram_cell}
-use Rattle.sp_netlist.specs.Rules.{is_bank, is_dram, size_of_dims, IsNetlist, IsRight, Leads, one_cell, more_cells}
+use Rattle.sp_words.specs.Interface.{word_count}
+use Rattle.sp_netlist.specs.Rules.{is_bank, is_dram, IsNetlist, IsRight, Leads, one_cell, more_cells}
 use Rattle.sp_netlist.specs.Signals.{Setting, Signals, IsRun}
 use Rattle.sp_netlist.specs.Cycle.{is_enabled_tap, Shares, SharesNone, IsConflict, is_over, out_words, dram_lists, Ending, done_in, conflict_in, not_yet, GoesOn, EndsAs}
 use Rattle.sp_netlist.specs.Laws.{HasOneEnding, EndingKept, NoLoop}
@@ -125,7 +126,7 @@ same_drams cells h d e same (dram_cell dram name ty dims ∷ xs) inside =
     let rest = same_drams cells h d e same xs (λ x c. inside x (contains_tail (dram_cell dram name ty dims) x xs c)) in
     let split = split_of cells (dram_cell dram name ty dims) (inside (dram_cell dram name ty dims) (contains_head (dram_cell dram name ty dims) xs)) in
     let right = h.right split.before (dram_cell dram name ty dims) split.after split.is in
-    let here = same_map (d dram) (e dram) (range_with_len 0 (size_of_dims dims)) (λ n. same dram n (below_drams cells split.before (dram_cell dram name ty dims) split.after dram split.is refl right.0)) in
+    let here = same_map (d dram) (e dram) (range_with_len 0 (word_count dims)) (λ n. same dram n (below_drams cells split.before (dram_cell dram name ty dims) split.after dram split.is refl right.0)) in
     cc
 same_drams cells h d e same (y ∷ xs) inside = same_drams cells h d e same xs (λ x c. inside x (contains_tail _ x xs c))
 

@@ -3,7 +3,8 @@ use Rattle.std.proofs.Common.{ℕ, zero, suc, ◌+◌, List, [], ◌∷◌, ◌+
 use Rattle.std.specs.List.{range_with_len, list_any, list_all}
 use Rattle.sp_words.specs.Words.{word_not, word_cast}
 use Rattle.sp_netlist.specs.Cells.{PlainCell, in_cell, const_cell, op_cell, not_cell, shift_cell, cast_cell, mux_cell, reg_cell, bank_cell, read_tap, dram_cell, load_unit, store_unit}
-use Rattle.sp_netlist.specs.Rules.{is_in, size_of_dims, driven_nets}
+use Rattle.sp_words.specs.Interface.{word_count}
+use Rattle.sp_netlist.specs.Rules.{is_in, driven_nets}
 use Rattle.sp_netlist.specs.Signals.{Setting, Phase, idle, Signals, op_word, shift_word, ready_word, next_phase, cell_asks, delay_of, bank_after, dram_after}
 use Rattle.sp_netlist.proofs.Collect.{collect}
 
@@ -80,7 +81,7 @@ next_bank g u before (bank_cell bank width len) = Some (map (λ addr. bank_after
 next_bank g u before cell = None
 
 abbrev pub next_dram : Setting → Signals → List PlainCell → PlainCell → Option (List ℕ)
-next_dram g u before (dram_cell dram name ty dims) = Some (map (λ addr. dram_after g.cells (u.net 0) dram addr (u.dram 0 dram addr)) (range_with_len 0 (size_of_dims dims)))
+next_dram g u before (dram_cell dram name ty dims) = Some (map (λ addr. dram_after g.cells (u.net 0) dram addr (u.dram 0 dram addr)) (range_with_len 0 (word_count dims)))
 next_dram g u before cell = None
 
 abbrev pub next_of_channel : Setting → Signals → List PlainCell → PlainCell → Option Phase

@@ -8,7 +8,8 @@ use Rattle.std.proofs.lemmas.List.FromFn.{get_or-map-range_with_len, length-map-
 use Rattle.std.proofs.lemmas.List.Sums.{AllPass-from_list_all}
 use Rattle.sp_words.specs.Words.{word_not, word_cast}
 use Rattle.sp_netlist.specs.Cells.{PlainCell, in_cell, const_cell, op_cell, not_cell, shift_cell, cast_cell, mux_cell, reg_cell, bank_cell, read_tap, dram_cell, load_unit, store_unit}
-use Rattle.sp_netlist.specs.Rules.{is_bank, is_dram, is_unit, size_of_dims, driven_nets, bank_width, dram_width, IsNetlist, IsRight}
+use Rattle.sp_words.specs.Interface.{word_count}
+use Rattle.sp_netlist.specs.Rules.{is_bank, is_dram, is_unit, driven_nets, bank_width, dram_width, IsNetlist, IsRight}
 use Rattle.sp_netlist.specs.Signals.{Setting, idle, Signals, op_word, shift_word, ready_word, next_phase, cell_asks, delay_of, bank_after, dram_after, given_words, RunsChannel, Obeys, IsRun}
 use Rattle.sp_netlist.proofs.Collect.{collect, collected, collect_all}
 use Rattle.sp_netlist.proofs.Splits.{Split, nth, same_count}
@@ -179,13 +180,13 @@ module _ (g : Setting) (h : IsNetlist g.cells) (s : Signals) (rs : IsRun g s) wh
         → (dram addr : ℕ) → count_by is_dram before ≡ dram → dram < count_by is_dram g.cells → s.dram (suc t) dram addr ≡ slice_index (slice_index_or (collect (next_dram g (plain k words)) [] g.cells) dram []) addr
     next_dram_right before (dram_cell n name ty dims) after e r o is dram addr place l =
         let u = plain k words in
-        let list = map (λ addr. dram_after g.cells (u.net 0) n addr (u.dram 0 n addr)) (range_with_len 0 (size_of_dims dims)) in
+        let list = map (λ addr. dram_after g.cells (u.net 0) n addr (u.dram 0 n addr)) (range_with_len 0 (word_count dims)) in
         let found = collected (next_dram g u) is_dram (dram_gives g u) [] before (dram_cell n name ty dims) after [] list refl in
         let here = subst (λ zs. get_or (collect (next_dram g u) [] zs) (count_by is_dram before) [] ≡ list) (sym e) found in
         subst (λ b. s.dram (suc t) b addr ≡ slice_index (slice_index_or (collect (next_dram g u) [] g.cells) dram []) addr) (r.0 ∙ place)
         (o.1 t addr
-        ∙ ap (λ x. if nat_lt addr (size_of_dims dims) then x else 0) (same_dram_after g.cells h (s.net t) (u.net 0) same.nets n addr g.cells (λ x c. c) (s.dram t n addr) (u.dram 0 n addr) (same.drams n addr (omega (arith, r.0))))
-        ∙ sym (tabulated (λ addr. dram_after g.cells (u.net 0) n addr (u.dram 0 n addr)) (size_of_dims dims) addr)
+        ∙ ap (λ x. if nat_lt addr (word_count dims) then x else 0) (same_dram_after g.cells h (s.net t) (u.net 0) same.nets n addr g.cells (λ x c. c) (s.dram t n addr) (u.dram 0 n addr) (same.drams n addr (omega (arith, r.0))))
+        ∙ sym (tabulated (λ addr. dram_after g.cells (u.net 0) n addr (u.dram 0 n addr)) (word_count dims) addr)
         ∙ ap (λ ws. slice_index ws addr) (sym (ap (λ b. get_or (collect (next_dram g u) [] g.cells) b []) (sym place) ∙ here)))
     next_dram_right before _ after e r o is dram addr place l = absurd (false≢true is)
 

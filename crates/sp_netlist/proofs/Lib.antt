@@ -21,3 +21,13 @@ pub mod Determined
 pub mod PartLaws
 pub mod SmallParts
 pub mod Serving
+pub mod CheckLemmas
+pub mod TableLemmas
+pub mod DriverTables
+pub mod NetFaults
+pub mod CellGraphs
+pub mod CellGraphSteps
+pub mod Accepting
+pub mod QuietRuns
+pub mod TextCells
+pub mod Orders

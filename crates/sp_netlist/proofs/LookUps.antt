@@ -8,15 +8,8 @@ use Rattle.sp_words.specs.Types.{width_of}
 use Rattle.sp_netlist.specs.Cells.{PlainCell, in_cell, out_cell, done_cell, const_cell, op_cell, not_cell, shift_cell, cast_cell, mux_cell, reg_cell, bank_cell, read_tap, write_tap, dram_cell, load_unit, store_unit}
 use Rattle.sp_netlist.specs.Rules.{IsRight, is_bank, is_dram, bank_width, dram_width, drives, reads, driven_nets, read_nets}
 use Rattle.sp_netlist.specs.Draft.{Declares}
+use Rattle.sp_netlist.specs.Tables.{AllRight, NamesStanding as Names}
 use Rattle.sp_netlist.proofs.Lists.{Contains-here, Contains-later, split_at, split_push, flat_map_same}
-
--- the bank or the DRAM that the cell names stands in the list
-abbrev pub Names : List PlainCell → PlainCell → Type 0
-Names cells (read_tap net bank enable addr) = bank < count_by is_bank cells
-Names cells (write_tap bank enable addr word) = bank < count_by is_bank cells
-Names cells (load_unit channel dram ready net request last addr) = dram < count_by is_dram cells
-Names cells (store_unit channel dram ready request last addr word) = dram < count_by is_dram cells
-Names cells cell = Unit {0}
 
 pub Names-right : (cells before : List PlainCell) (cell : PlainCell) → IsRight cells before cell → Names cells cell
 Names-right cells before (read_tap net bank enable addr) h = h
@@ -224,10 +217,6 @@ Declares-push cells c all h x within =
       | inl old ↦ Declares-kept cells c x h (all x old)
       | inr same ↦ subst (Declares (cells ++ c ∷ [])) same (Declares-new cells c all h)
     ]
-
--- each cell of the list stands rightly in it, after those before it
-pub record AllRight (cells : List PlainCell) : Type 0 where
-  pub each : (before : List PlainCell) (cell : PlainCell) (after : List PlainCell) → cells ≡ before ++ cell ∷ after → IsRight cells before cell
 
 pub Names-all : (cells : List PlainCell) → AllRight cells → (x : PlainCell) → Contains cells x → Names cells x
 Names-all cells all x h = let s = split_at cells x h in Names-right cells s.0 x (all.each s.0 x s.1 s.2)

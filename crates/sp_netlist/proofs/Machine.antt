@@ -2,7 +2,8 @@
 use Rattle.std.proofs.Common.{◌≡◌, ℕ, zero, suc, ◌+◌, ◌≤◌, List, [], ◌∷◌, ◌++◌, Bool, true, cond, ◌==◌, nat_lt, if◌then◌else◌, ap, ◌∙◌, count_by, slice_index, arith}
 use Rattle.std.specs.List.{list_any}
 use Rattle.sp_netlist.specs.Cells.{PlainCell, in_cell, out_cell, done_cell, const_cell, op_cell, not_cell, shift_cell, cast_cell, mux_cell, reg_cell, bank_cell, read_tap, write_tap, dram_cell, load_unit, store_unit}
-use Rattle.sp_netlist.specs.Rules.{is_in, size_of_dims, drives}
+use Rattle.sp_words.specs.Interface.{word_count}
+use Rattle.sp_netlist.specs.Rules.{is_in, drives}
 use Rattle.sp_netlist.specs.Signals.{Setting, Phase, idle, Signals, op_word, shift_word, ready_word, next_phase, cell_asks, delay_of, bank_after, dram_after, given_words}
 use Rattle.sp_words.specs.Words.{word_not, word_cast}
 use Rattle.sp_netlist.specs.Parts.{stands_for_bank, stands_for_dram, stands_for_channel}
@@ -25,7 +26,7 @@ abbrev pub behind : {X : Type 0} → X → Found X → Found X
 behind x nothing = nothing
 behind x (found before y) = found (x ∷ before) y
 
-pub look_up : {X : Type 0} → (X → Bool) → List X → Found X
+unfoldable pub look_up : {X : Type 0} → (X → Bool) → List X → Found X
 look_up p [] = nothing
 look_up p (x ∷ xs) = cond (p x) (found [] x) (behind x (look_up p xs))
 
@@ -92,7 +93,7 @@ next_bank cells w bank addr old (found before (bank_cell n width len)) = if nat_
 next_bank cells w bank addr old other = 0
 
 abbrev pub next_dram : List PlainCell → (ℕ → ℕ) → ℕ → ℕ → ℕ → Found PlainCell → ℕ
-next_dram cells w dram addr old (found before (dram_cell n name ty dims)) = if nat_lt addr (size_of_dims dims) then dram_after cells w dram addr old else 0
+next_dram cells w dram addr old (found before (dram_cell n name ty dims)) = if nat_lt addr (word_count dims) then dram_after cells w dram addr old else 0
 next_dram cells w dram addr old other = 0
 
 -- one cycle as signals

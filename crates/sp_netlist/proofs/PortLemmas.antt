@@ -4,7 +4,8 @@ use Rattle.std.proofs.lemmas.List.{take_more, map_push}
 use Rattle.std.proofs.lemmas.List.Elements.{filter_map-append}
 use Rattle.sp_netlist.specs.declared.cell.Cell.{Cell}
 use Rattle.sp_netlist.specs.Cells.{plain_cell, plain_cells}
-use Rattle.sp_netlist.specs.Ports.{PlainPort, PlainPorts, ports_of, in_port, out_port, dram_port}
+use Rattle.sp_words.specs.Ports.{PlainPort, PlainPorts}
+use Rattle.sp_netlist.specs.Ports.{ports_of, in_port, out_port, dram_port}
 
 same_ports : (a b : PlainPorts) → a.args ≡ b.args → a.outs ≡ b.outs → a.drams ≡ b.drams → a ≡ b
 same_ports a b args outs drams =

@@ -3,7 +3,8 @@ use Rattle.std.proofs.Common.{◌≡◌, ℕ, zero, suc, ◌<◌, List, [], ◌�
 use Rattle.std.proofs.lemmas.Bool.{false≢true}
 use Rattle.std.proofs.lemmas.List.Elements.{Contains-append_left}
 use Rattle.sp_netlist.specs.Cells.{PlainCell, in_cell, const_cell, op_cell, not_cell, shift_cell, cast_cell, mux_cell, reg_cell, bank_cell, read_tap, write_tap, dram_cell, load_unit, store_unit}
-use Rattle.sp_netlist.specs.Rules.{is_bank, is_dram, is_unit, size_of_dims, drives, reads, driven_nets, bank_width, dram_width, is_computed, IsNetlist, IsRight}
+use Rattle.sp_words.specs.Interface.{word_count}
+use Rattle.sp_netlist.specs.Rules.{is_bank, is_dram, is_unit, drives, reads, driven_nets, bank_width, dram_width, is_computed, IsNetlist, IsRight}
 use Rattle.sp_netlist.specs.Signals.{Setting, Signals, op_word, shift_word, ready_word, next_phase, cell_asks, delay_of, bank_after, dram_after, Holds, RunsChannel, Obeys, IsRun}
 use Rattle.sp_netlist.specs.Cycle.{SameRun}
 use Rattle.sp_words.specs.Words.{word_not, word_cast}
@@ -168,7 +169,7 @@ module _ (g : Setting) (h : IsNetlist g.cells) (s u : Signals) (rs : IsRun g s) 
       go zero q = os.0 addr ∙ sym (ou.0 addr)
       go (suc k) q =
           let old = q.drams n addr (omega (arith, r.0)) in
-          os.1 k addr ∙ ap (λ x. if nat_lt addr (size_of_dims dims) then x else 0) (same_dram_after g.cells h (s.net k) (u.net k) q.nets n addr g.cells (λ x c. c) _ _ old) ∙ sym (ou.1 k addr)
+          os.1 k addr ∙ ap (λ x. if nat_lt addr (word_count dims) then x else 0) (same_dram_after g.cells h (s.net k) (u.net k) q.nets n addr g.cells (λ x c. c) _ _ old) ∙ sym (ou.1 k addr)
   dram_same t p before _ r os ou dram addr l is place = absurd (false≢true is)
 
   drams_same : (t : ℕ) → Prior g.cells s u t → (dram addr : ℕ) → dram < count_by is_dram g.cells → s.dram t dram addr ≡ u.dram t dram addr

@@ -168,6 +168,9 @@ obeys g h before (store_unit channel dram ready request last addr word) after e 
     runs_channel g h before (store_unit channel dram ready request last addr word) after e channel ready request last (eq-eqb channel channel refl) (own_net ready)
     (λ kept w. refl) (λ kept w. refl)
 
-pub some_run : (g : Setting) → IsNetlist g.cells → (s : Signals) × IsRun g s
+pub machine_runs : (g : Setting) (h : IsNetlist g.cells) → IsRun g (machine g h.ranked.0)
 unfolding kept_at
-some_run g h = (machine g h.ranked.0, record { cells = obeys g h; asked_first = refl; asked_next = λ t. refl })
+machine_runs g h = record { cells = obeys g h; asked_first = refl; asked_next = λ t. refl }
+
+pub some_run : (g : Setting) → IsNetlist g.cells → (s : Signals) × IsRun g s
+some_run g h = (machine g h.ranked.0, machine_runs g h)

@@ -5,7 +5,8 @@ use Rattle.std.specs.List.{range_with_len, list_any}
 use Rattle.sp_netlist.specs.declared.cell.Port.{Port}
 use Rattle.sp_netlist.specs.declared.cell.Port.TheVariants.{Read, Write}
 use Rattle.sp_netlist.specs.Cells.{PlainCell, out_cell, done_cell, read_tap, write_tap, dram_cell}
-use Rattle.sp_netlist.specs.Rules.{is_bank, is_dram, is_unit, driven_nets, size_of_dims}
+use Rattle.sp_words.specs.Interface.{word_count}
+use Rattle.sp_netlist.specs.Rules.{is_bank, is_dram, is_unit, driven_nets}
 use Rattle.sp_netlist.specs.Signals.{Setting, Signals, IsRun}
 
 -- whether a cell is a tap on this port of this bank that is enabled, at the nets' words
@@ -45,7 +46,7 @@ out_words (cell ∷ cells) words = out_words cells words
 -- the words of the DRAMs in order
 abbrev pub dram_lists : List PlainCell → (ℕ → ℕ → ℕ) → List (List ℕ)
 dram_lists [] drams = []
-dram_lists (dram_cell dram name ty dims ∷ cells) drams = map (drams dram) (range_with_len 0 (size_of_dims dims)) ∷ dram_lists cells drams
+dram_lists (dram_cell dram name ty dims ∷ cells) drams = map (drams dram) (range_with_len 0 (word_count dims)) ∷ dram_lists cells drams
 dram_lists (cell ∷ cells) drams = dram_lists cells drams
 
 -- how a run ends: done in a cycle, with the words of the outs and of the DRAMs; at a conflict in a cycle; or

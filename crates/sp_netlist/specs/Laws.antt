@@ -1,8 +1,11 @@
 -- Laws of netlists, each the contract of a function with no body.
-use Rattle.std.specs.Prelude.{◌≡◌, ℕ, ◌≤◌, List}
+use Rattle.std.specs.Prelude.{◌≡◌, ℕ, ◌≤◌, ◌⊎◌, List}
 use Rattle.sp_netlist.specs.declared.cell.Port.{Port}
+use Rattle.sp_netlist.specs.declared.error.NetError.{NetError}
+use Rattle.sp_netlist.specs.declared.error.NetError.TheVariants.{Memory}
 use Rattle.sp_netlist.specs.Cells.{PlainCell}
 use Rattle.sp_netlist.specs.Rules.{IsNetlist, Leads}
+use Rattle.sp_netlist.specs.Refusals.{IsWithinLimits, Refuses}
 use Rattle.sp_netlist.specs.Signals.{Setting, Signals, IsRun}
 use Rattle.sp_netlist.specs.Cycle.{OneRun, Ending, done_in, conflict_in, EndsAs, Ends}
 
@@ -28,3 +31,8 @@ pub record EndingKept : Type 0 where
 -- no chain of cells that compute leads from a net back to it
 abbrev pub NoLoop : Type 0
 NoLoop = (cells : List PlainCell) → IsNetlist cells → (net : ℕ) → Leads cells net net → ⊥
+
+-- Want of memory apart, a netlist within the limits has no refusal, and no list of cells has two.
+pub record RefusalsExact : Type 0 where
+  pub of_no_netlist : (cells : List PlainCell) → IsNetlist cells → IsWithinLimits cells → (error : NetError) → Refuses cells error → error ≡ Memory
+  pub one_refusal : (cells : List PlainCell) (a b : NetError) → Refuses cells a → Refuses cells b → (a ≡ Memory) ⊎ ((b ≡ Memory) ⊎ (a ≡ b))

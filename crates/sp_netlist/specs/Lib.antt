@@ -9,3 +9,8 @@ pub mod Examples
 pub mod Parts
 pub mod PartExamples
 pub mod Channels
+pub mod Refusals
+pub mod Tables
+pub mod CellGraph
+pub mod Quiet
+pub mod Order

@@ -1,5 +1,5 @@
 -- When a list of cells is a netlist.
-use Rattle.std.specs.Prelude.{◌≡◌, ℕ, ◌^◌, ◌<◌, ◌≤◌, ◌*◌, List, [], ◌∷◌, ◌++◌, Bool, true, false, ◌&&◌, ◌||◌, ◌==◌, nat_le, IsTrue, if◌then◌else◌, length, map, flat_map, filter_map, count_by, All, Contains, Option, Some, None}
+use Rattle.std.specs.Prelude.{◌≡◌, ℕ, ◌^◌, ◌<◌, ◌≤◌, List, [], ◌∷◌, ◌++◌, Bool, true, false, ◌&&◌, ◌||◌, ◌==◌, nat_le, IsTrue, if◌then◌else◌, length, map, flat_map, filter_map, count_by, All, Contains, Option, Some, None}
 use Rattle.std.specs.List.{list_all}
 use Rattle.sp_words.specs.declared.types.Ty.{Ty}
 use Rattle.sp_words.specs.Types.{width_of}
@@ -53,11 +53,6 @@ is_name_byte c = is_letter c || ((nat_le 48 c && nat_le c 57) || (c == 95))
 abbrev pub is_name : List ℕ → Bool
 is_name [] = false
 is_name (c ∷ rest) = is_letter c && list_all is_name_byte rest
-
--- how many words an array of these dimensions has
-abbrev pub size_of_dims : List ℕ → ℕ
-size_of_dims [] = 1
-size_of_dims (d ∷ dims) = d * size_of_dims dims
 
 abbrev pub IsWidth : ℕ → Type 0
 IsWidth width = (1 ≤ width) × (width ≤ 64)

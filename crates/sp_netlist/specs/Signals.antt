@@ -8,7 +8,8 @@ use Rattle.sp_netlist.specs.declared.cell.CellOp.TheVariants.{Add, Sub, Mul, Div
 use Rattle.sp_netlist.specs.declared.cell.CellShift.{CellShift}
 use Rattle.sp_netlist.specs.declared.cell.CellShift.TheVariants.{Shl, Shr}
 use Rattle.sp_netlist.specs.Cells.{PlainCell, in_cell, out_cell, done_cell, const_cell, op_cell, not_cell, shift_cell, cast_cell, mux_cell, reg_cell, bank_cell, read_tap, write_tap, dram_cell, load_unit, store_unit}
-use Rattle.sp_netlist.specs.Rules.{is_in, size_of_dims}
+use Rattle.sp_words.specs.Interface.{word_count}
+use Rattle.sp_netlist.specs.Rules.{is_in}
 
 -- the cells, and what they are given: a word for each argument in order, the words of each DRAM in row-major
 -- order, and the delays of the channels
@@ -137,7 +138,7 @@ Obeys g s before (read_tap net bank enable addr) = Holds (λ t. s.net t net) 0 (
 Obeys g s before (write_tap bank enable addr word) = Unit {0}
 Obeys g s before (dram_cell dram name ty dims) =
     ((addr : ℕ) → s.dram 0 dram addr ≡ slice_index (given_words g dram) addr)
-    × ((t addr : ℕ) → s.dram (suc t) dram addr ≡ (if nat_lt addr (size_of_dims dims) then dram_after g.cells (s.net t) dram addr (s.dram t dram addr) else 0))
+    × ((t addr : ℕ) → s.dram (suc t) dram addr ≡ (if nat_lt addr (word_count dims) then dram_after g.cells (s.net t) dram addr (s.dram t dram addr) else 0))
 Obeys g s before (load_unit channel dram ready net request last addr) =
     RunsChannel g s before channel ready request last
     × Holds (λ t. s.net t net) 0 (λ t. s.net t ready) (λ t. s.dram t dram (s.net t addr))

@@ -1,10 +1,11 @@
 //! Laws of netlists. Each is the contract of a function that does nothing, so that what stands on it
 //! can cite it.
 
-ghost use Rattle.sp_netlist.specs.Laws.{HasOneRun, HasOneEnding, EndingKept, NoLoop};
+ghost use Rattle.sp_netlist.specs.Laws.{HasOneRun, HasOneEnding, EndingKept, NoLoop, RefusalsExact};
 ghost use Rattle.sp_netlist.specs.PartExamples.{PartExamples};
 ghost use Rattle.sp_netlist.specs.Channels.{ChannelServes};
 ghost use Rattle.sp_netlist.specs.Parts.{Locality};
+ghost use Rattle.sp_netlist.specs.Quiet.{HasQuietRun};
 ghost use Rattle.sp_netlist.specs.Examples.{ExampleEndings};
 
 /// Every netlist has exactly one run for each list of arguments, contents of its DRAMs and list of
@@ -14,6 +15,12 @@ ghost use Rattle.sp_netlist.specs.Examples.{ExampleEndings};
 /// the equations is the run.
 pub fn one_run()
     ensures { HasOneRun }
+{}
+
+/// Every netlist has a run in which each net that no cell drives, each bank, DRAM and channel that no cell
+/// declares is 0 or idle. So what its cells drive and keep is all that there is of that run.
+pub fn quiet_run()
+    ensures { HasQuietRun }
 {}
 
 /// Within the cycles 0 to any last one every netlist ends in exactly one way: done in a cycle with
@@ -31,6 +38,12 @@ pub fn ending_kept()
 /// In a netlist no chain of `op`, `not`, `shift`, `cast` and `mux` cells leads from a net back to it.
 pub fn no_loop()
     ensures { NoLoop }
+{}
+
+/// A netlist within the limits has no refusal, and no list of cells has two: so where a list is refused it is no netlist
+/// within the limits, and the refusal is the only one that it has. Want of memory apart.
+pub fn refusals_exact()
+    ensures { RefusalsExact }
 {}
 
 /// How three small netlists end, worked out by hand: a sum that is done in cycle 1, two reads of one

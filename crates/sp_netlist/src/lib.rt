@@ -4,18 +4,30 @@
 
 mod builder;
 mod cell;
+mod check;
+#[cfg(test)]
+mod check_tests;
+mod error;
 mod laws;
+mod loops;
 mod netlist;
+mod nets;
+mod order;
 mod parts;
+mod tables;
 #[cfg(test)]
 mod tests;
+#[cfg(test)]
+mod text_cells;
 
 pub use builder::Builder;
 pub use cell::{Cell, CellOp, CellShift, NetId, Port};
+pub use error::NetError;
 pub use laws::{
     channel_serves, ending_kept, example_endings, locality, no_loop, one_ending, one_run,
-    part_examples,
+    part_examples, quiet_run, refusals_exact,
 };
 pub use netlist::Netlist;
+pub use order::evaluation_order;
 pub use parts::{Child, Ends, Wire};
 pub use std::alloc::AllocError as NoMemory;

@@ -2,7 +2,8 @@
 ghost use Rattle.std.specs.Prelude.{◌≡◌, ◌++◌, ◌∷◌, [], filter_map, string_bytes, IfOk, OnOk};
 ghost use Rattle.sp_netlist.specs.Cells.{plain_cell, plain_cells};
 ghost use Rattle.sp_netlist.specs.Rules.{IsNetlist};
-ghost use Rattle.sp_netlist.specs.Ports.{plain_port, plain_ports, ports_of, in_port, out_port, dram_port};
+ghost use Rattle.sp_words.specs.Ports.{plain_port, plain_ports};
+ghost use Rattle.sp_netlist.specs.Ports.{ports_of, in_port, out_port, dram_port};
 
 use crate::NoMemory;
 use crate::cell::Cell;
@@ -21,7 +22,8 @@ impl Model for Netlist {
     ghost use Rattle.std.specs.Prelude.{◌≡◌, List};
     ghost use Rattle.sp_netlist.specs.Cells.{PlainCell, plain_cells};
     ghost use Rattle.sp_netlist.specs.Rules.{IsNetlist};
-    ghost use Rattle.sp_netlist.specs.Ports.{plain_ports, ports_of};
+    ghost use Rattle.sp_words.specs.Ports.{plain_ports};
+    ghost use Rattle.sp_netlist.specs.Ports.{ports_of};
 
     ghost Value = { List PlainCell };
 

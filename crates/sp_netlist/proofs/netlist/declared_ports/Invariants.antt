@@ -1,6 +1,7 @@
 use Rattle.std.proofs.Common.{◌≡◌, take}
 use Rattle.sp_netlist.specs.Cells.{plain_cells}
-use Rattle.sp_netlist.specs.Ports.{plain_ports, ports_of}
+use Rattle.sp_words.specs.Ports.{plain_ports}
+use Rattle.sp_netlist.specs.Ports.{ports_of}
 use Rattle.sp_netlist.proofs.netlist.declared_ports.Given as goal
 
 abbrev pub invariant-loop-cell : goal.invariant-loop-cell

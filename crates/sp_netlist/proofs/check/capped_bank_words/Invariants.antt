@@ -1,0 +1,7 @@
+use Rattle.std.proofs.Common.{◌≡◌, ◌-◌, ◌^◌, min, take}
+use Rattle.sp_netlist.specs.Cells.{plain_cells}
+use Rattle.sp_netlist.specs.Refusals.{bank_words}
+use Rattle.sp_netlist.proofs.check.capped_bank_words.Given as goal
+
+abbrev pub invariant-loop-cell : goal.invariant-loop-cell
+invariant-loop-cell l = l.words ≡ min (bank_words (plain_cells (take l.cell-index l.cells))) (2 ^ 64 - 1)

@@ -1,0 +1,10 @@
+use Rattle.std.proofs.Common.{◌∙◌, ap, sym, ◌++◌, [], ◌∷◌, filter_map}
+use Rattle.sp_netlist.specs.Cells.{plain_cell}
+use Rattle.sp_netlist.specs.Tables.{dram_width_in}
+use Rattle.sp_netlist.proofs.TableLemmas.{filter_more}
+use Rattle.sp_netlist.proofs.tables.dram_widths.Goals as goal
+
+pub loop-cell-preserved : goal.loop-cell-preserved
+loop-cell-preserved c =
+    c.in_ok-push_dram_width.ensures ∙ ap (λ r. r ++ filter_map dram_width_in (plain_cell c.cell-item.result ∷ [])) c.loop-cell.invariant
+    ∙ sym (filter_more dram_width_in c.args.cells.now c.loop-cell.cell-index c.cell-item.result c.loop-cell-test.true c.cell-item.is)
