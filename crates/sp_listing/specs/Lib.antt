@@ -1,1 +1,7 @@
+pub mod Laws
+pub mod Lines
+pub mod Readers
+pub mod Reading
+pub mod Refusal
+pub mod Standing
 pub mod Text

@@ -32,33 +32,38 @@ abbrev pub shift_text : CellShift → List ℕ
 shift_text Shl = codes "shl"
 shift_text Shr = codes "shr"
 
+-- the words of a cell's line: its kind, then its parts, numbers in decimal
+abbrev pub cell_words : PlainCell → List (List ℕ)
+cell_words (in_cell name net ty) = codes "in" ∷ name ∷ decimal net ∷ type_text ty ∷ []
+cell_words (out_cell name net ty) = codes "out" ∷ name ∷ decimal net ∷ type_text ty ∷ []
+cell_words (done_cell net) = codes "done" ∷ decimal net ∷ []
+cell_words (const_cell net width word) = codes "const" ∷ decimal net ∷ decimal width ∷ decimal word ∷ []
+cell_words (op_cell net ty op a b) = codes "op" ∷ decimal net ∷ type_text ty ∷ op_text op ∷ decimal a ∷ decimal b ∷ []
+cell_words (not_cell net ty a) = codes "not" ∷ decimal net ∷ type_text ty ∷ decimal a ∷ []
+cell_words (shift_cell net ty side a places) = codes "shift" ∷ decimal net ∷ type_text ty ∷ shift_text side ∷ decimal a ∷ decimal places ∷ []
+cell_words (cast_cell net from to a) = codes "cast" ∷ decimal net ∷ type_text from ∷ type_text to ∷ decimal a ∷ []
+cell_words (mux_cell net width choice a b) = codes "mux" ∷ map decimal (net ∷ width ∷ choice ∷ a ∷ b ∷ [])
+cell_words (reg_cell net width first next enable) = codes "reg" ∷ map decimal (net ∷ width ∷ first ∷ next ∷ enable ∷ [])
+cell_words (bank_cell bank width len) = codes "bank" ∷ map decimal (bank ∷ width ∷ len ∷ [])
+cell_words (read_tap net bank enable addr) = codes "read" ∷ map decimal (net ∷ bank ∷ enable ∷ addr ∷ [])
+cell_words (write_tap bank enable addr word) = codes "write" ∷ map decimal (bank ∷ enable ∷ addr ∷ word ∷ [])
+cell_words (dram_cell dram name ty dims) = codes "dram" ∷ decimal dram ∷ name ∷ type_text ty ∷ map decimal dims
+cell_words (load_unit channel dram ready net request last addr) =
+    codes "load" ∷ map decimal (channel ∷ dram ∷ ready ∷ net ∷ request ∷ last ∷ addr ∷ [])
+cell_words (store_unit channel dram ready request last addr word) =
+    codes "store" ∷ map decimal (channel ∷ dram ∷ ready ∷ request ∷ last ∷ addr ∷ word ∷ [])
+
 -- each word with a blank before it
 abbrev pub spaced : List (List ℕ) → List ℕ
 spaced = flat_map (λ word. 32 ∷ word)
 
-abbrev pub spaced_numbers : List ℕ → List ℕ
-spaced_numbers = flat_map (λ n. 32 ∷ decimal n)
+-- the line of a cell: its words, separated by one blank
+abbrev pub joined : List (List ℕ) → List ℕ
+joined [] = []
+joined (word ∷ words) = word ++ spaced words
 
--- the line of a cell: its parts separated by one blank, numbers in decimal
 abbrev pub cell_text : PlainCell → List ℕ
-cell_text (in_cell name net ty) = codes "in" ++ spaced (name ∷ decimal net ∷ type_text ty ∷ [])
-cell_text (out_cell name net ty) = codes "out" ++ spaced (name ∷ decimal net ∷ type_text ty ∷ [])
-cell_text (done_cell net) = codes "done" ++ spaced (decimal net ∷ [])
-cell_text (const_cell net width word) = codes "const" ++ spaced (decimal net ∷ decimal width ∷ decimal word ∷ [])
-cell_text (op_cell net ty op a b) = codes "op" ++ spaced (decimal net ∷ type_text ty ∷ op_text op ∷ decimal a ∷ decimal b ∷ [])
-cell_text (not_cell net ty a) = codes "not" ++ spaced (decimal net ∷ type_text ty ∷ decimal a ∷ [])
-cell_text (shift_cell net ty side a places) = codes "shift" ++ spaced (decimal net ∷ type_text ty ∷ shift_text side ∷ decimal a ∷ decimal places ∷ [])
-cell_text (cast_cell net from to a) = codes "cast" ++ spaced (decimal net ∷ type_text from ∷ type_text to ∷ decimal a ∷ [])
-cell_text (mux_cell net width choice a b) = codes "mux" ++ spaced (decimal net ∷ decimal width ∷ decimal choice ∷ decimal a ∷ decimal b ∷ [])
-cell_text (reg_cell net width first next enable) = codes "reg" ++ spaced (decimal net ∷ decimal width ∷ decimal first ∷ decimal next ∷ decimal enable ∷ [])
-cell_text (bank_cell bank width len) = codes "bank" ++ spaced (decimal bank ∷ decimal width ∷ decimal len ∷ [])
-cell_text (read_tap net bank enable addr) = codes "read" ++ spaced (decimal net ∷ decimal bank ∷ decimal enable ∷ decimal addr ∷ [])
-cell_text (write_tap bank enable addr word) = codes "write" ++ spaced (decimal bank ∷ decimal enable ∷ decimal addr ∷ decimal word ∷ [])
-cell_text (dram_cell dram name ty dims) = codes "dram" ++ (spaced (decimal dram ∷ name ∷ type_text ty ∷ []) ++ spaced_numbers dims)
-cell_text (load_unit channel dram ready net request last addr) =
-    codes "load" ++ spaced (decimal channel ∷ decimal dram ∷ decimal ready ∷ decimal net ∷ decimal request ∷ decimal last ∷ decimal addr ∷ [])
-cell_text (store_unit channel dram ready request last addr word) =
-    codes "store" ++ spaced (decimal channel ∷ decimal dram ∷ decimal ready ∷ decimal request ∷ decimal last ∷ decimal addr ∷ decimal word ∷ [])
+cell_text cell = joined (cell_words cell)
 
 -- each line ends with one line end
 abbrev pub cell_line : PlainCell → List ℕ

@@ -1,10 +1,25 @@
 //! Listings: the text of a netlist, one line a cell.
 #![tactic(auto)]
 
+mod cells;
+mod counts;
+mod declared_lines;
+mod error;
+mod kind;
+mod laws;
 mod lines;
+mod names;
+mod parts;
+#[cfg(test)]
+mod read_tests;
+mod reader;
+mod reading;
 #[cfg(test)]
 mod tests;
 mod words;
 
+pub use error::ListError;
+pub use laws::{listing_breaks_nowhere, listing_has_one_reading, text_breaks_at_one_line};
 pub use lines::write;
+pub use reader::read;
 pub use std::alloc::AllocError as NoMemory;

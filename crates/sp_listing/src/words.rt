@@ -1,6 +1,6 @@
 //! The words of a listing's line that aren't names or numbers.
-ghost use Rattle.std.specs.Prelude.{Some};
-ghost use Rattle.sp_listing.specs.Text.{type_text, op_text, shift_text, spaced_numbers};
+ghost use Rattle.std.specs.Prelude.{Some, map, decimal};
+ghost use Rattle.sp_listing.specs.Text.{type_text, op_text, shift_text, spaced};
 
 use sp_netlist::{CellOp, CellShift};
 use sp_words::Ty;
@@ -72,11 +72,26 @@ impl fmt::Display for ShiftWord {
 pub struct Dimensions<'a>(pub &'a [u32]);
 
 impl fmt::Display for Dimensions<'_> {
-    ghost output = { λ dims. Some (spaced_numbers dims.0.now) };
+    ghost output = { λ dims. Some (spaced (map decimal dims.0.now)) };
 
     fn fmt<W: fmt::Write>(&self, f: &mut fmt::Formatter<W>) -> fmt::Result {
         for dim in self.0 {
             write!(f, " {dim}")?;
+        }
+        Ok(())
+    }
+}
+
+/// Numbers, each with a blank before it.
+#[derive(Clone, Copy)]
+pub struct Numbers<'a>(pub &'a [u64]);
+
+impl fmt::Display for Numbers<'_> {
+    ghost output = { λ numbers. Some (spaced (map decimal numbers.0.now)) };
+
+    fn fmt<W: fmt::Write>(&self, f: &mut fmt::Formatter<W>) -> fmt::Result {
+        for number in self.0 {
+            write!(f, " {number}")?;
         }
         Ok(())
     }

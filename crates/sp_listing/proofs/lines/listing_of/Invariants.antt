@@ -1,4 +1,4 @@
-use Rattle.std.proofs.Common.{◌≡◌, ◌++◌, take, string_bytes}
+use Rattle.std.proofs.Common.{◌≡◌, take, string_bytes}
 use Rattle.sp_netlist.specs.Cells.{plain_cells}
 use Rattle.sp_listing.specs.Text.{listing_text}
 use Rattle.sp_listing.proofs.lines.listing_of.Given as goal

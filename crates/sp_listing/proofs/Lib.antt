@@ -1,0 +1,15 @@
+pub mod BreakLemmas
+pub mod DeclaredLemmas
+pub mod GraphicWords
+pub mod KindLemmas
+pub mod LawLemmas
+pub mod LineLemmas
+pub mod ListingLemmas
+pub mod NameLemmas
+pub mod NumberLemmas
+pub mod ReadingLemmas
+pub mod RefusalLemmas
+pub mod SameCell
+pub mod TextLemmas
+pub mod TypeLemmas
+pub mod WordLemmas

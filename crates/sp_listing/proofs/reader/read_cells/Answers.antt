@@ -1,0 +1,20 @@
+use Rattle.std.proofs.Common.{◌≡◌, length, ◌∙◌, ap, arith}
+use Rattle.sp_listing.specs.Readers.{texts}
+use Rattle.sp_listing.specs.Reading.{pieces}
+use Rattle.sp_listing.proofs.ListingLemmas.{text_read, lines_some, lines_few, lines_count}
+use Rattle.sp_listing.proofs.reader.read_cells.Goals as goal
+
+pub read_lines-requires-clause-some : goal.read_lines-requires-clause-some
+read_lines-requires-clause-some c =
+    let count : length c.deref.result.now ≡ length (pieces c.args.bytes.now) = lines_count c.args.bytes.now c.deref.result.now (ap texts c.deref.ensures.value ∙ c.in_ok-lines.ensures) in
+    let some = lines_some c.args.bytes.now in
+    omega (arith, count, some)
+
+pub read_lines-requires-clause-few : goal.read_lines-requires-clause-few
+read_lines-requires-clause-few c =
+    let count : length c.deref.result.now ≡ length (pieces c.args.bytes.now) = lines_count c.args.bytes.now c.deref.result.now (ap texts c.deref.ensures.value ∙ c.in_ok-lines.ensures) in
+    let few = lines_few c.args.bytes.now c.requires in
+    omega (arith, count, few)
+
+pub returns : goal.returns
+returns c = text_read c.args.bytes.now (texts c.deref.result.now) c.read_lines.result (ap texts c.deref.ensures.value ∙ c.in_ok-lines.ensures) c.read_lines.ensures

@@ -1,0 +1,68 @@
+//! Reading a listing.
+ghost use Rattle.std.specs.Prelude.{◌≡◌, ◌≤◌, ◌<◌, ◌^◌, ◌↔◌, length, IsTrue, IfOk, IfErr, MatchResult};
+ghost use Rattle.sp_netlist.specs.Cells.{plain_cells};
+ghost use Rattle.sp_netlist.specs.Refusals.{IsWithinLimits};
+ghost use Rattle.sp_listing.specs.Readers.{texts};
+ghost use Rattle.sp_listing.specs.Reading.{pieces, heading, IsListing};
+ghost use Rattle.sp_listing.specs.Refusal.{RefusesText, AreLinesOf, RefusesLines};
+
+use crate::NoMemory;
+use crate::declared_lines::DeclaredLines;
+use crate::error::ListError;
+use crate::reading::read_body;
+use sp_netlist::{Cell, Netlist};
+use std::alloc::Global;
+
+fn pieces(alloc: Global, bytes: &[u8]) -> Result<Vec<&[u8]>, NoMemory>
+    ensures { IfOk result (λ lines. texts lines.items ≡ pieces bytes.now) }
+{
+    bytes.split(|byte| *byte == b'\n').collect(alloc)
+}
+
+fn is_heading(line: &[u8]) -> bool
+    ensures { IsTrue result ↔ (line.now ≡ heading) }
+{
+    line == b"netlist 1".as_slice()
+}
+
+// The cells of these lines.
+fn read_lines(alloc: Global, lines: &[&[u8]]) -> Result<Vec<Cell>, ListError>
+    requires some { 1 ≤ length lines.now }
+    requires few { length lines.now < 2 ^ 31 }
+    ensures { MatchResult result (λ cells. AreLinesOf (texts lines.now) (plain_cells cells.items)) (RefusesLines (texts lines.now)) }
+{
+    let [first, rest @ ..] = lines else {
+        return Err(ListError::NoListing { line: 1 });
+    };
+    if !is_heading(first) {
+        return Err(ListError::NoListing { line: 1 });
+    }
+    let [body @ .., last] = rest else {
+        return Err(ListError::NoListing { line: 2 });
+    };
+    let declared = DeclaredLines::of_lines(alloc, lines)?;
+    read_body(alloc, &declared, body, last)
+}
+
+// The cells of a text.
+fn read_cells(alloc: Global, bytes: &[u8]) -> Result<Vec<Cell>, ListError>
+    requires { length bytes.now ≤ 268435456 }
+    ensures { MatchResult result (λ cells. IsListing bytes.now (plain_cells cells.items)) (RefusesLines (pieces bytes.now)) }
+{
+    let lines = pieces(alloc, bytes)?;
+    read_lines(alloc, &lines)
+}
+
+/// The netlist of a listing, within the limits of a list of cells. A text that isn't one is refused at its first
+/// line that breaks a rule, or as `Netlist::check` refuses its cells; `docs/listing.md` has the rules. Takes time
+/// near linear in the bytes.
+pub fn read(alloc: Global, bytes: &[u8]) -> Result<Netlist, ListError>
+    requires { length bytes.now ≤ 268435456 }
+    ensures listing { IfOk result (IsListing bytes.now) }
+    ensures within { IfOk result (λ netlist. IsWithinLimits netlist) }
+    ensures refused { IfErr result (RefusesText bytes.now) }
+{
+    let cells = read_cells(alloc, bytes)?;
+    let netlist = Netlist::check(alloc, cells)?;
+    Ok(netlist)
+}
