@@ -1,0 +1,11 @@
+pub mod NumberLemmas
+pub mod ReadingLemmas
+pub mod TableLemmas
+pub mod Turns
+pub mod CellLemmas
+pub mod DramLemmas
+pub mod FileLemmas
+pub mod SetupLemmas
+pub mod SizeLemmas
+pub mod SettingsLemmas
+pub mod NumberLaws

@@ -1,0 +1,15 @@
+use Rattle.std.proofs.Common.{◌∙◌, ap}
+use Rattle.toml.proofs.Views.{table_get}
+use Rattle.sp_setup.specs.Checks.{table_or_none}
+use Rattle.sp_setup.proofs.TableLemmas.{option_table-map}
+use Rattle.sp_setup.proofs.table.section_at.Goals as goal
+
+pub returns-in-Some : goal.returns-in-Some
+returns-in-Some c =
+    let found = table_get c.get.result c.args.key.now c.args.table.now.entries c.get.ensures.value in
+    rw (← rw c.in-Some.is at found) (option_table-map c.as_table.result ∙ ap table_or_none c.as_table.ensures)
+
+pub returns-in-None : goal.returns-in-None
+returns-in-None c =
+    let found = table_get c.get.result c.args.key.now c.args.table.now.entries c.get.ensures.value in
+    rw (← rw c.in-None.is at found)

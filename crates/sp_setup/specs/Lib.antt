@@ -1,0 +1,11 @@
+pub mod Number
+pub mod NumberText
+pub mod Reading
+pub mod Refusal
+pub mod Checks
+pub mod Section
+pub mod Table
+pub mod Settings
+pub mod Cells
+pub mod Drams
+pub mod Setup

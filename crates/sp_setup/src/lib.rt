@@ -1,0 +1,20 @@
+//! Setups: the texts that say how a program or a listing is run.
+#![tactic(auto)]
+
+mod cells;
+mod drams;
+mod error;
+mod laws;
+mod number;
+mod reading;
+mod settings;
+mod setup;
+mod table;
+#[cfg(test)]
+mod tests;
+
+pub use cells::{MOST_WORDS, dram_sizes_fit};
+pub use drams::LONGEST_FILE;
+pub use error::{SetupEnd, SetupError};
+pub use laws::number_texts_have_parts;
+pub use setup::{Setup, read};
