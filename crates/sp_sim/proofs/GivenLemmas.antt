@@ -1,0 +1,100 @@
+-- Ports that an input fits, as cells.
+use Rattle.std.proofs.Common.{◌≡◌, ℕ, zero, suc, ◌+◌, ◌*◌, ◌<◌, List, [], ◌∷◌, ◌++◌, Bool, true, false, cond, length, get_or, map, filter_map, count_by, refl, sym, ap, ◌∙◌, subst, arith, All, Option, Some, None, is_some, one-add}
+use Rattle.std.specs.List.{AllZip, fold, cons_option}
+use Rattle.std.specs.Global.{Vec}
+use Rattle.sp_words.specs.declared.types.Ty.{Ty}
+use Rattle.sp_words.specs.declared.interface.PortDecl.{PortDecl}
+use Rattle.sp_words.specs.declared.interface.Ports.{Ports}
+use Rattle.sp_words.specs.declared.interface.Input.{Input}
+use Rattle.sp_words.specs.Words.{IsWord}
+use Rattle.sp_words.specs.Interface.{word_count, ArgFits, DramFits, Fits}
+use Rattle.sp_netlist.specs.Cells.{PlainCell, in_cell, dram_cell}
+use Rattle.sp_words.specs.Interface.{word_count}
+use Rattle.sp_netlist.specs.Rules.{is_in, is_dram, IsNetlist}
+use Rattle.sp_words.specs.Ports.{PlainPort, plain_port, plain_ports}
+use Rattle.sp_netlist.specs.Ports.{ports_of, in_port, dram_port}
+use Rattle.sp_sim.specs.Given.{IsGiven}
+use Rattle.sp_sim.proofs.CellLemmas.{count_first, count_skip}
+
+-- an argument, and the words of a DRAM, at a plain port
+abbrev ArgAt : PlainPort → ℕ → Type 0
+ArgAt port word = IsWord port.ty word
+
+abbrev DramAt : PlainPort → List ℕ → Type 0
+DramAt port words = (length words ≡ word_count port.dims) × All (IsWord port.ty) words
+
+fold_from : (a : ℕ) (dims : List ℕ) → fold ◌*◌ a dims ≡ a * word_count dims
+fold_from a [] = omega arith
+fold_from a (d ∷ dims) = fold_from (a * d) dims ∙ omega arith
+
+plain_args : (ports : List PortDecl) (words : List ℕ) → AllZip ArgFits ports words → AllZip ArgAt (map plain_port ports) words
+plain_args [] [] z = z
+plain_args [] (w ∷ ws) z = z
+plain_args (p ∷ ps) [] z = z
+plain_args (p ∷ ps) (w ∷ ws) z = (z.0, plain_args ps ws z.1)
+
+plain_drams : (ports : List PortDecl) (contents : List (Vec ℕ)) → AllZip (λ port words. DramFits port words.items) ports contents → AllZip DramAt (map plain_port ports) (map (λ v. v.items) contents)
+plain_drams [] [] z = z
+plain_drams [] (w ∷ ws) z = z
+plain_drams (p ∷ ps) [] z = z
+plain_drams (p ∷ ps) (w ∷ ws) z = ((z.0.all_there ∙ fold_from 1 p.dims.items ∙ omega arith, z.0.each_fits), plain_drams ps ws z.1)
+
+zip_length : {X Y : Type 0} (R : X → Y → Type 0) (xs : List X) (ys : List Y) → AllZip R xs ys → length ys ≡ length xs
+zip_length R [] [] z = refl
+zip_length R [] (y ∷ ys) z = absurd z
+zip_length R (x ∷ xs) [] z = absurd z
+zip_length R (x ∷ xs) (y ∷ ys) z = ap suc (zip_length R xs ys z.1)
+
+zip_later : {X : Type 0} (R : PlainPort → X → Type 0) (q p : PlainPort) (qs : List PlainPort) (n : ℕ) (d : X) → ((vs : List X) → AllZip R qs vs → R p (get_or vs n d)) → (ws : List X) → AllZip R (q ∷ qs) ws → R p (get_or ws (1 + n) d)
+zip_later R q p qs n d rest [] z = absurd z
+zip_later R q p qs n d rest (w ∷ ws) z = subst (λ k. R p (get_or (w ∷ ws) k d)) (sym (one-add n)) (rest ws z.1)
+
+module _ (pick : PlainCell → Bool) (port : PlainCell → Option PlainPort) (agree : (x : PlainCell) → pick x ≡ is_some (port x)) where
+  ports_number : (cells : List PlainCell) → length (filter_map port cells) ≡ count_by pick cells
+  ports_number [] = refl
+  ports_number (x ∷ cells) = go (port x) refl (ports_number cells)
+    where
+      go : (o : Option PlainPort) → port x ≡ o → length (filter_map port cells) ≡ count_by pick cells → length (filter_map port (x ∷ cells)) ≡ count_by pick (x ∷ cells)
+      go None k r = ap (λ v. length (cons_option v (filter_map port cells))) k ∙ r ∙ sym (count_skip pick x cells (agree x ∙ ap is_some k))
+      go (Some q) k r = ap (λ v. length (cons_option v (filter_map port cells))) k ∙ omega (arith, r, count_first pick x cells (agree x ∙ ap is_some k))
+
+  -- the n-th word is that of the n-th port
+  zip_at : {X : Type 0} (R : PlainPort → X → Type 0) (front : List PlainCell) (x : PlainCell) (p : PlainPort) (rest : List PlainCell) (ws : List X) (d : X) → port x ≡ Some p
+      → AllZip R (filter_map port (front ++ x ∷ rest)) ws → R p (get_or ws (count_by pick front) d)
+  zip_at {X} R [] x p rest ws d e z = first ws (subst (λ o. AllZip R (cons_option o (filter_map port rest)) ws) e z)
+    where
+      first : (vs : List X) → AllZip R (p ∷ filter_map port rest) vs → R p (get_or vs 0 d)
+      first [] y = absurd y
+      first (v ∷ vs) y = y.0
+  zip_at {X} R (y ∷ front) x p rest ws d e z = go (port y) refl (λ vs. zip_at R front x p rest vs d e)
+    where
+      go : (o : Option PlainPort) → port y ≡ o → ((vs : List X) → AllZip R (filter_map port (front ++ x ∷ rest)) vs → R p (get_or vs (count_by pick front) d)) → R p (get_or ws (count_by pick (y ∷ front)) d)
+      go None k more = subst (λ n. R p (get_or ws n d)) (sym (count_skip pick y front (agree y ∙ ap is_some k))) (more ws (subst (λ o. AllZip R (cons_option o (filter_map port (front ++ x ∷ rest))) ws) k z))
+      go (Some q) k more = subst (λ n. R p (get_or ws n d)) (sym (count_first pick y front (agree y ∙ ap is_some k)))
+          (zip_later R q p (filter_map port (front ++ x ∷ rest)) (count_by pick front) d more ws (subst (λ o. AllZip R (cons_option o (filter_map port (front ++ x ∷ rest))) ws) k z))
+
+in_agrees : (x : PlainCell) → is_in x ≡ is_some (in_port x)
+in_agrees (in_cell name net ty) = refl
+in_agrees _ = refl
+
+dram_agrees : (x : PlainCell) → is_dram x ≡ is_some (dram_port x)
+dram_agrees (dram_cell dram name ty dims) = refl
+dram_agrees _ = refl
+
+-- an input that fits a netlist's ports is given
+pub given_by_ports : (cells : List PlainCell) → IsNetlist cells → (ports : Ports) (input : Input) → plain_ports ports ≡ ports_of cells → Fits ports input → IsGiven cells input.args.items (map (λ (v : Vec ℕ). v.items) input.drams.items)
+given_by_ports cells h ports input e f =
+    let args : AllZip ArgAt (filter_map in_port cells) input.args.items = subst (λ p. AllZip ArgAt p.args input.args.items) e (plain_args ports.args.items input.args.items f.args) in
+    let drams : AllZip DramAt (filter_map dram_port cells) (map (λ (v : Vec ℕ). v.items) input.drams.items) =
+    subst (λ p. AllZip DramAt p.drams (map (λ (v : Vec ℕ). v.items) input.drams.items)) e (plain_drams ports.drams.items input.drams.items f.drams) in
+    record {
+      args_number = zip_length ArgAt (filter_map in_port cells) input.args.items args ∙ ports_number is_in in_port in_agrees cells;
+      args_fit = λ before name net ty after split.
+          zip_at is_in in_port in_agrees ArgAt before (in_cell name net ty) (record { name = name; ty = ty; dims = [] }) after input.args.items 0 refl (subst (λ xs. AllZip ArgAt (filter_map in_port xs) input.args.items) split args);
+      drams_number = zip_length DramAt (filter_map dram_port cells) (map (λ (v : Vec ℕ). v.items) input.drams.items) drams ∙ ports_number is_dram dram_port dram_agrees cells;
+      drams_fit = λ before dram name ty dims after split.
+          let right = h.right before (dram_cell dram name ty dims) after split in
+          subst (λ n. DramAt (record { name = name; ty = ty; dims = dims }) (get_or (map (λ (v : Vec ℕ). v.items) input.drams.items) n [])) (sym right.0)
+          (zip_at is_dram dram_port dram_agrees DramAt before (dram_cell dram name ty dims) (record { name = name; ty = ty; dims = dims }) after (map (λ (v : Vec ℕ). v.items) input.drams.items) [] refl
+          (subst (λ xs. AllZip DramAt (filter_map dram_port xs) (map (λ (v : Vec ℕ). v.items) input.drams.items)) split drams));
+    }

@@ -1,0 +1,14 @@
+pub mod Conflicts
+pub mod Given
+pub mod Holding
+pub mod Loading
+pub mod Memories
+pub mod Phases
+pub mod Progress
+pub mod Rows
+pub mod Serving
+pub mod Settling
+pub mod Sims
+pub mod Standing
+pub mod States
+pub mod Writing

@@ -1,0 +1,21 @@
+//! A simulator of netlists, cycle by cycle.
+#![tactic(auto)]
+
+mod conflict;
+mod end;
+mod hold;
+mod load;
+mod memory;
+mod over;
+mod phase;
+mod row;
+mod serve;
+mod settle;
+mod sim;
+mod state;
+mod write;
+
+pub use end::SimEnd;
+pub use load::is_given;
+pub use sim::Sim;
+pub use std::alloc::AllocError as NoMemory;

@@ -1,0 +1,174 @@
+//! A simulation of a netlist.
+ghost use Rattle.std.specs.Prelude.{◌≡◌};
+ghost use Rattle.sp_sim.specs.Sims as sims;
+
+use crate::NoMemory;
+use crate::end::SimEnd;
+use crate::load::first_state;
+use crate::over::{contents, out_words};
+use crate::state::{Found, State, look, turn};
+use sp_netlist::{Netlist, ending_kept, evaluation_order, one_ending, quiet_run};
+use sp_words::{Input, Output};
+use std::alloc::Global;
+use std::marker::Model;
+
+/// A netlist that is run cycle by cycle on an input and a list of delays. All memory is taken when it is
+/// loaded.
+#[derive(Drop)]
+pub struct Sim<'a> {
+    netlist: &'a Netlist,
+    input: &'a Input,
+    delays: &'a [u32],
+    // The places of the cells that compute, in an order in which operands come first.
+    order: Vec<usize>,
+    state: State,
+    cycle: u64,
+    ended: Option<SimEnd>,
+}
+
+impl<'a> Model for Sim<'a> {
+    ghost use Rattle.sp_sim.specs.Progress.{Progress, setting_of};
+    ghost use Rattle.sp_sim.specs.Sims.{IsSim};
+
+    ghost Value = { Progress };
+
+    ghost view = { λ m. record { setting = setting_of m.netlist.now m.input.now m.delays.now; cycle = m.cycle; ended = m.ended } };
+
+    ghost invariant = { λ m. IsSim (setting_of m.netlist.now m.input.now m.delays.now) m.order.items m.cycle m.state m.ended };
+}
+
+/// What was found in a cycle, as the end of the run.
+fn end_of(cycle: u64, found: Found) -> Option<SimEnd>
+    ensures { result ≡ sims.end_of cycle found }
+{
+    match found {
+        Found::Nothing => None,
+        Found::Over => Some(SimEnd::Done { cycles: cycle }),
+        Found::Shared(bank, port) => Some(SimEnd::Conflict { cycle, bank, port }),
+    }
+}
+
+impl<'a> Sim<'a> {
+    ghost use Rattle.std.specs.Prelude.{◌≡◌, None, map, IfOk};
+    ghost use Rattle.sp_sim.specs.Progress.{setting_of};
+    ghost use Rattle.sp_sim.specs.Given.{IsGiven};
+
+    /// A simulation that stands in cycle 0. The input fits the netlist.
+    pub fn load(
+        alloc: Global,
+        netlist: &'a Netlist,
+        input: &'a Input,
+        delays: &'a [u32],
+    ) -> Result<Sim<'a>, NoMemory>
+        requires { IsGiven netlist.now input.now.args.items (map (λ v. v.items) input.now.drams.items) }
+        ensures { IfOk result (λ sim. sim ≡ record { setting = setting_of netlist.now input.now delays.now; cycle = 0; ended = None }) }
+    {
+        quiet_run();
+        let _cells = netlist.cells();
+        let order = evaluation_order(alloc, netlist)?;
+        let state = first_state(alloc, netlist, input)?;
+        Ok(Sim {
+            netlist,
+            input,
+            delays,
+            order,
+            state,
+            cycle: 0,
+            ended: None,
+        })
+    }
+}
+
+impl Sim<'_> {
+    ghost use Rattle.std.specs.Prelude.{◌≡◌, ◌+◌, ◌-◌, ◌^◌, ◌<◌, min, map, IfOk, IfSome, IfNone, Some, None};
+    ghost use Rattle.sp_netlist.specs.Cycle.{done_in, Ends};
+    ghost use Rattle.sp_sim.specs.Progress.{Tells, IsDone, IsEndIn, StepsTo, PeeksAt, RunsTo};
+    ghost use Rattle.sp_sim.specs.Sims as sims;
+
+    /// One cycle. After an end it answers the same again, and after 2^64 - 1 cycles without an end
+    /// `CyclesSpent`; then it changes nothing.
+    pub fn step(&mut self) -> Option<SimEnd>
+        ensures ended { IfSome self.old.ended (λ end. (result ≡ Some end) × (self.new ≡ self.old)) }
+        ensures spent { IfNone self.old.ended (self.old.cycle ≡ 2 ^ 64 - 1 → (result ≡ Some SimEnd.CyclesSpent) × (self.new ≡ self.old)) }
+        ensures cycle { IfNone self.old.ended (self.old.cycle < 2 ^ 64 - 1 → StepsTo self.old result self.new) }
+    {
+        if let Some(end) = self.ended {
+            return Some(end);
+        }
+        if self.cycle == u64::MAX {
+            return Some(SimEnd::CyclesSpent);
+        }
+        one_ending();
+        quiet_run();
+        let found = turn(self.netlist, &self.order, self.delays, &mut self.state);
+        let end = end_of(self.cycle, found);
+        match end {
+            None => self.cycle += 1,
+            Some(_) => self.ended = end,
+        }
+        end
+    }
+
+    /// How the run ended, if it did.
+    pub fn ended(&self) -> Option<SimEnd>
+        ensures ended { result ≡ self.now.ended }
+        ensures tells { IfSome result (λ end. Tells self.now.setting self.now.cycle end × IsEndIn self.now.cycle end) }
+    {
+        one_ending();
+        quiet_run();
+        self.ended
+    }
+
+    /// The cycle that comes next, or the one in which the run ended.
+    pub fn cycle(&self) -> u64
+        ensures { result ≡ self.now.cycle }
+    {
+        self.cycle
+    }
+
+    /// Looks at the cycle that comes next, and stays there.
+    fn peek(&mut self) -> Option<SimEnd>
+        requires { self.old.ended ≡ None }
+        ensures { PeeksAt self.old result self.new }
+    {
+        one_ending();
+        quiet_run();
+        let found = look(self.netlist, &self.order, &mut self.state);
+        let end = end_of(self.cycle, found);
+        self.ended = end;
+        end
+    }
+
+    /// The first end among the cycle in which the simulation stands and the `cycles` after it, but none past
+    /// number 2^64 - 1. Where there is none it stands in the last of them, which has been looked at.
+    pub fn run(&mut self, cycles: u64) -> SimEnd
+        ensures end { Tells self.old.setting (min (self.old.cycle + cycles) (2 ^ 64 - 1)) result }
+        ensures progress { RunsTo self.old (min (self.old.cycle + cycles) (2 ^ 64 - 1)) result self.new }
+    {
+        ending_kept();
+        let from = self.cycle();
+        if let Some(end) = self.ended() {
+            return end;
+        }
+        let last = from.saturating_add(cycles);
+        for _cycle in from..last {
+            if let Some(end) = self.step() {
+                return end;
+            }
+        }
+        self.peek().unwrap_or(SimEnd::CyclesSpent)
+    }
+
+    /// The words of the outs and of the DRAMs in the cycle in which the run is done.
+    pub fn outputs(&self, alloc: Global) -> Result<Output, NoMemory>
+        requires { IsDone self.now.ended }
+        ensures { IfOk result (λ o. Ends self.now.setting self.now.cycle (done_in self.now.cycle o.outs.items (map (λ v. v.items) o.drams.items))) }
+    {
+        one_ending();
+        quiet_run();
+        let cells = self.netlist.cells();
+        let outs = out_words(alloc, cells, &self.state.row)?;
+        let drams = contents(alloc, &self.state.drams)?;
+        Ok(Output { outs, drams })
+    }
+}
