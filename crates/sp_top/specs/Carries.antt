@@ -9,7 +9,8 @@ use Rattle.sp_top.specs.declared.straight.program.Value.TheVariants.{One, Two}
 use Rattle.sp_top.specs.declared.straight.program.Statement.{Statement}
 use Rattle.sp_words.specs.Types.{int_type}
 use Rattle.sp_netlist.specs.Cells.{PlainCell}
-use Rattle.sp_netlist.specs.Ports.{PlainPort, PlainPorts, ports_of}
+use Rattle.sp_words.specs.Ports.{PlainPort, PlainPorts}
+use Rattle.sp_netlist.specs.Ports.{ports_of}
 use Rattle.sp_netlist.specs.Cycle.{Ends, done_in}
 use Rattle.sp_top.specs.Straight.{PlainProgram}
 use Rattle.sp_top.specs.Meaning.{meaning, ended}
