@@ -1,6 +1,6 @@
 -- Ports that an input fits, as cells.
 use Rattle.std.proofs.Common.{◌≡◌, ℕ, zero, suc, ◌+◌, ◌*◌, ◌<◌, List, [], ◌∷◌, ◌++◌, Bool, true, false, cond, length, get_or, map, filter_map, count_by, refl, sym, ap, ◌∙◌, subst, arith, All, Option, Some, None, is_some, one-add}
-use Rattle.std.specs.List.{AllZip, fold, cons_option}
+use Rattle.std.specs.List.{AllZip, cons_option}
 use Rattle.std.specs.Global.{Vec}
 use Rattle.sp_words.specs.declared.types.Ty.{Ty}
 use Rattle.sp_words.specs.declared.interface.PortDecl.{PortDecl}
@@ -9,7 +9,6 @@ use Rattle.sp_words.specs.declared.interface.Input.{Input}
 use Rattle.sp_words.specs.Words.{IsWord}
 use Rattle.sp_words.specs.Interface.{word_count, ArgFits, DramFits, Fits}
 use Rattle.sp_netlist.specs.Cells.{PlainCell, in_cell, dram_cell}
-use Rattle.sp_words.specs.Interface.{word_count}
 use Rattle.sp_netlist.specs.Rules.{is_in, is_dram, IsNetlist}
 use Rattle.sp_words.specs.Ports.{PlainPort, plain_port, plain_ports}
 use Rattle.sp_netlist.specs.Ports.{ports_of, in_port, dram_port}
@@ -23,10 +22,6 @@ ArgAt port word = IsWord port.ty word
 abbrev DramAt : PlainPort → List ℕ → Type 0
 DramAt port words = (length words ≡ word_count port.dims) × All (IsWord port.ty) words
 
-fold_from : (a : ℕ) (dims : List ℕ) → fold ◌*◌ a dims ≡ a * word_count dims
-fold_from a [] = omega arith
-fold_from a (d ∷ dims) = fold_from (a * d) dims ∙ omega arith
-
 plain_args : (ports : List PortDecl) (words : List ℕ) → AllZip ArgFits ports words → AllZip ArgAt (map plain_port ports) words
 plain_args [] [] z = z
 plain_args [] (w ∷ ws) z = z
@@ -37,7 +32,7 @@ plain_drams : (ports : List PortDecl) (contents : List (Vec ℕ)) → AllZip (λ
 plain_drams [] [] z = z
 plain_drams [] (w ∷ ws) z = z
 plain_drams (p ∷ ps) [] z = z
-plain_drams (p ∷ ps) (w ∷ ws) z = ((z.0.all_there ∙ fold_from 1 p.dims.items ∙ omega arith, z.0.each_fits), plain_drams ps ws z.1)
+plain_drams (p ∷ ps) (w ∷ ws) z = ((z.0.all_there, z.0.each_fits), plain_drams ps ws z.1)
 
 zip_length : {X Y : Type 0} (R : X → Y → Type 0) (xs : List X) (ys : List Y) → AllZip R xs ys → length ys ≡ length xs
 zip_length R [] [] z = refl
