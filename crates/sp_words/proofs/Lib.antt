@@ -2,6 +2,7 @@ pub mod DecimalLemmas
 pub mod InterfaceLemmas
 pub mod LawLemmas
 pub mod MemoryLemmas
+pub mod NameLemmas
 pub mod NumberTextLemmas
 pub mod OperatorLemmas
 pub mod OrderLemmas

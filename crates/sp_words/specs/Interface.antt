@@ -1,11 +1,15 @@
 -- When an input fits the ports of a program.
-use Rattle.std.specs.Prelude.{◌≡◌, ℕ, ◌*◌, List, [], ◌∷◌, length}
+use Rattle.std.specs.Prelude.{◌≡◌, ℕ, ◌*◌, ◌≤◌, ◌<◌, ◌^◌, List, [], ◌∷◌, length}
 use Rattle.std.specs.List.{All, AllZip}
 use Rattle.std.specs.Global.{Vec}
 use Rattle.sp_words.specs.declared.interface.PortDecl.{PortDecl}
 use Rattle.sp_words.specs.declared.interface.Ports.{Ports}
 use Rattle.sp_words.specs.declared.interface.Input.{Input}
 use Rattle.sp_words.specs.Words.{IsWord}
+
+-- a dimension, a depth, a step or a number of lanes
+abbrev pub IsCount : ℕ → Type 0
+IsCount n = (1 ≤ n) × (n < 2 ^ 31)
 
 -- how many words there are under these dimensions: their product, and 1 under none
 abbrev pub word_count : List ℕ → ℕ

@@ -3,6 +3,7 @@ pub mod Footprints
 pub mod Interface
 pub mod Laws
 pub mod Memory
+pub mod Names
 pub mod NumberText
 pub mod Ports
 pub mod Types

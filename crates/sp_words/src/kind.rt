@@ -10,13 +10,15 @@ pub enum Kind {
     ArgOut,
 }
 
-/// How the parts of a controller may lie in time: overlapping, one after another, or side by side. It
-/// changes no result.
+/// How the parts of a controller may lie in time: overlapping, one after another, side by side, or side by
+/// side and waiting for each other at the FIFOs that join them. Only `Stream` can change how a program ends:
+/// a FIFO of such a block holds more words while the block runs.
 #[derive(Clone, Copy, Debug, PartialEq, Eq, Hash)]
 pub enum Style {
     Pipe,
     Sequential,
     Parallel,
+    Stream,
 }
 
 /// An operator on one word.

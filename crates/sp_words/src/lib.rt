@@ -10,6 +10,9 @@ mod memory_laws;
 mod memory_number;
 #[cfg(test)]
 mod memory_tests;
+#[cfg(test)]
+mod name_tests;
+mod names;
 mod operators;
 #[cfg(test)]
 mod tests;
@@ -29,6 +32,7 @@ pub use memory_laws::{
     states_are_what_is_held, types_name_their_kinds,
 };
 pub use memory_number::{MemId, ReadPort, WritePort};
+pub use names::{is_name, is_reserved};
 pub use operators::{add, and, cast, div, eq, lt, max, min, mul, not, or, rem, shl, shr, sub, xor};
 pub use std::alloc::AllocError as NoMemory;
 pub use types::{FixTy, Ty};
