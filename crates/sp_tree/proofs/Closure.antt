@@ -1,21 +1,26 @@
 -- What holds of the simplest steps and passes from steps to their sequence holds of every run.
 use Rattle.std.proofs.Common.{ℕ, zero, suc, Bool, true, false, IsTrue, List, [], ◌∷◌, Option, Some, None}
-use Rattle.std.specs.Prelude.{drop, slice_index, slice_index_or, slice_set, nat_lt, length, map, ◌++◌, ◌==◌}
+use Rattle.std.specs.Prelude.{drop, filter, slice_index, slice_index_or, slice_set, nat_lt, nat_le, length, map, ◌++◌, ◌==◌, if◌then◌else◌}
+use Rattle.sp_words.specs.declared.kind.Style.{Style}
+use Rattle.sp_words.specs.declared.kind.Style.TheVariants.{Pipe, Sequential, Parallel, Stream}
+use Rattle.sp_words.specs.Interface.{word_count}
 use Rattle.sp_words.specs.Memory.{Contents, cells, queue, rows, words}
 use Rattle.sp_tree.specs.declared.statement.Comb.{Comb}
 use Rattle.sp_tree.specs.declared.statement.FaultKind.{FaultKind}
 use Rattle.sp_tree.specs.Accesses.{written, read_cell, write_cell, read_line, take_oldest, dequeue, enqueue, read_word, write_word}
-use Rattle.sp_tree.specs.Elements.{index_value, are_inside, tuples}
+use Rattle.sp_tree.specs.Elements.{index_value, natural, is_below, are_inside, tuples, numbers_below}
 use Rattle.sp_tree.specs.Expressions.{dims, element, word, word_of, words as all_words}
 use Rattle.sp_tree.specs.Footprint.{Names, KindNames, AllName, SpansName, CountersName, StmtNames, StmtKindNames, BodyNames}
 use Rattle.sp_tree.specs.PlainExpression.{PlainExpr, PlainExprKind, PlainExprs, expr, literal, counter, value, get_reg, get_arg, get_sram, get_line, deq, one, two, shift, mux, cast, no_expr, more_expr}
 use Rattle.sp_tree.specs.PlainProgram.{PlainMem}
-use Rattle.sp_tree.specs.PlainStatement.{PlainSpan, single, range, PlainCounter, PlainStmt, PlainStmtKind, PlainStmts, stmt, declare, name, set_reg, set_out, set_sram, enq, load_sram, load_line, store, block, foreach, reduce, mem_reduce, fsm, branch, no_stmt, more_stmt}
-use Rattle.sp_tree.specs.Sequential.{combining, count_now, counter_range, part, assign, assign_all, run, run_kind, run_all}
+use Rattle.sp_tree.specs.PlainStatement.{PlainSpan, single, range, PlainCounter, PlainStmt, PlainStmtKind, PlainStmts, stmt, declare, name, set_reg, set_out, set_sram, enq, load_sram, load_line, store, gather, scatter, block, foreach, reduce, mem_reduce, fsm, branch, no_stmt, more_stmt}
+use Rattle.sp_tree.specs.Sequential.{combining, count_now, counter_range, part, assign, assign_all, keep_depth, end_block, run, run_kind, run_all}
 use Rattle.sp_tree.specs.Shape.{Shape}
 use Rattle.sp_tree.specs.Step.{Step, pure, ◌>>=◌, ◌>>◌, turn, out_of_turns, fault, ensure, read, change, in_order, repeated, as_long_as}
 use Rattle.sp_tree.specs.Store.{cells_of, queue_of, rows_of, words_of, hold, name_value, set_counter}
-use Rattle.sp_tree.specs.Transfers.{Part, lengths, has_none, are_parts_inside, do_fit, row_of, load_words, store_words, load_row, transfer, all_offsets}
+use Rattle.sp_tree.specs.Streams.{own_fifos, is_proper, fifos_with_room}
+use Rattle.sp_tree.specs.Structure.{own_mems}
+use Rattle.sp_tree.specs.Transfers.{Part, lengths, has_none, are_parts_inside, do_fit, row_of, load_words, store_words, load_row, transfer, all_offsets, place_held, gather_words, scatter_words}
 
 -- the simplest steps, whose memories pass a test, and sequences of steps
 pub record IsClosed (Q : (A : Type 0) → Step A → Type 0) (is : ℕ → Bool) : Type 1 where
@@ -36,6 +41,11 @@ abbrev pub Loops : (Q : (A : Type 0) → Step A → Type 0) → Type 1
 Loops Q = (A B : Type 0) (test : A → Step Bool) (step : A → Step (A × B)) → ((a : A) → Q Bool (test a)) → ((a : A) → Q (A × B) (step a)) → (a : A) → Q (List B) (as_long_as test (λ x. turn >> step x) a)
 
 module _ (Q : (A : Type 0) → Step A → Type 0) (is : ℕ → Bool) (c : IsClosed Q is) where
+  -- memories that pass the test
+  abbrev EachPasses : List ℕ → Type 0
+  EachPasses [] = Unit {0}
+  EachPasses (m ∷ ms) = IsTrue (is m) × EachPasses ms
+
   pub then_Q : {A B : Type 0} (step : Step A) (rest : Step B) → Q A step → Q B rest → Q B (step >> rest)
   then_Q step rest q r = c.of_bind step (λ _. rest) q (λ _. r)
 
@@ -138,7 +148,7 @@ module _ (Q : (A : Type 0) → Step A → Type 0) (is : ℕ → Bool) (c : IsClo
     parts_Q [] h = c.of_pure []
     parts_Q (single e ∷ spans) h =
         c.of_bind _ _ (c.of_bind _ _ (word_Q e h.0) (λ i. c.of_pure _)) (λ first. c.of_bind _ _ (parts_Q spans h.1) (λ others. c.of_pure (first ∷ others)))
-    parts_Q (range a b ∷ spans) h =
+    parts_Q (range a b par ∷ spans) h =
         c.of_bind _ _ (c.of_bind _ _ (word_Q a h.0) (λ x. c.of_bind _ _ (word_Q b h.1) (λ y. c.of_pure _))) (λ first. c.of_bind _ _ (parts_Q spans h.2) (λ others. c.of_pure (first ∷ others)))
 
     assign_Q : (comb : Comb) (acc at : ℕ) (combines : Bool) (w place : ℕ) → IsTrue (is acc) → Q (Unit {0}) (assign mems comb acc at combines w place)
@@ -162,20 +172,78 @@ module _ (Q : (A : Type 0) → Step A → Type 0) (is : ℕ → Bool) (c : IsClo
         c.of_bind _ _ (in_order_Q _ (λ offsets. c.of_bind _ _ (read_word_Q dram _ k) (λ w. then_Q _ _ c.of_turn (c.of_pure w))) (all_offsets parts))
         (λ ws. c.of_bind _ _ (c.of_held line rows_of h) (λ rs. c.of_hold line (rows (drop 1 rs ++ row_of width ws ∷ [])) h))
 
-    transfer_Q : {A : Type 0} (place : ℕ) (dd : List ℕ) (parts : List Part) (kind : FaultKind) (limits : List ℕ) (move : Step A) → Q A move → Q ℕ (transfer place dd parts kind limits move)
+    transfer_Q : {A : Type 0} (place : ℕ) (dd : List ℕ) (parts : List Part) (kind : FaultKind) (limits : List ℕ) (move : Step A) → Q A move → Q (Unit {0}) (transfer place dd parts kind limits move)
     transfer_Q place dd parts kind limits move q =
-        chosen_Q _ _ (c.of_pure 0)
+        chosen_Q _ _ (c.of_pure tt)
         (then_Q _ _ (ensure_Q (are_parts_inside dd parts) _ place) (then_Q _ _ (ensure_Q (do_fit limits (lengths parts)) kind place) (then_Q _ _ q (c.of_pure _))))
         (has_none (lengths parts))
 
-    module _ (loops : Loops Q) where
+    place_held_Q : (places held size k place : ℕ) → IsTrue (is places) → Q ℕ (place_held places held size k place)
+    place_held_Q places held size k place h =
+        then_Q _ _ (ensure_Q (nat_lt k held) _ place) (c.of_bind _ _ (read_cell_Q places k place h) (λ w. then_Q _ _ (ensure_Q (is_below (index_value w) size) _ place) (c.of_pure _)))
+
+    gather_words_Q : (place sram size dram dram_words places held count : ℕ) → IsTrue (is sram) → IsTrue (is dram) → IsTrue (is places) → Q (List (Unit {0})) (gather_words place sram size dram dram_words places held count)
+    gather_words_Q place sram size dram dram_words places held count h k l =
+        in_order_Q _ (λ i. c.of_bind _ _ (place_held_Q places held dram_words i place l) (λ at. then_Q _ _ (ensure_Q (nat_lt i size) _ place) (c.of_bind _ _ (read_word_Q dram at k) (λ w. then_Q _ _ c.of_turn (write_cell_Q sram i w h))))) (numbers_below count)
+
+    scatter_words_Q : (place dram dram_words places held count sram size : ℕ) → IsTrue (is dram) → IsTrue (is places) → IsTrue (is sram) → Q (List (Unit {0})) (scatter_words place dram dram_words places held count sram size)
+    scatter_words_Q place dram dram_words places held count sram size h k l =
+        in_order_Q _ (λ i. c.of_bind _ _ (place_held_Q places held dram_words i place k) (λ at. then_Q _ _ (ensure_Q (nat_lt i size) _ place) (c.of_bind _ _ (read_cell_Q sram i place l) (λ w. then_Q _ _ c.of_turn (write_word_Q dram at w h))))) (numbers_below count)
+
+    -- the FIFOs of a block are among the memories that its statements name
+    own_pass : (body : PlainStmts) → BodyNames is body → EachPasses (own_mems body)
+    own_pass no_stmt h = tt
+    own_pass (more_stmt (stmt place (declare m)) rest) h = (h.0, own_pass rest h.1)
+    own_pass (more_stmt (stmt place (name v e)) rest) h = own_pass rest h.1
+    own_pass (more_stmt (stmt place (set_reg m e)) rest) h = own_pass rest h.1
+    own_pass (more_stmt (stmt place (set_out m e)) rest) h = own_pass rest h.1
+    own_pass (more_stmt (stmt place (set_sram m indices e)) rest) h = own_pass rest h.1
+    own_pass (more_stmt (stmt place (enq m e)) rest) h = own_pass rest h.1
+    own_pass (more_stmt (stmt place (load_sram sram dram spans)) rest) h = own_pass rest h.1
+    own_pass (more_stmt (stmt place (load_line line dram spans)) rest) h = own_pass rest h.1
+    own_pass (more_stmt (stmt place (store dram spans sram)) rest) h = own_pass rest h.1
+    own_pass (more_stmt (stmt place (gather sram dram places count)) rest) h = own_pass rest h.1
+    own_pass (more_stmt (stmt place (scatter dram places count sram)) rest) h = own_pass rest h.1
+    own_pass (more_stmt (stmt place (block style body)) rest) h = own_pass rest h.1
+    own_pass (more_stmt (stmt place (foreach style counters body)) rest) h = own_pass rest h.1
+    own_pass (more_stmt (stmt place (reduce style fold acc counters body e comb)) rest) h = own_pass rest h.1
+    own_pass (more_stmt (stmt place (mem_reduce style acc counters body part comb)) rest) h = own_pass rest h.1
+    own_pass (more_stmt (stmt place (fsm start tested test state body last next)) rest) h = own_pass rest h.1
+    own_pass (more_stmt (stmt place (branch test first second)) rest) h = own_pass rest h.1
+
+    filter_pass : (p : ℕ → Bool) (ms : List ℕ) → EachPasses ms → EachPasses (filter p ms)
+    filter_pass p [] h = tt
+    filter_pass p (m ∷ ms) h =
+        let rest = filter_pass p ms h.1 in
+        elim (p m) as (λ b. EachPasses (if b then m ∷ filter p ms else filter p ms)) [ true ↦ (h.0, rest) | false ↦ rest ]
+
+    keep_all_Q : (place : ℕ) (ms : List ℕ) → EachPasses ms → Q (List (Unit {0})) (in_order (λ m. keep_depth mems m place) ms)
+    unfolding in_order
+    keep_all_Q place [] h = c.of_pure []
+    keep_all_Q place (m ∷ ms) h =
+        c.of_bind _ _ (c.of_bind _ _ (c.of_held m queue_of h.0) (λ ws. ensure_Q (nat_le (length ws) (word_count (dims mems m))) _ place)) (λ first. c.of_bind _ _ (keep_all_Q place ms h.1) (λ others. c.of_pure (first ∷ others)))
+
+    with_room_pass : (style : Style) (body : PlainStmts) → BodyNames is body → EachPasses (fifos_with_room mems style body)
+    with_room_pass Pipe body h = tt
+    with_room_pass Sequential body h = tt
+    with_room_pass Parallel body h = tt
+    with_room_pass Stream body h = chosen (is_proper mems body)
+      where
+        chosen : (b : Bool) → EachPasses (if b then own_fifos mems body else [])
+        chosen true = filter_pass _ (own_mems body) (own_pass body h)
+        chosen false = tt
+
+    end_block_Q : (style : Style) (body : PlainStmts) (place : ℕ) → BodyNames is body → Q (List (Unit {0})) (end_block mems style body place)
+    end_block_Q style body place h = keep_all_Q place (fifos_with_room mems style body) (with_room_pass style body h)
+
+    module _ (roomy : List ℕ) (loops : Loops Q) where
       mutual
         unfolding run
 
-        pub run_Q : (s : PlainStmt) → StmtNames is s → Q (List Shape) (run mems s)
+        pub run_Q : (s : PlainStmt) → StmtNames is s → Q (List Shape) (run mems roomy s)
         run_Q (stmt place kind) h = then_Q _ _ c.of_turn (run_kind_Q kind place h)
 
-        pub run_kind_Q : (k : PlainStmtKind) (place : ℕ) → StmtKindNames is k → Q (List Shape) (run_kind mems k place)
+        pub run_kind_Q : (k : PlainStmtKind) (place : ℕ) → StmtKindNames is k → Q (List Shape) (run_kind mems roomy k place)
         run_kind_Q (declare m) place h = then_Q _ _ (c.of_hold m _ h) (c.of_pure [])
         run_kind_Q (name v e) place h = c.of_bind _ _ (word_Q e h) (λ w. then_Q _ _ (c.of_name v w) (c.of_pure []))
         run_kind_Q (set_reg m e) place h = c.of_bind _ _ (word_Q e h.1) (λ w. then_Q _ _ (write_cell_Q m 0 w h.0) (c.of_pure []))
@@ -184,12 +252,17 @@ module _ (Q : (A : Type 0) → Step A → Type 0) (is : ℕ → Bool) (c : IsClo
             c.of_bind _ _ (words_Q indices h.1) (λ is. c.of_bind _ _ (word_Q e h.2) (λ w. c.of_bind _ _ (element_Q m place is) (λ at. then_Q _ _ (write_cell_Q m at w h.0) (c.of_pure []))))
         run_kind_Q (enq m e) place h = c.of_bind _ _ (word_Q e h.1) (λ w. then_Q _ _ (enqueue_Q m _ w place h.0) (c.of_pure []))
         run_kind_Q (load_sram sram dram spans) place h =
-            c.of_bind _ _ (parts_Q spans h.2) (λ parts. c.of_bind _ _ (transfer_Q place (dims mems dram) parts _ (dims mems sram) _ (load_words_Q sram (dims mems sram) dram (dims mems dram) parts h.0 h.1)) (λ n. c.of_pure _))
+            c.of_bind _ _ (parts_Q spans h.2) (λ parts. then_Q _ _ (transfer_Q place (dims mems dram) parts _ (dims mems sram) _ (load_words_Q sram (dims mems sram) dram (dims mems dram) parts h.0 h.1)) (c.of_pure _))
         run_kind_Q (load_line line dram spans) place h =
-            c.of_bind _ _ (parts_Q spans h.2) (λ parts. c.of_bind _ _ (transfer_Q place (dims mems dram) parts _ (drop 1 (dims mems line)) _ (load_row_Q line _ dram (dims mems dram) parts h.0 h.1)) (λ n. c.of_pure _))
+            c.of_bind _ _ (parts_Q spans h.2) (λ parts. then_Q _ _ (transfer_Q place (dims mems dram) parts _ (drop 1 (dims mems line)) _ (load_row_Q line _ dram (dims mems dram) parts h.0 h.1)) (c.of_pure _))
         run_kind_Q (store dram spans sram) place h =
-            c.of_bind _ _ (parts_Q spans h.2) (λ parts. c.of_bind _ _ (transfer_Q place (dims mems dram) parts _ (dims mems sram) _ (store_words_Q place sram (dims mems sram) dram (dims mems dram) parts h.0 h.1)) (λ n. c.of_pure _))
-        run_kind_Q (block style body) place h = c.of_bind _ _ (run_all_Q body h) (λ inner. c.of_pure _)
+            c.of_bind _ _ (parts_Q spans h.2) (λ parts. then_Q _ _ (transfer_Q place (dims mems dram) parts _ (dims mems sram) _ (store_words_Q place sram (dims mems sram) dram (dims mems dram) parts h.0 h.1)) (c.of_pure _))
+        run_kind_Q (gather sram dram places count) place h =
+            c.of_bind _ _ (word_Q count h.3) (λ n. then_Q _ _ (gather_words_Q place sram (word_count (dims mems sram)) dram (word_count (dims mems dram)) places (word_count (dims mems places)) (natural (index_value n)) h.0 h.1 h.2) (c.of_pure _))
+        run_kind_Q (scatter dram places count sram) place h =
+            c.of_bind _ _ (word_Q count h.2) (λ n. then_Q _ _ (scatter_words_Q place dram (word_count (dims mems dram)) places (word_count (dims mems places)) (natural (index_value n)) sram (word_count (dims mems sram)) h.0 h.1 h.3) (c.of_pure _))
+        run_kind_Q (block style body) place h =
+            c.of_bind _ _ (run_all_Q body h) (λ inner. then_Q _ _ (end_block_Q style body place h) (c.of_pure _))
         run_kind_Q (foreach style counters body) place h =
             c.of_bind _ _ (ranges_Q counters h.0) (λ ranges. c.of_bind _ _
             (in_order_Q _ (λ ws. then_Q _ _ c.of_turn (then_Q _ _ (count_now_Q counters ws) (c.of_bind _ _ (run_all_Q body h.1) (λ inner. c.of_pure _)))) (tuples ranges))
@@ -210,6 +283,6 @@ module _ (Q : (A : Type 0) → Step A → Type 0) (is : ℕ → Bool) (c : IsClo
         run_kind_Q (branch test first second) place h =
             c.of_bind _ _ (word_Q test h.0) (λ holds. c.of_bind _ _ (chosen_Q _ _ (run_all_Q first h.1) (run_all_Q second h.2) (holds == 1)) (λ inner. c.of_pure _))
 
-        pub run_all_Q : (b : PlainStmts) → BodyNames is b → Q (List Shape) (run_all mems b)
+        pub run_all_Q : (b : PlainStmts) → BodyNames is b → Q (List Shape) (run_all mems roomy b)
         run_all_Q no_stmt h = c.of_pure []
         run_all_Q (more_stmt s rest) h = c.of_bind _ _ (run_Q s h.0) (λ first. c.of_bind _ _ (run_all_Q rest h.1) (λ others. c.of_pure _))

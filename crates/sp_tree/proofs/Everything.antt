@@ -2,7 +2,7 @@
 use Rattle.std.proofs.Common.{ℕ, Bool, true, List, [], ◌∷◌, refl}
 use Rattle.sp_tree.specs.Footprint.{Names, KindNames, AllName, SpansName, CountersName, StmtNames, StmtKindNames, BodyNames}
 use Rattle.sp_tree.specs.PlainExpression.{PlainExpr, PlainExprKind, PlainExprs, expr, literal, counter, value, get_reg, get_arg, get_sram, get_line, deq, one, two, shift, mux, cast, no_expr, more_expr}
-use Rattle.sp_tree.specs.PlainStatement.{PlainSpan, single, range, PlainCounter, PlainStmt, PlainStmtKind, PlainStmts, stmt, declare, name, set_reg, set_out, set_sram, enq, load_sram, load_line, store, block, foreach, reduce, mem_reduce, fsm, branch, no_stmt, more_stmt}
+use Rattle.sp_tree.specs.PlainStatement.{PlainSpan, single, range, PlainCounter, PlainStmt, PlainStmtKind, PlainStmts, stmt, declare, name, set_reg, set_out, set_sram, enq, load_sram, load_line, store, gather, scatter, block, foreach, reduce, mem_reduce, fsm, branch, no_stmt, more_stmt}
 
 abbrev pub all : ℕ → Bool
 all m = true
@@ -33,7 +33,7 @@ mutual
 any_spans : (spans : List PlainSpan) → SpansName all spans
 any_spans [] = tt
 any_spans (single e ∷ spans) = (any_expr e, any_spans spans)
-any_spans (range a b ∷ spans) = (any_expr a, any_expr b, any_spans spans)
+any_spans (range a b par ∷ spans) = (any_expr a, any_expr b, any_spans spans)
 
 any_counters : (counters : List PlainCounter) → CountersName all counters
 any_counters [] = tt
@@ -53,6 +53,8 @@ mutual
   any_stmt_kind (load_sram sram dram spans) = (refl, refl, any_spans spans)
   any_stmt_kind (load_line line dram spans) = (refl, refl, any_spans spans)
   any_stmt_kind (store dram spans sram) = (refl, refl, any_spans spans)
+  any_stmt_kind (gather sram dram places count) = (refl, refl, refl, any_expr count)
+  any_stmt_kind (scatter dram places count sram) = (refl, refl, any_expr count, refl)
   any_stmt_kind (block style body) = any_body body
   any_stmt_kind (foreach style counters body) = (any_counters counters, any_body body)
   any_stmt_kind (reduce style fold acc counters body e comb) = (refl, any_counters counters, any_body body, any_expr e)

@@ -3,16 +3,18 @@ use Rattle.std.proofs.Common.{◌≡◌, ℕ, ◌+◌, ◌-◌, ◌≤◌, List,
 use Rattle.sp_tree.specs.declared.statement.FaultKind.{FaultKind}
 use Rattle.sp_tree.specs.Laws.{TakesTurns, IsDecidedByTurns}
 use Rattle.sp_tree.specs.Meaning.{ended, stopped, unfinished, seq, out_words, dram_words, outcome, run_program, first_store}
-use Rattle.sp_tree.specs.PlainProgram.{PlainProgram, PlainInput}
+use Rattle.sp_words.specs.Ports.{PlainInput}
+use Rattle.sp_tree.specs.PlainProgram.{PlainProgram}
 use Rattle.sp_tree.specs.Shape.{Shape, ran, shapes}
 use Rattle.sp_tree.specs.Step.{Went, went, faulted, more}
+use Rattle.sp_tree.specs.Streams.{roomy_in}
 use Rattle.sp_tree.proofs.Closure.{run_all_Q, then_Q}
 use Rattle.sp_tree.proofs.Everything.{all, any_body}
 use Rattle.sp_tree.proofs.Timed.{TimedAt, IsTimed, timed_closed, timed_loops}
 
 program_timed : (p : PlainProgram) → IsTimed (List Shape) (run_program p)
 unfolding run_program
-program_timed p = then_Q IsTimed all timed_closed _ _ (timed_closed).of_turn (run_all_Q IsTimed all timed_closed p.mems timed_loops p.body (any_body p.body))
+program_timed p = then_Q IsTimed all timed_closed _ _ (timed_closed).of_turn (run_all_Q IsTimed all timed_closed p.mems (roomy_in p.mems p.body) timed_loops p.body (any_body p.body))
 
 module _ (p : PlainProgram) (input : PlainInput) where
   run_with : ℕ → Went (List Shape)

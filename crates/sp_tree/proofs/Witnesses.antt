@@ -4,7 +4,7 @@ use Rattle.std.specs.Prelude.{◌+◌, ◌*◌, ◌==◌, ◌&&◌, not, All, Co
 use Rattle.std.specs.List.{list_all}
 use Rattle.sp_words.specs.declared.types.Ty.TheVariants.{Bit}
 use Rattle.sp_words.specs.Types.{int_type}
-use Rattle.sp_tree.specs.Names.{IsName, is_name, reserved_words}
+use Rattle.sp_words.specs.Names.{IsName, is_name, reserved_words}
 
 -- P of each element, one after the other
 abbrev pub EachOf : {A : Type 0} → (A → Type 0) → List A → Type 0

@@ -1,6 +1,5 @@
 -- The seven counts of a program that have a greatest number.
-use Rattle.std.specs.Prelude.{ℕ, ◌+◌, ◌*◌, ◌≤◌, max, ◌==◌, ◌||◌, ◌&&◌, not, Bool, true, false, List, [], ◌∷◌, ◌++◌, map, filter, sum_by, count_by, Some, None, if◌then◌else◌}
-use Rattle.std.specs.List.{list_any}
+use Rattle.std.specs.Prelude.{ℕ, suc, ◌+◌, ◌*◌, max, ◌==◌, ◌||◌, ◌&&◌, not, Bool, true, false, List, [], ◌∷◌, ◌++◌, map, filter, sum_by, count_by, Some, None, if◌then◌else◌}
 use Rattle.sp_words.specs.declared.kind.Kind.{Kind}
 use Rattle.sp_words.specs.declared.kind.Kind.TheVariants.{Dram, ArgIn, ArgOut}
 use Rattle.sp_words.specs.Interface.{word_count}
@@ -8,9 +7,10 @@ use Rattle.sp_tree.specs.Expressions.{dims}
 use Rattle.sp_tree.specs.Meaning.{is_dram}
 use Rattle.sp_tree.specs.PlainExpression.{PlainExpr}
 use Rattle.sp_tree.specs.PlainProgram.{PlainMem, PlainProgram}
-use Rattle.sp_tree.specs.PlainStatement.{PlainCounter, PlainStmtKind, PlainStmts, stmt, declare, load_sram, load_line, store, block, foreach, reduce, mem_reduce, fsm, branch, no_stmt, more_stmt}
-use Rattle.sp_tree.specs.Structure.{lanes_of, is_inner, outside, stages}
-use Rattle.sp_tree.specs.Tallies.{Tally, nothing, ◌&◌, tally, primitive}
+use Rattle.sp_tree.specs.PlainStatement.{PlainCounter, PlainStmtKind, PlainStmts, stmt, declare, name, set_reg, set_out, set_sram, enq, load_sram, load_line, store, gather, scatter, block, foreach, reduce, mem_reduce, fsm, branch, no_stmt, more_stmt}
+use Rattle.sp_tree.specs.Streams.{room, roomy_in}
+use Rattle.sp_tree.specs.Structure.{lanes_of, slice_lanes, is_inner, outside, stages}
+use Rattle.sp_tree.specs.Tallies.{Tally, nothing, ◌&◌, uses_of, is_among, tally, primitive}
 
 -- arguments, outputs and DRAMs
 abbrev pub is_port : Kind → Bool
@@ -38,20 +38,30 @@ abbrev mutual
 abbrev pub node_count : PlainProgram → ℕ
 node_count p = count_by (λ m. is_port m.kind) p.mems + nodes_in p.body
 
--- the greatest product of the lanes of a controller and of those around it, which have so many
+-- the greatest product of the lanes of a controller or a slice and of the controllers around it, which have so many
 abbrev mutual
   pub lanes_in : PlainStmts → (around : ℕ) → ℕ
   lanes_in no_stmt around = around
   lanes_in (more_stmt (stmt place kind) rest) around = max (kind_lanes kind around) (lanes_in rest around)
 
   pub kind_lanes : PlainStmtKind → (around : ℕ) → ℕ
+  kind_lanes (load_sram sram dram spans) around = around * slice_lanes spans
+  kind_lanes (load_line line dram spans) around = around * slice_lanes spans
+  kind_lanes (store dram spans sram) around = around * slice_lanes spans
   kind_lanes (block style body) around = lanes_in body around
   kind_lanes (foreach style counters body) around = lanes_in body (around * lanes_of counters)
   kind_lanes (reduce style fold acc counters body word comb) around = lanes_in body (around * lanes_of counters)
   kind_lanes (mem_reduce style acc counters body part comb) around = lanes_in body (around * lanes_of counters)
   kind_lanes (fsm start tested test state body last next) around = lanes_in body around
   kind_lanes (branch test first second) around = max (lanes_in first around) (lanes_in second around)
-  kind_lanes _ around = around
+  kind_lanes (declare m) around = around
+  kind_lanes (name v e) around = around
+  kind_lanes (set_reg m e) around = around
+  kind_lanes (set_out m e) around = around
+  kind_lanes (set_sram m indices e) around = around
+  kind_lanes (enq m e) around = around
+  kind_lanes (gather sram dram places count) around = around
+  kind_lanes (scatter dram places count sram) around = around
 
 abbrev pub lane_count : PlainProgram → ℕ
 lane_count p = lanes_in p.body 1
@@ -96,6 +106,8 @@ abbrev mutual
   inner_pieces (load_sram sram dram spans) lanes = a_transfer lanes [] ∷ []
   inner_pieces (load_line line dram spans) lanes = a_transfer lanes [] ∷ []
   inner_pieces (store dram spans sram) lanes = a_transfer lanes (sram ∷ []) ∷ []
+  inner_pieces (gather sram dram places count) lanes = a_transfer lanes (places ∷ []) ∷ []
+  inner_pieces (scatter dram places count sram) lanes = a_transfer lanes (places ∷ sram ∷ []) ∷ []
   inner_pieces (block style body) lanes = pieces body lanes nothing nothing
   inner_pieces (foreach style counters body) lanes = pieces body (lanes * lanes_of counters) nothing nothing
   inner_pieces (reduce style fold acc counters body word comb) lanes =
@@ -107,7 +119,12 @@ abbrev mutual
   inner_pieces (fsm start tested test state body last next) lanes =
       a_part lanes (tally start) ∷ a_part lanes (tally test) ∷ a_part lanes (tally next) ∷ pieces body lanes nothing nothing
   inner_pieces (branch test first second) lanes = a_part lanes (tally test) ∷ pieces first lanes nothing nothing ++ pieces second lanes nothing nothing
-  inner_pieces _ lanes = []
+  inner_pieces (declare m) lanes = []
+  inner_pieces (name v e) lanes = []
+  inner_pieces (set_reg m e) lanes = []
+  inner_pieces (set_out m e) lanes = []
+  inner_pieces (set_sram m indices e) lanes = []
+  inner_pieces (enq m e) lanes = []
 
 abbrev pub program_pieces : PlainProgram → List Piece
 program_pieces p = pieces p.body 1 nothing nothing
@@ -123,15 +140,16 @@ body_count p = greatest (map (λ (x : Piece). x.operations * x.lanes) (filter (�
 abbrev pub operation_count : PlainProgram → ℕ
 operation_count p = sum_by (λ (x : Piece). x.operations * x.lanes) (program_pieces p)
 
--- words as declared, on the chip and in DRAMs
+-- words as declared, on the chip and in DRAMs; a FIFO that a proper Stream block declares counts with its room
+abbrev pub words_from : PlainProgram → (first : ℕ) → List PlainMem → ℕ
+words_from p first [] = 0
+words_from p first (m ∷ rest) = (if is_port m.kind then 0 else room p.mems (roomy_in p.mems p.body) first) + words_from p (suc first) rest
+
 abbrev pub chip_words : PlainProgram → ℕ
-chip_words p = sum_by (λ (m : PlainMem). if is_port m.kind then 0 else word_count m.dims) p.mems
+chip_words p = words_from p 0 p.mems
 
 abbrev pub dram_count : PlainProgram → ℕ
 dram_count p = sum_by (λ (m : PlainMem). if is_dram m.kind then word_count m.dims else 0) p.mems
-
-abbrev pub is_among : ℕ → List ℕ → Bool
-is_among m ms = list_any (λ k. k == m) ms
 
 -- how many places of a list there are up to the last that is true, and from the first that is
 abbrev pub up_to_last : List Bool → ℕ
@@ -153,7 +171,7 @@ loop_stages body tail end = if is_inner body then [] else stages body nothing ta
 
 abbrev pub reduce_stages : PlainStmts → List PlainCounter → (acc : ℕ) → PlainExpr → List (List ℕ)
 reduce_stages body counters acc word =
-    if lanes_of counters == 1 then loop_stages body nothing ((acc ∷ (tally word).uses) ∷ []) else loop_stages body (tally word) ((acc ∷ []) ∷ [])
+    if lanes_of counters == 1 then loop_stages body nothing ((acc ∷ uses_of (tally word)) ∷ []) else loop_stages body (tally word) ((acc ∷ []) ∷ [])
 
 -- each memory that is declared, with the lanes of the controllers around it times its stages, in a body with so many
 -- lanes and these stages; a body that runs once for each entry has none
@@ -171,7 +189,16 @@ abbrev mutual
       copies_in body (lanes * lanes_of counters) (stages body nothing nothing ++ (acc ∷ part ∷ []) ∷ [])
   kind_copies (fsm start tested test state body last next) lanes all = copies_in body lanes []
   kind_copies (branch test first second) lanes all = copies_in first lanes [] ++ copies_in second lanes []
-  kind_copies _ lanes all = []
+  kind_copies (name v e) lanes all = []
+  kind_copies (set_reg m e) lanes all = []
+  kind_copies (set_out m e) lanes all = []
+  kind_copies (set_sram m indices e) lanes all = []
+  kind_copies (enq m e) lanes all = []
+  kind_copies (load_sram sram dram spans) lanes all = []
+  kind_copies (load_line line dram spans) lanes all = []
+  kind_copies (store dram spans sram) lanes all = []
+  kind_copies (gather sram dram places count) lanes all = []
+  kind_copies (scatter dram places count sram) lanes all = []
 
 -- the pieces that read a memory, at least 1
 abbrev pub readers_of : PlainProgram → ℕ → ℕ
@@ -184,13 +211,3 @@ copy_count p = sum_by (λ (c : ℕ × ℕ). word_count (dims p.mems c.0) * c.1 *
 -- in the order of their limits
 abbrev pub counts_of : PlainProgram → List ℕ
 counts_of p = node_count p ∷ lane_count p ∷ body_count p ∷ operation_count p ∷ chip_words p ∷ copy_count p ∷ dram_count p ∷ []
-
--- each is within its limit
-pub record IsWithinLimits (p : PlainProgram) : Type 0 where
-  pub nodes : node_count p ≤ 20000
-  pub lanes : lane_count p ≤ 16
-  pub in_one_run : body_count p ≤ 2048
-  pub operations : operation_count p ≤ 8192
-  pub words : chip_words p ≤ 4194304
-  pub copies : copy_count p ≤ 16777216
-  pub dram : dram_count p ≤ 16777216

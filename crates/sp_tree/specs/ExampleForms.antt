@@ -10,9 +10,10 @@ use Rattle.sp_words.specs.Types.{int_type}
 use Rattle.sp_tree.specs.Invariant.{ports_of}
 use Rattle.sp_tree.specs.Meaning.{Outcome, ended}
 use Rattle.sp_tree.specs.PlainExpression.{PlainExpr, PlainExprs, expr, literal, counter, value, get_reg, get_arg, get_sram, get_line, deq, two, no_expr, more_expr}
-use Rattle.sp_tree.specs.PlainProgram.{PlainMem, PlainProgram, PlainInput}
+use Rattle.sp_words.specs.Ports.{PlainInput}
+use Rattle.sp_tree.specs.PlainProgram.{PlainMem, PlainProgram}
 use Rattle.sp_tree.specs.Shape.{Shape}
-use Rattle.sp_tree.specs.PlainStatement.{PlainCounter, PlainStmt, PlainStmtKind, PlainStmts, stmt, no_stmt, more_stmt}
+use Rattle.sp_tree.specs.PlainStatement.{PlainSpan, range, PlainCounter, PlainStmt, PlainStmtKind, PlainStmts, stmt, no_stmt, more_stmt}
 
 abbrev pub lit : ℕ → PlainExpr
 lit word = expr 0 int_type (literal word)
@@ -56,6 +57,13 @@ gt a b = expr 0 Bit (two binary.Gt a b)
 
 abbrev pub ge : PlainExpr → PlainExpr → PlainExpr
 ge a b = expr 0 Bit (two binary.Ge a b)
+
+-- the range from a up to b, in one lane, and in so many
+abbrev pub between : PlainExpr → PlainExpr → PlainSpan
+between a b = range a b 1
+
+abbrev pub in_lanes : PlainExpr → PlainExpr → ℕ → PlainSpan
+in_lanes a b par = range a b par
 
 -- counter c from a until b by a step, with so many lanes
 abbrev pub from : ℕ → PlainExpr → PlainExpr → ℕ → ℕ → PlainCounter

@@ -4,10 +4,10 @@ use Rattle.sp_words.specs.declared.kind.Kind.TheVariants.{Reg, Sram, Fifo, Dram,
 use Rattle.sp_words.specs.declared.kind.Style.TheVariants.{Pipe}
 use Rattle.sp_words.specs.Types.{int_type}
 use Rattle.sp_tree.specs.declared.statement.Comb.TheVariants.{Add}
-use Rattle.sp_tree.specs.ExampleForms.{lit, count, val, reg, arg, at, add, sub, mul, gt, exprs, from, here, at_place, stmts, mem_of, program}
+use Rattle.sp_tree.specs.ExampleForms.{lit, count, val, reg, arg, at, add, sub, mul, gt, exprs, from, between, here, at_place, stmts, mem_of, program}
 use Rattle.sp_tree.specs.PlainExpression.{expr, get_sram, deq}
 use Rattle.sp_tree.specs.PlainProgram.{PlainProgram}
-use Rattle.sp_tree.specs.PlainStatement.{range, declare, set_reg, set_out, set_sram, enq, store, block, foreach, reduce, mem_reduce, fsm, no_stmt}
+use Rattle.sp_tree.specs.PlainStatement.{declare, set_reg, set_out, set_sram, enq, store, block, foreach, reduce, mem_reduce, fsm, no_stmt}
 
 -- `y := x + 3`
 unfoldable pub sum_program : PlainProgram
@@ -70,7 +70,7 @@ register_between = program (mem_of Dram int_type (4 ∷ []) None ∷ mem_of Reg 
     here (set_sram 2 (exprs (count 0 ∷ [])) (add (reg 1) (lit 10))) ∷
     []))) ∷
     []))) ∷
-    here (store 0 (range (lit 0) (lit 4) ∷ []) 2) ∷
+    here (store 0 (between (lit 0) (lit 4) ∷ []) 2) ∷
     []))
 
 -- `val y = ArgOut[Int]; Accel { val s = SRAM[Int](2); y := s(INDEX) }`
@@ -100,7 +100,7 @@ queued taken = program (mem_of Dram int_type (4 ∷ []) None ∷ mem_of Fifo int
     here (foreach Pipe (from 1 (lit 0) (lit taken) 1 1 ∷ []) (stmts (
     here (set_sram 2 (exprs (count 1 ∷ [])) (expr 7 int_type (deq 1))) ∷
     []))) ∷
-    here (store 0 (range (lit 0) (lit 4) ∷ []) 2) ∷
+    here (store 0 (between (lit 0) (lit 4) ∷ []) 2) ∷
     []))
 
 -- a MemReduce over three iterations
@@ -113,7 +113,7 @@ memory_reduced = program (mem_of Dram int_type (2 ∷ []) None ∷ mem_of Sram i
     here (set_sram 2 (exprs (count 1 ∷ [])) (add (mul (count 0) (lit 10)) (count 1))) ∷
     []))) ∷
     [])) 2 Add) ∷
-    here (store 0 (range (lit 0) (lit 2) ∷ []) 1) ∷
+    here (store 0 (between (lit 0) (lit 2) ∷ []) 1) ∷
     []))
 
 -- `s(i) = s(i - 1) + 1`
@@ -124,7 +124,7 @@ recurrence = program (mem_of Dram int_type (8 ∷ []) None ∷ mem_of Sram int_t
     here (foreach Pipe (from 0 (lit 1) (lit 8) 1 4 ∷ []) (stmts (
     here (set_sram 1 (exprs (count 0 ∷ [])) (add (at 1 (sub (count 0) (lit 1) ∷ [])) (lit 1))) ∷
     []))) ∷
-    here (store 0 (range (lit 0) (lit 8) ∷ []) 1) ∷
+    here (store 0 (between (lit 0) (lit 8) ∷ []) 1) ∷
     []))
 
 -- `s(i) = s(i - 4) + 1`
@@ -137,7 +137,7 @@ far_recurrence = program (mem_of Dram int_type (16 ∷ []) None ∷ mem_of Sram 
     here (foreach Pipe (from 1 (lit 4) (lit 16) 1 4 ∷ []) (stmts (
     here (set_sram 1 (exprs (count 1 ∷ [])) (add (at 1 (sub (count 1) (lit 4) ∷ [])) (lit 1))) ∷
     []))) ∷
-    here (store 0 (range (lit 0) (lit 16) ∷ []) 1) ∷
+    here (store 0 (between (lit 0) (lit 16) ∷ []) 1) ∷
     []))
 
 -- the sum of 0 to 4 in a register

@@ -1,7 +1,7 @@
 -- Which memories an expression or a statement names: whether all of them pass a test.
 use Rattle.std.specs.Prelude.{ℕ, Bool, IsTrue, List, [], ◌∷◌}
 use Rattle.sp_tree.specs.PlainExpression.{PlainExpr, PlainExprKind, PlainExprs, expr, literal, counter, value, get_reg, get_arg, get_sram, get_line, deq, one, two, shift, mux, cast, no_expr, more_expr}
-use Rattle.sp_tree.specs.PlainStatement.{PlainSpan, single, range, PlainCounter, PlainStmt, PlainStmtKind, PlainStmts, stmt, declare, name, set_reg, set_out, set_sram, enq, load_sram, load_line, store, block, foreach, reduce, mem_reduce, fsm, branch, no_stmt, more_stmt}
+use Rattle.sp_tree.specs.PlainStatement.{PlainSpan, single, range, PlainCounter, PlainStmt, PlainStmtKind, PlainStmts, stmt, declare, name, set_reg, set_out, set_sram, enq, load_sram, load_line, store, gather, scatter, block, foreach, reduce, mem_reduce, fsm, branch, no_stmt, more_stmt}
 
 module _ (is : ℕ → Bool) where
   abbrev mutual
@@ -30,7 +30,7 @@ module _ (is : ℕ → Bool) where
   abbrev pub SpansName : List PlainSpan → Type 0
   SpansName [] = Unit {0}
   SpansName (single e ∷ spans) = Names e × SpansName spans
-  SpansName (range a b ∷ spans) = Names a × Names b × SpansName spans
+  SpansName (range a b par ∷ spans) = Names a × Names b × SpansName spans
 
   abbrev pub CountersName : List PlainCounter → Type 0
   CountersName [] = Unit {0}
@@ -50,6 +50,8 @@ module _ (is : ℕ → Bool) where
     StmtKindNames (load_sram sram dram spans) = IsTrue (is sram) × IsTrue (is dram) × SpansName spans
     StmtKindNames (load_line line dram spans) = IsTrue (is line) × IsTrue (is dram) × SpansName spans
     StmtKindNames (store dram spans sram) = IsTrue (is sram) × IsTrue (is dram) × SpansName spans
+    StmtKindNames (gather sram dram places count) = IsTrue (is sram) × IsTrue (is dram) × IsTrue (is places) × Names count
+    StmtKindNames (scatter dram places count sram) = IsTrue (is dram) × IsTrue (is places) × Names count × IsTrue (is sram)
     StmtKindNames (block style body) = BodyNames body
     StmtKindNames (foreach style counters body) = CountersName counters × BodyNames body
     StmtKindNames (reduce style fold acc counters body e comb) = IsTrue (is acc) × CountersName counters × BodyNames body × Names e

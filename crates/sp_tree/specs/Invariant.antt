@@ -1,10 +1,12 @@
 -- What holds of every program.
 use Rattle.std.specs.Prelude.{◌≡◌, ℕ, ◌≤◌, List, [], ◌∷◌, ◌++◌, map, filter, length, All}
+use Rattle.sp_words.specs.Names.{IsName}
 use Rattle.sp_words.specs.Ports.{PlainPort, PlainPorts}
-use Rattle.sp_tree.specs.Counts.{is_port, IsWithinLimits}
+use Rattle.sp_tree.specs.Counts.{is_port}
 use Rattle.sp_tree.specs.Elements.{numbers_below}
+use Rattle.sp_tree.specs.Limits.{IsWithinLimits}
 use Rattle.sp_tree.specs.Meaning.{is_arg, is_out, is_dram, numbers_of}
-use Rattle.sp_tree.specs.Names.{IsName, IsDeclaration}
+use Rattle.sp_tree.specs.Declarations.{IsDeclaration}
 use Rattle.sp_tree.specs.PlainProgram.{PlainMem, PlainProgram}
 use Rattle.sp_tree.specs.Structure.{mems_declared, vals_declared, counters_declared, depth}
 use Rattle.sp_tree.specs.Typing.{Scope, BodyTyped, with_mem, IsFresh, mem_at}

@@ -2,7 +2,8 @@
 use Rattle.std.specs.Prelude.{◌≡◌, ℕ, ◌<◌, ◌≤◌, Bool, false, IsTrue, List}
 use Rattle.sp_tree.specs.declared.statement.FaultKind.{FaultKind}
 use Rattle.sp_tree.specs.Meaning.{Outcome, ended, stopped, unfinished, seq}
-use Rattle.sp_tree.specs.PlainProgram.{PlainProgram, PlainInput}
+use Rattle.sp_words.specs.Ports.{PlainInput}
+use Rattle.sp_tree.specs.PlainProgram.{PlainProgram}
 use Rattle.sp_tree.specs.Shape.{Shape}
 use Rattle.sp_tree.specs.Step.{Step, Went, went, faulted, more}
 use Rattle.sp_tree.specs.Store.{Store}

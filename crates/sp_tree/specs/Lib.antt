@@ -1,15 +1,17 @@
 pub mod Accesses
 pub mod Counts
+pub mod Declarations
 pub mod Elements
 pub mod ExampleForms
 pub mod ExampleLoops
+pub mod ExampleStreams
 pub mod ExampleTransfers
 pub mod Expressions
 pub mod Footprint
 pub mod Invariant
 pub mod Laws
+pub mod Limits
 pub mod Meaning
-pub mod Names
 pub mod Operators
 pub mod Plain
 pub mod PlainExpression
@@ -21,6 +23,7 @@ pub mod Sequential
 pub mod Shape
 pub mod Step
 pub mod Store
+pub mod Streams
 pub mod Structure
 pub mod Tallies
 pub mod Transfers

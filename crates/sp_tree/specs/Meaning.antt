@@ -4,11 +4,13 @@ use Rattle.sp_words.specs.declared.kind.Kind.{Kind}
 use Rattle.sp_words.specs.declared.kind.Kind.TheVariants.{Dram, ArgIn, ArgOut}
 use Rattle.sp_words.specs.Memory.{words}
 use Rattle.sp_tree.specs.declared.statement.FaultKind.{FaultKind}
-use Rattle.sp_tree.specs.PlainProgram.{PlainMem, PlainProgram, PlainInput}
+use Rattle.sp_words.specs.Ports.{PlainInput}
+use Rattle.sp_tree.specs.PlainProgram.{PlainMem, PlainProgram}
 use Rattle.sp_tree.specs.Sequential.{run_all}
 use Rattle.sp_tree.specs.Shape.{Shape, ran, shapes}
 use Rattle.sp_tree.specs.Step.{Step, Went, went, faulted, more, ◌>>◌, turn}
 use Rattle.sp_tree.specs.Store.{Store, hold, words_of}
+use Rattle.sp_tree.specs.Streams.{roomy_in}
 
 -- how a program ends: with the words of its outputs and of its DRAMs, the turns that were taken, and what was run;
 -- at its first fault, of a kind and at a place of the text; or not within its turns
@@ -61,7 +63,7 @@ first_store p input =
 unfoldable pub run_program : PlainProgram → Step (List Shape)
 run_program p = do
   turn
-  run_all p.mems p.body
+  run_all p.mems (roomy_in p.mems p.body) p.body
 
 -- the words of the outputs, and those of the DRAMs, as they stand
 abbrev pub out_words : PlainProgram → Store → List ℕ

@@ -1,11 +1,10 @@
 -- The plain value of each part of a program as it is declared.
-use Rattle.std.specs.Prelude.{List, [], ◌∷◌, map, string_bytes}
-use Rattle.sp_words.specs.declared.interface.Input.{Input}
+use Rattle.std.specs.Prelude.{List, [], ◌∷◌, string_bytes}
 use Rattle.sp_tree.specs.declared.declaration.MemDecl.{MemDecl}
 use Rattle.sp_tree.specs.declared.expression.Expr.{Expr}
 use Rattle.sp_tree.specs.declared.expression.ExprKind.{ExprKind, Row_of-Expr, end_of-Expr, more_of-Expr, Lit, Count, Val, GetReg, GetArg, GetSram', GetLine', Deq, One', Two', Shift', Mux', Cast'}
 use Rattle.sp_tree.specs.PlainExpression.{PlainExpr, PlainExprKind, PlainExprs, expr, literal, counter, value, get_reg, get_arg, get_sram, get_line, deq, one, two, shift, mux, cast, no_expr, more_expr}
-use Rattle.sp_tree.specs.PlainProgram.{PlainMem, PlainInput}
+use Rattle.sp_tree.specs.PlainProgram.{PlainMem}
 
 abbrev mutual
   pub plain_kind : ExprKind → PlainExprKind
@@ -36,6 +35,3 @@ plain_exprs (e ∷ rest) = more_expr (plain_expr e) (plain_exprs rest)
 
 abbrev pub plain_mem : MemDecl → PlainMem
 plain_mem m = record { name = string_bytes m.name; kind = m.kind; ty = m.ty; dims = m.dims.items; start = m.start; place = m.at }
-
-abbrev pub plain_input : Input → PlainInput
-plain_input input = record { args = input.args.items; drams = map (λ words. words.items) input.drams.items }

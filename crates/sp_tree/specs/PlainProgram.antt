@@ -1,4 +1,4 @@
--- Programs as plain values, and their inputs.
+-- Programs as plain values.
 use Rattle.std.specs.Prelude.{ℕ, List, [], Option, None}
 use Rattle.sp_words.specs.declared.kind.Kind.{Kind}
 use Rattle.sp_words.specs.declared.kind.Kind.TheVariants.{Reg}
@@ -26,8 +26,3 @@ pub record PlainProgram : Type 0 where
   pub vals : List (List ℕ)
   pub counters : List (List ℕ)
   pub body : PlainStmts
-
--- the word of each argument, and the words of each DRAM in row-major order
-pub record PlainInput : Type 0 where
-  pub args : List ℕ
-  pub drams : List (List ℕ)

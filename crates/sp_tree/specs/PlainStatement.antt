@@ -4,10 +4,10 @@ use Rattle.sp_words.specs.declared.kind.Style.{Style}
 use Rattle.sp_tree.specs.declared.statement.Comb.{Comb}
 use Rattle.sp_tree.specs.PlainExpression.{PlainExpr, PlainExprs}
 
--- what a slice takes of one dimension: one index, or those from the first up to the second
+-- what a slice takes of one dimension: one index, or those from the first up to the second, in so many lanes
 pub data PlainSpan : Type 0 where
   single : PlainExpr → PlainSpan
-  range : (from until : PlainExpr) → PlainSpan
+  range : (from until : PlainExpr) → (par : ℕ) → PlainSpan
 
 pub record PlainCounter : Type 0 where
   pub number : ℕ
@@ -31,6 +31,8 @@ mutual
     load_sram : (sram dram : ℕ) → List PlainSpan → PlainStmtKind
     load_line : (line dram : ℕ) → List PlainSpan → PlainStmtKind
     store : (dram : ℕ) → List PlainSpan → (sram : ℕ) → PlainStmtKind
+    gather : (sram dram places : ℕ) → (count : PlainExpr) → PlainStmtKind
+    scatter : (dram places : ℕ) → (count : PlainExpr) → (sram : ℕ) → PlainStmtKind
     block : Style → PlainStmts → PlainStmtKind
     foreach : Style → List PlainCounter → PlainStmts → PlainStmtKind
     reduce : Style → (fold : Bool) → (acc : ℕ) → List PlainCounter → PlainStmts → (word : PlainExpr) → Comb → PlainStmtKind

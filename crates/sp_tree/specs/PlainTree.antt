@@ -5,13 +5,13 @@ use Rattle.sp_tree.specs.declared.statement.Span.{Span}
 use Rattle.sp_tree.specs.declared.statement.Span.TheVariants.{One, Range}
 use Rattle.sp_tree.specs.declared.statement.Stmt.{Stmt}
 use Rattle.sp_tree.specs.declared.statement.Ctl.{Ctl, Block', Foreach', Reduce', MemReduce', Fsm', Branch', Row_of-Stmt, end_of-Stmt, more_of-Stmt}
-use Rattle.sp_tree.specs.declared.statement.StmtKind.{StmtKind, Declare, Let, SetReg, SetOut, SetSram, Enq, LoadSram, LoadLine, Store, Control'}
+use Rattle.sp_tree.specs.declared.statement.StmtKind.{StmtKind, Declare, Let, SetReg, SetOut, SetSram, Enq, LoadSram, LoadLine, Store, Gather, Scatter, Control'}
 use Rattle.sp_tree.specs.Plain.{plain_expr, plain_exprs}
-use Rattle.sp_tree.specs.PlainStatement.{PlainSpan, single, range, PlainCounter, PlainStmt, PlainStmtKind, PlainStmts, stmt, declare, name, set_reg, set_out, set_sram, enq, load_sram, load_line, store, block, foreach, reduce, mem_reduce, fsm, branch, no_stmt, more_stmt}
+use Rattle.sp_tree.specs.PlainStatement.{PlainSpan, single, range, PlainCounter, PlainStmt, PlainStmtKind, PlainStmts, stmt, declare, name, set_reg, set_out, set_sram, enq, load_sram, load_line, store, gather, scatter, block, foreach, reduce, mem_reduce, fsm, branch, no_stmt, more_stmt}
 
 abbrev pub plain_span : Span → PlainSpan
 plain_span (One e) = single (plain_expr e)
-plain_span (Range a b) = range (plain_expr a) (plain_expr b)
+plain_span (Range a b par) = range (plain_expr a) (plain_expr b) par
 
 abbrev pub plain_counter : Counter → PlainCounter
 plain_counter c = record { number = c.id; from = plain_expr c.from; until = plain_expr c.until; step = c.by; par = c.par }
@@ -27,6 +27,8 @@ abbrev mutual
   plain_stmt_kind (LoadSram sram dram spans) = load_sram sram dram (map plain_span spans.items)
   plain_stmt_kind (LoadLine line dram spans) = load_line line dram (map plain_span spans.items)
   plain_stmt_kind (Store dram spans sram) = store dram (map plain_span spans.items) sram
+  plain_stmt_kind (Gather sram dram places count) = gather sram dram places (plain_expr count)
+  plain_stmt_kind (Scatter dram places count sram) = scatter dram places (plain_expr count) sram
   plain_stmt_kind (Control' p ctl) = plain_ctl ctl
 
   pub plain_ctl : Ctl → PlainStmtKind

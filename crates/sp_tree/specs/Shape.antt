@@ -11,8 +11,8 @@ mutual
     turned : ℕ → Shapes → Shape
     -- an `if`, by whether its first block was taken, with that block's body
     branched : Bool → Shape → Shape
-    -- a transfer, by how many words it moved
-    moved : ℕ → Shape
+    -- a transfer, by how many words each of its lanes moved
+    moved : (lanes : List ℕ) → Shape
 
   pub data Shapes : Type 0 where
     no_shape : Shapes

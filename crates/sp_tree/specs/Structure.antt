@@ -1,8 +1,8 @@
 -- What stands in a body: its declarations in the order of the text, how deep its controllers stand one inside another,
 -- and which of its statements are stages.
 use Rattle.std.specs.Prelude.{ℕ, ◌+◌, ◌*◌, max, ◌==◌, not, Bool, true, false, List, [], ◌∷◌, ◌++◌, map, filter, flat_map, Some, None, if◌then◌else◌}
-use Rattle.sp_tree.specs.PlainStatement.{PlainCounter, PlainStmtKind, PlainStmts, stmt, declare, name, load_sram, load_line, store, block, foreach, reduce, mem_reduce, fsm, branch, no_stmt, more_stmt}
-use Rattle.sp_tree.specs.Tallies.{Tally, nothing, ◌&◌, tally, slice_tally, bound_tallies, primitive}
+use Rattle.sp_tree.specs.PlainStatement.{PlainSpan, single, range, PlainCounter, PlainStmtKind, PlainStmts, stmt, declare, name, set_reg, set_out, set_sram, enq, load_sram, load_line, store, gather, scatter, block, foreach, reduce, mem_reduce, fsm, branch, no_stmt, more_stmt}
+use Rattle.sp_tree.specs.Tallies.{Tally, nothing, ◌&◌, uses_of, tally, slice_tally, bound_tallies, primitive}
 
 -- the numbers of the memories, values and counters that are declared, in order
 abbrev mutual
@@ -67,10 +67,22 @@ abbrev mutual
   depth_in (branch test first second) = 1 + max (depth first) (depth second)
   depth_in _ = 0
 
+-- the memories that the statements of a body declare themselves
+abbrev pub own_mems : PlainStmts → List ℕ
+own_mems no_stmt = []
+own_mems (more_stmt (stmt place (declare m)) rest) = m ∷ own_mems rest
+own_mems (more_stmt _ rest) = own_mems rest
+
 -- the lanes of a controller
 abbrev pub lanes_of : List PlainCounter → ℕ
 lanes_of [] = 1
 lanes_of (c ∷ counters) = c.par * lanes_of counters
+
+-- and of a slice
+abbrev pub slice_lanes : List PlainSpan → ℕ
+slice_lanes [] = 1
+slice_lanes (single e ∷ spans) = slice_lanes spans
+slice_lanes (range a b par ∷ spans) = par * slice_lanes spans
 
 -- a body without controllers and transfers is inner
 abbrev pub is_inner : PlainStmts → Bool
@@ -80,46 +92,63 @@ is_inner (more_stmt (stmt place kind) rest) = elim (primitive kind) [ Some t ↦
 -- bounds and slices that read an SRAM or a line buffer are computed in a stage before their controller or transfer,
 -- others in it
 abbrev pub stages_before : List Tally → List (List ℕ)
-stages_before ts = map (λ t. t.uses) (filter (λ t. t.arrays) ts)
+stages_before ts = map uses_of (filter (λ t. t.arrays) ts)
 
 abbrev pub uses_inside : List Tally → List ℕ
-uses_inside ts = flat_map (λ t. t.uses) (filter (λ t. not t.arrays) ts)
+uses_inside ts = flat_map uses_of (filter (λ t. not t.arrays) ts)
 
--- the bounds of a controller, and the slice of a transfer
+-- the bounds of a controller, the slice of a transfer, and the number of words of a gather or scatter
 abbrev pub outside : PlainStmtKind → List Tally
 outside (load_sram sram dram spans) = slice_tally spans ∷ []
 outside (load_line line dram spans) = slice_tally spans ∷ []
 outside (store dram spans sram) = slice_tally spans ∷ []
+outside (gather sram dram places count) = tally count ∷ []
+outside (scatter dram places count sram) = tally count ∷ []
 outside (foreach style counters body) = bound_tallies counters
 outside (reduce style fold acc counters body word comb) = bound_tallies counters
 outside (mem_reduce style acc counters body part comb) = bound_tallies counters
-outside _ = []
+outside (declare m) = []
+outside (name v e) = []
+outside (set_reg m e) = []
+outside (set_out m e) = []
+outside (set_sram m indices e) = []
+outside (enq m e) = []
+outside (block style body) = []
+outside (fsm start tested test state body last next) = []
+outside (branch test first second) = []
 
 -- the memories that are used by a statement that is no controller and no transfer
 abbrev pub primitive_uses : PlainStmtKind → List ℕ
-primitive_uses kind = elim (primitive kind) [ Some t ↦ t.uses | None ↦ [] ]
+primitive_uses kind = elim (primitive kind) [ Some t ↦ uses_of t | None ↦ [] ]
 
 -- the memories that are used anywhere in a body, and inside a controller or transfer
 abbrev mutual
   pub body_uses : PlainStmts → List ℕ
   body_uses no_stmt = []
-  body_uses (more_stmt (stmt place kind) rest) = primitive_uses kind ++ flat_map (λ t. t.uses) (outside kind) ++ inside kind ++ body_uses rest
+  body_uses (more_stmt (stmt place kind) rest) = primitive_uses kind ++ flat_map uses_of (outside kind) ++ inside kind ++ body_uses rest
 
   pub inside : PlainStmtKind → List ℕ
   inside (load_sram sram dram spans) = sram ∷ dram ∷ []
   inside (load_line line dram spans) = line ∷ dram ∷ []
   inside (store dram spans sram) = dram ∷ sram ∷ []
+  inside (gather sram dram places count) = sram ∷ dram ∷ places ∷ []
+  inside (scatter dram places count sram) = dram ∷ places ∷ sram ∷ []
   inside (block style body) = body_uses body
   inside (foreach style counters body) = body_uses body
-  inside (reduce style fold acc counters body word comb) = acc ∷ body_uses body ++ (tally word).uses
+  inside (reduce style fold acc counters body word comb) = acc ∷ body_uses body ++ uses_of (tally word)
   inside (mem_reduce style acc counters body part comb) = acc ∷ part ∷ body_uses body
-  inside (fsm start tested test state body last next) = (tally start & tally test & tally next).uses ++ body_uses body
-  inside (branch test first second) = (tally test).uses ++ body_uses first ++ body_uses second
-  inside _ = []
+  inside (fsm start tested test state body last next) = uses_of (tally start & tally test & tally next) ++ body_uses body
+  inside (branch test first second) = uses_of (tally test) ++ body_uses first ++ body_uses second
+  inside (declare m) = []
+  inside (name v e) = []
+  inside (set_reg m e) = []
+  inside (set_out m e) = []
+  inside (set_sram m indices e) = []
+  inside (enq m e) = []
 
 -- an inner stage, if it has an operation
 abbrev pub inner_stage : Tally → List (List ℕ)
-inner_stage t = if t.operations == 0 then [] else t.uses ∷ []
+inner_stage t = if t.operations == 0 then [] else uses_of t ∷ []
 
 -- the stages of a body that isn't inner, each by the memories that it uses: a stage for each run of statements that are
 -- neither controllers nor transfers, of which some stand before the first statement here; `tail` is one more such

@@ -1,11 +1,10 @@
 -- Slices of a DRAM, and the words that a transfer moves.
-use Rattle.std.specs.Prelude.{ℕ, zero, suc, ◌+◌, ◌==◌, nat_le, Bool, true, false, ◌&&◌, ◌||◌, ℤ, pos, int_le, List, [], ◌∷◌, ◌++◌, map, drop, Option, Some, None}
+use Rattle.std.specs.Prelude.{ℕ, zero, suc, ◌+◌, ◌-◌, ◌*◌, ◌/◌, ◌==◌, nat_le, nat_lt, Bool, true, false, ◌&&◌, ◌||◌, ℤ, pos, int_le, List, [], ◌∷◌, ◌++◌, map, drop, Option, Some, None}
 use Rattle.sp_words.specs.Memory.{rows}
-use Rattle.sp_words.specs.Interface.{word_count}
 use Rattle.sp_tree.specs.declared.statement.FaultKind.{FaultKind}
-use Rattle.sp_tree.specs.declared.statement.FaultKind.TheVariants.{DramBounds}
+use Rattle.sp_tree.specs.declared.statement.FaultKind.TheVariants.{Bounds, DramBounds}
 use Rattle.sp_tree.specs.Accesses.{read_cell, write_cell, read_word, write_word, hold_now}
-use Rattle.sp_tree.specs.Elements.{natural, is_below, row_major, numbers_below, tuples, length_between}
+use Rattle.sp_tree.specs.Elements.{index_value, natural, is_below, row_major, numbers_below, tuples, length_between}
 use Rattle.sp_tree.specs.Step.{Step, pure, ◌>>=◌, ◌>>◌, turn, ensure, read, in_order}
 use Rattle.sp_tree.specs.Store.{rows_of}
 
@@ -79,13 +78,47 @@ load_row line width dram dims parts = do
   rs ← read (λ s. rows_of (s.held line))
   hold_now line (rows (drop 1 rs ++ row_of width ws ∷ []))
 
--- a transfer: nothing where a range is empty; else its checks in order, and then its words. It gives how many.
-abbrev pub transfer : {A : Type 0} → (place : ℕ) → (dims : List ℕ) → List Part → (too_long : FaultKind) → (limits : List ℕ) → Step A → Step ℕ
+-- a transfer: nothing where a range is empty; else its checks in order, and then its words
+abbrev pub transfer : {A : Type 0} → (place : ℕ) → (dims : List ℕ) → List Part → (too_long : FaultKind) → (limits : List ℕ) → Step A → Step (Unit {0})
 transfer place dims parts too_long limits move = elim (has_none (lengths parts)) [
-  | true ↦ pure 0
+  | true ↦ pure tt
   | false ↦ do
     ensure (are_parts_inside dims parts) DramBounds place
     ensure (do_fit limits (lengths parts)) too_long place
     move
-    pure (word_count (lengths parts))
+    pure tt
 ]
+
+-- how many words each lane of a slice moves: of the last range, in each row, every so many-th
+abbrev pub words_in_lane : (par lane : ℕ) → (lengths : List ℕ) → ℕ
+words_in_lane par lane [] = 1
+words_in_lane par lane (n ∷ []) = (n + (par - 1 - lane)) / par
+words_in_lane par lane (n ∷ ns) = n * words_in_lane par lane ns
+
+abbrev pub words_by_lane : (par : ℕ) → (lengths : List ℕ) → List ℕ
+words_by_lane par lengths = map (λ lane. words_in_lane par lane lengths) (numbers_below par)
+
+-- the place of a DRAM of so many words that the k-th element of an SRAM of so many holds
+abbrev pub place_held : (places held : ℕ) → (dram_words : ℕ) → (k place : ℕ) → Step ℕ
+place_held places held dram_words k place = do
+  ensure (nat_lt k held) Bounds place
+  word ← read_cell places k place
+  ensure (is_below (index_value word) dram_words) DramBounds place
+  pure (natural (index_value word))
+
+-- the words at these places, one by one, into the elements of an SRAM of so many words, and from them
+abbrev pub gather_words : (place : ℕ) → (sram size : ℕ) → (dram dram_words : ℕ) → (places held : ℕ) → (count : ℕ) → Step (List (Unit {0}))
+gather_words place sram size dram dram_words places held count = in_order (λ k. do
+  at ← place_held places held dram_words k place
+  ensure (nat_lt k size) Bounds place
+  word ← read_word dram at
+  turn
+  write_cell sram k word) (numbers_below count)
+
+abbrev pub scatter_words : (place : ℕ) → (dram dram_words : ℕ) → (places held : ℕ) → (count : ℕ) → (sram size : ℕ) → Step (List (Unit {0}))
+scatter_words place dram dram_words places held count sram size = in_order (λ k. do
+  at ← place_held places held dram_words k place
+  ensure (nat_lt k size) Bounds place
+  word ← read_cell sram k place
+  turn
+  write_word dram at word) (numbers_below count)

@@ -1,24 +1,26 @@
 -- When a program is typed: what stands where, with which type, under which names.
-use Rattle.std.specs.Prelude.{◌≡◌, ◌≢◌, ℕ, ◌+◌, ◌<◌, ◌≤◌, ◌==◌, Bool, true, false, not, List, [], ◌∷◌, ◌++◌, map, length, slice_index_or, Contains}
+use Rattle.std.specs.Prelude.{◌≡◌, ◌≢◌, ℕ, ◌+◌, ◌<◌, ◌≤◌, ◌==◌, Bool, not, List, [], ◌∷◌, ◌++◌, map, length, slice_index_or, Contains, ◌⊎◌}
 use Rattle.sp_words.specs.declared.kind.BinOp.{BinOp}
 use Rattle.sp_words.specs.declared.kind.BinOp.TheVariants as binary
 use Rattle.sp_words.specs.declared.kind.Kind.{Kind}
 use Rattle.sp_words.specs.declared.kind.Kind.TheVariants.{Reg, Sram, Fifo, LineBuf, Dram, ArgIn, ArgOut}
 use Rattle.sp_words.specs.declared.kind.Style.{Style}
-use Rattle.sp_words.specs.declared.kind.Style.TheVariants.{Parallel}
+use Rattle.sp_words.specs.declared.kind.Style.TheVariants.{Pipe, Sequential, Parallel, Stream}
 use Rattle.sp_words.specs.declared.kind.UnOp.{UnOp}
 use Rattle.sp_words.specs.declared.kind.UnOp.TheVariants as unary
 use Rattle.sp_words.specs.declared.types.Ty.{Ty}
 use Rattle.sp_words.specs.declared.types.Ty.TheVariants.{Bit}
+use Rattle.sp_words.specs.Interface.{IsCount}
 use Rattle.sp_words.specs.Types.{int_type}
 use Rattle.sp_words.specs.Words.{IsWord}
 use Rattle.sp_tree.specs.declared.statement.Comb.{Comb}
 use Rattle.sp_tree.specs.declared.statement.Comb.TheVariants as combiner
 use Rattle.sp_tree.specs.Footprint.{Names, BodyNames}
-use Rattle.sp_tree.specs.Names.{IsCount}
 use Rattle.sp_tree.specs.PlainExpression.{PlainExpr, PlainExprKind, PlainExprs, expr, literal, counter, value, get_reg, get_arg, get_sram, get_line, deq, one, two, shift, mux, cast, no_expr, more_expr, type_of}
 use Rattle.sp_tree.specs.PlainProgram.{PlainMem, no_mem, PlainProgram}
-use Rattle.sp_tree.specs.PlainStatement.{PlainSpan, single, range, PlainCounter, PlainStmtKind, PlainStmts, stmt, declare, name, set_reg, set_out, set_sram, enq, load_sram, load_line, store, block, foreach, reduce, mem_reduce, fsm, branch, no_stmt, more_stmt}
+use Rattle.sp_tree.specs.Streams.{is_fifo}
+use Rattle.sp_tree.specs.Structure.{own_mems, slice_lanes}
+use Rattle.sp_tree.specs.PlainStatement.{PlainSpan, single, range, PlainCounter, PlainStmtKind, PlainStmts, stmt, declare, name, set_reg, set_out, set_sram, enq, load_sram, load_line, store, gather, scatter, block, foreach, reduce, mem_reduce, fsm, branch, no_stmt, more_stmt}
 
 -- what is visible at a place: memories, values with their types, and counters, by number
 pub record Scope : Type 0 where
@@ -63,35 +65,34 @@ CombTyped combiner.Or ty = Unit {0}
 CombTyped combiner.Xor ty = Unit {0}
 CombTyped _ ty = IsNumber ty
 
--- a controller other than a block isn't Parallel
+-- a loop is a pipe or a sequence
 abbrev pub IsLoopStyle : Style → Type 0
-IsLoopStyle style = style ≢ Parallel
+IsLoopStyle Pipe = Unit {0}
+IsLoopStyle Sequential = Unit {0}
+IsLoopStyle Parallel = ⊥
+IsLoopStyle Stream = ⊥
 
 abbrev pub expr_count : PlainExprs → ℕ
 expr_count no_expr = 0
 expr_count (more_expr e rest) = 1 + expr_count rest
 
-abbrev pub is_fifo : Kind → Bool
-is_fifo Fifo = true
-is_fifo _ = false
-
 -- how many ranges a slice has, and whether only its last span is one
 abbrev pub range_count : List PlainSpan → ℕ
 range_count [] = 0
 range_count (single e ∷ spans) = range_count spans
-range_count (range a b ∷ spans) = 1 + range_count spans
+range_count (range a b par ∷ spans) = 1 + range_count spans
 
 abbrev pub EndsInRange : List PlainSpan → Type 0
 EndsInRange [] = ⊥
-EndsInRange (range a b ∷ []) = Unit {0}
+EndsInRange (range a b par ∷ []) = Unit {0}
 EndsInRange (single e ∷ spans) = EndsInRange spans
 EndsInRange _ = ⊥
 
--- the memories that the statements of a body declare themselves
-abbrev pub own_mems : PlainStmts → List ℕ
-own_mems no_stmt = []
-own_mems (more_stmt (stmt place (declare m)) rest) = m ∷ own_mems rest
-own_mems (more_stmt _ rest) = own_mems rest
+-- only the last range may have several lanes
+abbrev pub LanesAtLastRange : List PlainSpan → Type 0
+LanesAtLastRange [] = Unit {0}
+LanesAtLastRange (single e ∷ spans) = LanesAtLastRange spans
+LanesAtLastRange (range a b par ∷ spans) = ((par ≡ 1) ⊎ (range_count spans ≡ 0)) × LanesAtLastRange spans
 
 -- what is visible after a statement, and after all statements of a body
 abbrev pub after : Scope → PlainStmtKind → Scope
@@ -167,13 +168,21 @@ module _ (p : PlainProgram) where
   abbrev pub SpansTyped : Scope → List PlainSpan → Type 0
   SpansTyped scope [] = Unit {0}
   SpansTyped scope (single e ∷ spans) = HasTypeStill scope int_type e × SpansTyped scope spans
-  SpansTyped scope (range a b ∷ spans) = HasTypeStill scope int_type a × HasTypeStill scope int_type b × SpansTyped scope spans
+  SpansTyped scope (range a b par ∷ spans) = HasTypeStill scope int_type a × HasTypeStill scope int_type b × IsCount par × SpansTyped scope spans
 
   -- a slice of a DRAM, of its type, with one span for each dimension
   pub record IsSlice (scope : Scope) (dram : ℕ) (ty : Ty) (spans : List PlainSpan) : Type 0 where
     pub from_dram : IsMem scope dram Dram ty
     pub spans_typed : SpansTyped scope spans
     pub span_for_each : length spans ≡ length (mem_at dram).dims
+
+  -- places of a DRAM of a type, which an SRAM holds, and how many of them
+  pub record IsSparse (scope : Scope) (dram : ℕ) (ty : Ty) (places : ℕ) (count : PlainExpr) : Type 0 where
+    pub in_dram : IsMem scope dram Dram ty
+    pub one_dimension : length (mem_at dram).dims ≡ 1
+    pub from_sram : IsMem scope places Sram int_type
+    pub one_row : length (mem_at places).dims ≡ 1
+    pub how_many : HasTypeStill scope int_type count
 
   -- the bounds of counters, which are evaluated outside of their loop; only the last one may have several lanes
   abbrev pub BoundsTyped : Scope → List PlainCounter → Type 0
@@ -216,10 +225,16 @@ module _ (p : PlainProgram) where
     StmtTyped scope (enq m e) = IsMem scope m Fifo (type_of e) × Typed scope e
     StmtTyped scope (load_sram sram dram spans) =
         IsMem scope sram Sram (mem_at sram).ty × IsSlice scope dram (mem_at sram).ty spans × (range_count spans ≡ length (mem_at sram).dims)
+        × LanesAtLastRange spans
     StmtTyped scope (load_line line dram spans) =
-        IsMem scope line LineBuf (mem_at line).ty × IsSlice scope dram (mem_at line).ty spans × EndsInRange spans
+        IsMem scope line LineBuf (mem_at line).ty × IsSlice scope dram (mem_at line).ty spans × EndsInRange spans × (slice_lanes spans ≡ 1)
     StmtTyped scope (store dram spans sram) =
         IsMem scope sram Sram (mem_at sram).ty × IsSlice scope dram (mem_at sram).ty spans × (range_count spans ≡ length (mem_at sram).dims)
+        × LanesAtLastRange spans
+    StmtTyped scope (gather sram dram places count) =
+        IsMem scope sram Sram (mem_at sram).ty × IsSparse scope dram (mem_at sram).ty places count × (length (mem_at sram).dims ≡ 1)
+    StmtTyped scope (scatter dram places count sram) =
+        IsMem scope sram Sram (mem_at sram).ty × IsSparse scope dram (mem_at sram).ty places count × (length (mem_at sram).dims ≡ 1)
     StmtTyped scope (block style body) = BodyTyped scope body
     StmtTyped scope (foreach style counters body) = IsLoopStyle style × CountersTyped scope counters × BodyTyped (with_counters scope counters) body
     StmtTyped scope (reduce style fold acc counters body word comb) =

@@ -7,9 +7,13 @@ ghost use Rattle.sp_tree.specs.Counts.{counts_of};
 ghost use Rattle.sp_tree.specs.Elements.{numbers_below};
 ghost use Rattle.sp_tree.specs.ExampleForms.{input, named, results, shape_of};
 ghost use Rattle.sp_tree.specs.ExampleLoops.{sum_program, one_iteration, no_iteration, folded, unwritten_fold, counting_down, register_between, early_read, full_queue, queued, memory_reduced, recurrence, far_recurrence, running_sum, two_loops};
+ghost use Rattle.sp_tree.specs.ExampleStreams.{stream_mems, doubled, streamed, left_over, joined_twice, streamed_twice, lone_stage, with_value, with_loop_inside, two_put, two_take, puts_and_takes, shares_register, reads_register, shares_outer_queue, bound_in_array, ring, scattered, far_gather, unwritten_scatter, widely_copied};
 ghost use Rattle.sp_tree.specs.ExampleTransfers.{dot_product, squares, histogram, transposed, sums_of_two, sums_of_three, gathered, line_filter, copied, overlapping_stores, wide_words, empty_slice, slice_outside, long_slice, mixed_stages};
 ghost use Rattle.sp_tree.specs.Invariant.{IsProgram};
 ghost use Rattle.sp_tree.specs.Meaning.{seq, stopped, unfinished};
+ghost use Rattle.sp_tree.specs.PlainStatement.{no_stmt};
+ghost use Rattle.sp_tree.specs.Streams.{is_proper};
+ghost use Rattle.sp_tree.specs.Transfers.{words_by_lane};
 ghost use Rattle.sp_tree.specs.Shape.{shapes, ran, looped, turned, branched, moved, no_shape};
 
 /// Programs of loops, registers and queues: the outputs, the DRAMs and the turns, or the fault and its place.
@@ -58,12 +62,51 @@ pub fn worked_transfers()
     ensures mixed_stages { results (seq 200 mixed_stages (input [] ((1 ∷ 2 ∷ 3 ∷ 4 ∷ []) ∷ []))) ≡ Some ((52 ∷ []), ((1 ∷ 2 ∷ 3 ∷ 4 ∷ []) ∷ []), 68) }
 {}
 
-/// How often things were done, for four of these programs.
+/// Programs of stream blocks, gathers and scatters, and slices of several lanes.
+pub fn worked_streams()
+    ensures streamed { results (seq 100 streamed (input [] [])) ≡ Some ((56 ∷ []), [], 49) }
+    ensures two_words_left_over { results (seq 100 (left_over 6) (input [] [])) ≡ Some ((5 ∷ []), [], 33) }
+    ensures three_words_left_over { seq 100 (left_over 5) (input [] []) ≡ stopped FifoFull 29 }
+    ensures joined_twice { seq 100 streamed_twice (input [] []) ≡ stopped FifoFull 7 }
+    ensures scattered { results (seq 100 scattered (input [] ((10 ∷ 20 ∷ 30 ∷ 40 ∷ 50 ∷ 60 ∷ 70 ∷ 80 ∷ []) ∷ (3 ∷ 0 ∷ 7 ∷ 7 ∷ []) ∷ replicate 8 0 ∷ []))) ≡ Some ([], ((10 ∷ 20 ∷ 30 ∷ 40 ∷ 50 ∷ 60 ∷ 70 ∷ 80 ∷ []) ∷ (3 ∷ 0 ∷ 7 ∷ 7 ∷ []) ∷ (10 ∷ 0 ∷ 0 ∷ 40 ∷ 0 ∷ 0 ∷ 0 ∷ 80 ∷ []) ∷ []), 18) }
+    ensures place_past_the_end { seq 100 scattered (input [] (replicate 8 0 ∷ (3 ∷ 0 ∷ 8 ∷ 7 ∷ []) ∷ replicate 8 0 ∷ [])) ≡ stopped DramBounds 136 }
+    ensures gathered_past_its_end { seq 100 (far_gather 3 4) (input [] (replicate 8 0 ∷ replicate 4 0 ∷ [])) ≡ stopped Bounds 5 }
+    ensures place_before_element { seq 100 (far_gather 3 4) (input [] (replicate 8 0 ∷ (0 ∷ 0 ∷ 8 ∷ 0 ∷ []) ∷ [])) ≡ stopped DramBounds 5 }
+    ensures unwritten_place { seq 100 (far_gather 2 1) (input [] (replicate 8 0 ∷ replicate 4 0 ∷ [])) ≡ stopped Unwritten 5 }
+    ensures unwritten_word { seq 100 unwritten_scatter (input [] (replicate 8 0 ∷ replicate 4 0 ∷ [])) ≡ stopped Unwritten 5 }
+    ensures nothing_gathered { results (seq 9 (far_gather 4294967295 4) (input [] (replicate 8 0 ∷ replicate 4 9 ∷ []))) ≡ Some ([], (replicate 8 0 ∷ replicate 4 9 ∷ []), 9) }
+    ensures copied { results (seq 100 widely_copied (input [] ((1 ∷ 2 ∷ 3 ∷ 4 ∷ 5 ∷ 6 ∷ 7 ∷ 8 ∷ []) ∷ replicate 8 0 ∷ []))) ≡ Some ([], ((1 ∷ 2 ∷ 3 ∷ 4 ∷ 5 ∷ 6 ∷ 7 ∷ 8 ∷ []) ∷ (1 ∷ 2 ∷ 3 ∷ 4 ∷ 5 ∷ 6 ∷ 7 ∷ 8 ∷ []) ∷ []), 26) }
+{}
+
+/// Which stream blocks are proper.
+pub fn worked_blocks()
+    ensures empty { is_proper stream_mems no_stmt ≡ true }
+    ensures chain { is_proper stream_mems doubled ≡ true }
+    ensures lone_stage { is_proper stream_mems lone_stage ≡ true }
+    ensures reads_one_register { is_proper stream_mems reads_register ≡ true }
+    ensures joined_twice { is_proper stream_mems joined_twice ≡ false }
+    ensures ring { is_proper stream_mems ring ≡ false }
+    ensures value { is_proper stream_mems with_value ≡ false }
+    ensures loop_inside { is_proper stream_mems with_loop_inside ≡ false }
+    ensures two_put { is_proper stream_mems two_put ≡ false }
+    ensures two_take { is_proper stream_mems two_take ≡ false }
+    ensures puts_and_takes { is_proper stream_mems puts_and_takes ≡ false }
+    ensures shared_register { is_proper stream_mems shares_register ≡ false }
+    ensures shared_outer_queue { is_proper stream_mems shares_outer_queue ≡ false }
+    ensures bound_in_array { is_proper stream_mems bound_in_array ≡ false }
+{}
+
+/// How often things were done, for some of these programs.
 pub fn worked_shapes()
     ensures loop_without_iterations { shape_of (seq 100 no_iteration (input [] [])) ≡ Some (ran (shapes (looped (0 ∷ []) no_shape ∷ []))) }
     ensures fsm_turns { shape_of (seq 100 counting_down (input (5 ∷ []) [])) ≡ Some (ran (shapes (turned 5 (shapes (replicate 5 (ran no_shape))) ∷ []))) }
-    ensures loops_in_loops { shape_of (seq 100 overlapping_stores (input [] (replicate 5 0 ∷ []))) ≡ Some (ran (shapes (looped (4 ∷ []) (shapes (replicate 4 (ran (shapes (looped (2 ∷ []) (shapes (ran no_shape ∷ ran no_shape ∷ [])) ∷ moved 2 ∷ []))))) ∷ []))) }
-    ensures branches_and_transfers { shape_of (seq 1000 (line_filter 5 144) (input [] (numbers_below 20 ∷ replicate 6 0 ∷ []))) ≡ Some (ran (shapes (looped (4 ∷ []) (shapes (ran (shapes (moved 5 ∷ branched false (ran no_shape) ∷ [])) ∷ ran (shapes (moved 5 ∷ branched false (ran no_shape) ∷ [])) ∷ ran (shapes (moved 5 ∷ branched true (ran (shapes (looped (3 ∷ []) (shapes (replicate 3 (ran (shapes (looped (3 ∷ 3 ∷ []) (shapes (replicate 9 (ran no_shape))) ∷ []))))) ∷ moved 3 ∷ []))) ∷ [])) ∷ ran (shapes (moved 5 ∷ branched true (ran (shapes (looped (3 ∷ []) (shapes (replicate 3 (ran (shapes (looped (3 ∷ 3 ∷ []) (shapes (replicate 9 (ran no_shape))) ∷ []))))) ∷ moved 3 ∷ []))) ∷ [])) ∷ [])) ∷ []))) }
+    ensures loops_in_loops { shape_of (seq 100 overlapping_stores (input [] (replicate 5 0 ∷ []))) ≡ Some (ran (shapes (looped (4 ∷ []) (shapes (replicate 4 (ran (shapes (looped (2 ∷ []) (shapes (ran no_shape ∷ ran no_shape ∷ [])) ∷ moved (2 ∷ []) ∷ []))))) ∷ []))) }
+    ensures several_lanes { shape_of (seq 100 widely_copied (input [] (replicate 8 0 ∷ replicate 8 0 ∷ []))) ≡ Some (ran (shapes (looped (2 ∷ []) (shapes (replicate 2 (ran (shapes (moved (1 ∷ 1 ∷ 1 ∷ 1 ∷ []) ∷ moved (4 ∷ []) ∷ []))))) ∷ []))) }
+    ensures lanes_of_a_row { words_by_lane 4 (10 ∷ []) ≡ (3 ∷ 3 ∷ 2 ∷ 2 ∷ []) }
+    ensures lanes_of_two_rows { words_by_lane 4 (2 ∷ 3 ∷ []) ≡ (2 ∷ 2 ∷ 2 ∷ 0 ∷ []) }
+    ensures lanes_of_no_rows { words_by_lane 3 (0 ∷ 5 ∷ []) ≡ (0 ∷ 0 ∷ 0 ∷ []) }
+    ensures gathers { shape_of (seq 100 scattered (input [] (replicate 8 0 ∷ (3 ∷ 0 ∷ 7 ∷ 7 ∷ []) ∷ replicate 8 0 ∷ []))) ≡ Some (ran (shapes (moved (4 ∷ []) ∷ moved (4 ∷ []) ∷ moved (4 ∷ []) ∷ []))) }
+    ensures branches_and_transfers { shape_of (seq 1000 (line_filter 5 144) (input [] (numbers_below 20 ∷ replicate 6 0 ∷ []))) ≡ Some (ran (shapes (looped (4 ∷ []) (shapes (ran (shapes (moved (5 ∷ []) ∷ branched false (ran no_shape) ∷ [])) ∷ ran (shapes (moved (5 ∷ []) ∷ branched false (ran no_shape) ∷ [])) ∷ ran (shapes (moved (5 ∷ []) ∷ branched true (ran (shapes (looped (3 ∷ []) (shapes (replicate 3 (ran (shapes (looped (3 ∷ 3 ∷ []) (shapes (replicate 9 (ran no_shape))) ∷ []))))) ∷ moved (3 ∷ []) ∷ []))) ∷ [])) ∷ ran (shapes (moved (5 ∷ []) ∷ branched true (ran (shapes (looped (3 ∷ []) (shapes (replicate 3 (ran (shapes (looped (3 ∷ 3 ∷ []) (shapes (replicate 9 (ran no_shape))) ∷ []))))) ∷ moved (3 ∷ []) ∷ []))) ∷ [])) ∷ [])) ∷ []))) }
 {}
 
 /// The seven counts of these programs, in the order of their limits: nodes, lanes, operations of one run, operations,
@@ -77,6 +120,10 @@ pub fn worked_counts()
     ensures memory_reduced { counts_of memory_reduced ≡ 19 ∷ 1 ∷ 3 ∷ 4 ∷ 4 ∷ 8 ∷ 2 ∷ [] }
     ensures register_between { counts_of register_between ≡ 18 ∷ 1 ∷ 3 ∷ 5 ∷ 5 ∷ 5 ∷ 4 ∷ [] }
     ensures counting_down { counts_of counting_down ≡ 17 ∷ 1 ∷ 3 ∷ 8 ∷ 1 ∷ 2 ∷ 0 ∷ [] }
+    ensures streamed { counts_of streamed ≡ 23 ∷ 1 ∷ 3 ∷ 7 ∷ 131079 ∷ 5 ∷ 0 ∷ [] }
+    ensures streamed_twice { counts_of streamed_twice ≡ 26 ∷ 1 ∷ 4 ∷ 9 ∷ 11 ∷ 7 ∷ 0 ∷ [] }
+    ensures scattered { counts_of scattered ≡ 12 ∷ 1 ∷ 0 ∷ 3 ∷ 8 ∷ 12 ∷ 20 ∷ [] }
+    ensures widely_copied { counts_of widely_copied ≡ 16 ∷ 8 ∷ 0 ∷ 8 ∷ 4 ∷ 16 ∷ 16 ∷ [] }
     ensures queued { counts_of (queued 4) ≡ 19 ∷ 1 ∷ 2 ∷ 5 ∷ 8 ∷ 8 ∷ 4 ∷ [] }
 {}
 

@@ -5,7 +5,8 @@ ghost use Rattle.sp_tree.specs.Expressions.{word};
 ghost use Rattle.sp_tree.specs.Footprint.{Names, BodyNames};
 ghost use Rattle.sp_tree.specs.Laws.{IsDecidedByTurns, IsWithin};
 ghost use Rattle.sp_tree.specs.PlainExpression.{PlainExpr};
-ghost use Rattle.sp_tree.specs.PlainProgram.{PlainMem, PlainProgram, PlainInput};
+ghost use Rattle.sp_words.specs.Ports.{PlainInput};
+ghost use Rattle.sp_tree.specs.PlainProgram.{PlainMem, PlainProgram};
 ghost use Rattle.sp_tree.specs.PlainStatement.{PlainStmts};
 ghost use Rattle.sp_tree.specs.Sequential.{run_all};
 
@@ -18,6 +19,6 @@ pub fn turns_decide()
 /// A run changes and looks at only the memories that its statements name, and so does an expression. `is` is
 /// a test that all of these pass.
 pub fn runs_are_footprints()
-    ensures statements { (is : ℕ → Bool) (mems : List PlainMem) (body : PlainStmts) → BodyNames is body → IsWithin is (run_all mems body) }
+    ensures statements { (is : ℕ → Bool) (mems : List PlainMem) (roomy : List ℕ) (body : PlainStmts) → BodyNames is body → IsWithin is (run_all mems roomy body) }
     ensures expressions { (is : ℕ → Bool) (mems : List PlainMem) (e : PlainExpr) → Names is e → IsWithin is (word mems e) }
 {}

@@ -13,7 +13,8 @@ mod tests;
 
 pub use declaration::MemDecl;
 pub use examples::{
-    worked_counts, worked_loops, worked_programs_are_typed, worked_shapes, worked_transfers,
+    worked_blocks, worked_counts, worked_loops, worked_programs_are_typed, worked_shapes,
+    worked_streams, worked_transfers,
 };
 pub use expression::{Expr, ExprKind};
 pub use laws::{runs_are_footprints, turns_decide};

@@ -28,15 +28,21 @@ pub enum StmtKind {
     LoadLine(MemId<LineBuf>, MemId<Dram>, Vec<Span>),
     /// Words of an SRAM into a slice of a DRAM.
     Store(MemId<Dram>, Vec<Span>, MemId<Sram>),
+    /// The words of a DRAM at the places that the second SRAM holds, as many as the expression says, into
+    /// the first SRAM.
+    Gather(MemId<Sram>, MemId<Dram>, MemId<Sram>, Expr),
+    /// The words of the second SRAM, as many as the expression says, into a DRAM at the places that the
+    /// first SRAM holds.
+    Scatter(MemId<Dram>, MemId<Sram>, Expr, MemId<Sram>),
     Control(Box<Ctl>),
 }
 
 /// What a slice takes of one dimension of a DRAM: one index, or those from the first up to the second,
-/// which is not taken.
+/// which is not taken; of these, as many as the number says may be moved at once.
 #[derive(Debug, Drop)]
 pub enum Span {
     One(Expr),
-    Range(Expr, Expr),
+    Range(Expr, Expr, u32),
 }
 
 /// A counter: `from`, `from + by`, .. below `until`, of which `par` may be taken at once.
@@ -119,11 +125,12 @@ pub enum FaultKind {
     Bounds,
     /// A read of an element or a register that isn't written yet.
     Unwritten,
-    /// An `enq` on a FIFO that holds its depth.
+    /// An `enq` on a FIFO that holds its depth, or its room where a proper `Stream` block declares it; the end
+    /// of such a block of which a FIFO holds more words than its depth.
     FifoFull,
     /// A `deq` on an empty FIFO.
     FifoEmpty,
-    /// A slice outside of its DRAM.
+    /// A slice, or a place of a gather or scatter, outside of its DRAM.
     DramBounds,
     /// A row longer than its line buffer.
     RowLength,

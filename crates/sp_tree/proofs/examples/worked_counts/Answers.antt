@@ -1,6 +1,7 @@
 -- Each count is computed.
 use Rattle.std.proofs.Common.{refl}
 use Rattle.sp_tree.specs.ExampleLoops.{memory_reduced, register_between, counting_down, queued}
+use Rattle.sp_tree.specs.ExampleStreams.{streamed, streamed_twice, scattered, widely_copied}
 use Rattle.sp_tree.specs.ExampleTransfers.{dot_product, line_filter, mixed_stages, transposed, overlapping_stores}
 use Rattle.sp_tree.proofs.examples.worked_counts.Goals as goal
 
@@ -39,3 +40,19 @@ returns-clause-counting_down c = refl
 pub returns-clause-queued : goal.returns-clause-queued
 unfolding queued
 returns-clause-queued c = refl
+
+pub returns-clause-streamed : goal.returns-clause-streamed
+unfolding streamed
+returns-clause-streamed c = refl
+
+pub returns-clause-streamed_twice : goal.returns-clause-streamed_twice
+unfolding streamed_twice
+returns-clause-streamed_twice c = refl
+
+pub returns-clause-scattered : goal.returns-clause-scattered
+unfolding scattered
+returns-clause-scattered c = refl
+
+pub returns-clause-widely_copied : goal.returns-clause-widely_copied
+unfolding widely_copied
+returns-clause-widely_copied c = refl

@@ -1,10 +1,12 @@
 -- Each part is shown in turn; names are told apart by a number.
-use Rattle.std.proofs.Common.{refl, lit<, lit≤}
+use Rattle.std.proofs.Common.{refl, lit<, lit≤, inr}
 use Rattle.std.specs.Prelude.{[], ◌∷◌, codes}
 use Rattle.sp_tree.specs.ExampleForms.{named}
 use Rattle.sp_tree.specs.ExampleLoops.{counting_down}
 use Rattle.sp_tree.specs.ExampleTransfers.{dot_product}
-use Rattle.sp_tree.specs.Names.{IsName, IsCount, IsDeclaration}
+use Rattle.sp_words.specs.Interface.{IsCount}
+use Rattle.sp_words.specs.Names.{IsName}
+use Rattle.sp_tree.specs.Declarations.{IsDeclaration}
 use Rattle.sp_tree.proofs.Witnesses.{all_of, not_among, a_name, int_is_number}
 use Rattle.sp_tree.proofs.examples.worked_programs_are_typed.Goals as goal
 
@@ -19,7 +21,7 @@ returns-clause-dot_product c = record {
   counter_numbers = refl;
   ports = refl;
   port_names = ((not_among [] (codes "a") refl), ((not_among (codes "a" ∷ []) (codes "b") refl), ((not_among (codes "b" ∷ codes "a" ∷ []) (codes "y") refl), tt)));
-  typed = ((not_among (codes "a" ∷ codes "b" ∷ codes "y" ∷ []) (codes "acc") refl), (((λ e. absurd (cc)), (record { one_to_four = (lit≤ tt, lit≤ tt); bounds = ((((lit< tt), refl), tt), (((lit< tt), refl), tt), (lit≤ tt, lit< tt), (lit≤ tt, lit< tt), tt); lanes = tt; binders = ((not_among (codes "acc" ∷ codes "a" ∷ codes "b" ∷ codes "y" ∷ []) (codes "t") refl), tt) }), ((not_among (codes "acc" ∷ codes "a" ∷ codes "b" ∷ codes "y" ∷ codes "t" ∷ []) (codes "ta") refl), ((not_among (codes "ta" ∷ codes "acc" ∷ codes "a" ∷ codes "b" ∷ codes "y" ∷ codes "t" ∷ []) (codes "tb") refl), (((record { seen = (1, lit< tt, refl); is_kind = refl; is_type = refl }), (record { from_dram = (record { seen = (3, lit< tt, refl); is_kind = refl; is_type = refl }); spans_typed = (((((0, lit< tt, refl), refl), refl), tt), (((((0, lit< tt, refl), refl), (lit< tt), refl, (refl, int_is_number)), refl), (tt, tt)), tt); span_for_each = refl }), refl), (((record { seen = (0, lit< tt, refl); is_kind = refl; is_type = refl }), (record { from_dram = (record { seen = (4, lit< tt, refl); is_kind = refl; is_type = refl }); spans_typed = (((((0, lit< tt, refl), refl), refl), tt), (((((0, lit< tt, refl), refl), (lit< tt), refl, (refl, int_is_number)), refl), (tt, tt)), tt); span_for_each = refl }), refl), ((not_among (codes "tb" ∷ codes "ta" ∷ codes "acc" ∷ codes "a" ∷ codes "b" ∷ codes "y" ∷ codes "t" ∷ []) (codes "part") refl), (((λ e. absurd (cc)), (record { one_to_four = (lit≤ tt, lit≤ tt); bounds = ((((lit< tt), refl), tt), (((lit< tt), refl), tt), (lit≤ tt, lit< tt), (lit≤ tt, lit< tt), tt); lanes = tt; binders = ((not_among (codes "part" ∷ codes "tb" ∷ codes "ta" ∷ codes "acc" ∷ codes "a" ∷ codes "b" ∷ codes "y" ∷ codes "t" ∷ []) (codes "i") refl), tt) }), tt, (record { seen = (0, lit< tt, refl); is_kind = refl; is_type = refl }), int_is_number, (((record { seen = (2, lit< tt, refl); is_kind = refl; is_type = refl }), refl, (((0, lit< tt, refl), refl), refl, tt)), ((record { seen = (1, lit< tt, refl); is_kind = refl; is_type = refl }), refl, (((0, lit< tt, refl), refl), refl, tt)), refl, (refl, int_is_number)), tt, ((refl, (tt, tt)), (refl, (tt, tt)))), tt)))))), (record { seen = (0, lit< tt, refl); is_kind = refl; is_type = refl }), int_is_number, (record { seen = (0, lit< tt, refl); is_kind = refl; is_type = refl }), (refl, (refl, ((refl, refl, (tt, (tt, tt), tt)), ((refl, refl, (tt, (tt, tt), tt)), (refl, ((refl, (tt, tt, tt), tt, ((refl, (tt, tt)), (refl, (tt, tt)))), tt)))))), refl), (((record { seen = (3, lit< tt, refl); is_kind = refl; is_type = refl }), (record { seen = (0, lit< tt, refl); is_kind = refl; is_type = refl })), tt)));
+  typed = ((not_among (codes "a" ∷ codes "b" ∷ codes "y" ∷ []) (codes "acc") refl), ((tt, (record { one_to_four = (lit≤ tt, lit≤ tt); bounds = ((((lit< tt), refl), tt), (((lit< tt), refl), tt), (lit≤ tt, lit< tt), (lit≤ tt, lit< tt), tt); lanes = tt; binders = ((not_among (codes "acc" ∷ codes "a" ∷ codes "b" ∷ codes "y" ∷ []) (codes "t") refl), tt) }), ((not_among (codes "acc" ∷ codes "a" ∷ codes "b" ∷ codes "y" ∷ codes "t" ∷ []) (codes "ta") refl), ((not_among (codes "ta" ∷ codes "acc" ∷ codes "a" ∷ codes "b" ∷ codes "y" ∷ codes "t" ∷ []) (codes "tb") refl), (((record { seen = (1, lit< tt, refl); is_kind = refl; is_type = refl }), (record { from_dram = (record { seen = (3, lit< tt, refl); is_kind = refl; is_type = refl }); spans_typed = (((((0, lit< tt, refl), refl), refl), tt), (((((0, lit< tt, refl), refl), (lit< tt), refl, (refl, int_is_number)), refl), (tt, tt)), (lit≤ tt, lit< tt), tt); span_for_each = refl }), refl, (inr refl, tt)), (((record { seen = (0, lit< tt, refl); is_kind = refl; is_type = refl }), (record { from_dram = (record { seen = (4, lit< tt, refl); is_kind = refl; is_type = refl }); spans_typed = (((((0, lit< tt, refl), refl), refl), tt), (((((0, lit< tt, refl), refl), (lit< tt), refl, (refl, int_is_number)), refl), (tt, tt)), (lit≤ tt, lit< tt), tt); span_for_each = refl }), refl, (inr refl, tt)), ((not_among (codes "tb" ∷ codes "ta" ∷ codes "acc" ∷ codes "a" ∷ codes "b" ∷ codes "y" ∷ codes "t" ∷ []) (codes "part") refl), ((tt, (record { one_to_four = (lit≤ tt, lit≤ tt); bounds = ((((lit< tt), refl), tt), (((lit< tt), refl), tt), (lit≤ tt, lit< tt), (lit≤ tt, lit< tt), tt); lanes = tt; binders = ((not_among (codes "part" ∷ codes "tb" ∷ codes "ta" ∷ codes "acc" ∷ codes "a" ∷ codes "b" ∷ codes "y" ∷ codes "t" ∷ []) (codes "i") refl), tt) }), tt, (record { seen = (0, lit< tt, refl); is_kind = refl; is_type = refl }), int_is_number, (((record { seen = (2, lit< tt, refl); is_kind = refl; is_type = refl }), refl, (((0, lit< tt, refl), refl), refl, tt)), ((record { seen = (1, lit< tt, refl); is_kind = refl; is_type = refl }), refl, (((0, lit< tt, refl), refl), refl, tt)), refl, (refl, int_is_number)), tt, ((refl, (tt, tt)), (refl, (tt, tt)))), tt)))))), (record { seen = (0, lit< tt, refl); is_kind = refl; is_type = refl }), int_is_number, (record { seen = (0, lit< tt, refl); is_kind = refl; is_type = refl }), (refl, (refl, ((refl, refl, (tt, (tt, tt), tt)), ((refl, refl, (tt, (tt, tt), tt)), (refl, ((refl, (tt, tt, tt), tt, ((refl, (tt, tt)), (refl, (tt, tt)))), tt)))))), refl), (((record { seen = (3, lit< tt, refl); is_kind = refl; is_type = refl }), (record { seen = (0, lit< tt, refl); is_kind = refl; is_type = refl })), tt)));
   nested = lit≤ tt;
   limits = record { nodes = lit≤ tt; lanes = lit≤ tt; in_one_run = lit≤ tt; operations = lit≤ tt; words = lit≤ tt; copies = lit≤ tt; dram = lit≤ tt };
 }
