@@ -60,4 +60,7 @@ module _ (graph : List (List ℕ)) (marks : List Mark) (stack : List ℕ) (count
         in let to_inside : to < length marks = marked_is_node marks to (done_is_seen _ (mark_of marks to) up)
         in let k : to < length graph = omega (arith, s.marked.each_node)
         in omega (arith, number_up_to _ (mark_of marks to) up, number_at from h, number_at to k);
+    below = λ node h.
+        let few = s.marked.below node (number_of (mark_of marks node)) (done node h)
+        in omega (arith, few, s.marked.room, s.marked.each_node, number_at node h);
   }

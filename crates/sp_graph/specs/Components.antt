@@ -8,6 +8,8 @@ pub record AreComponents (graph : List (List ℕ)) (numbers : List ℕ) : Type 0
   pub each_node : length numbers ≡ length graph
   pub connected : (a b : ℕ) → a < length graph → b < length graph → slice_index numbers a ≡ slice_index numbers b → Path graph a b
   pub falling : (from to : ℕ) → IsEdge graph from to → slice_index numbers to ≤ slice_index numbers from
+  -- there are no more numbers than nodes
+  pub below : (node : ℕ) → node < length graph → slice_index numbers node < length graph
 
 -- Two nodes have equal numbers exactly where each reaches the other.
 abbrev pub EqualNumbersJoin : Type 0

@@ -8,7 +8,7 @@ use Rattle.std.proofs.lemmas.Fmt.{digits_decimal}
 use Rattle.std.proofs.lemmas.Str.Pattern.{IsSplitOnceResult, split_parts}
 use Rattle.std.proofs.lemmas.Str.Parse.{tells_by_index, numerals_by_value}
 use Rattle.std.proofs.lemmas.List.Elements.{All-nil, All-cons, All-head, All-tail, All-from_get_or, All-weaker}
-use Rattle.sp_netlist.specs.Rules.{is_name, is_letter, is_name_byte}
+use Rattle.sp_words.specs.Names.{IsName, is_name, is_letter, is_name_byte}
 use Rattle.sp_listing.specs.Readers.{Lacks, sign_text, counts_text}
 
 -- a text is cut at the first place of a byte in just one way
@@ -80,11 +80,14 @@ graphic_bytes (x ∷ xs) e =
     All-cons IsGraphic x xs (graphic_byte x (and_left (is_name_byte x) (list_all is_name_byte xs) e))
     (graphic_bytes xs (and_right (is_name_byte x) (list_all is_name_byte xs) e))
 
-pub graphic_name : (name : List ℕ) → IsTrue (is_name name) → All IsGraphic name
-graphic_name [] e = absurd (false≢true e)
-graphic_name (x ∷ xs) e =
+graphic_letters : (name : List ℕ) → IsTrue (is_name name) → All IsGraphic name
+graphic_letters [] e = absurd (false≢true e)
+graphic_letters (x ∷ xs) e =
     All-cons IsGraphic x xs (graphic_letter x (and_left (is_letter x) (list_all is_name_byte xs) e))
     (graphic_bytes xs (and_right (is_letter x) (list_all is_name_byte xs) e))
+
+pub graphic_name : (name : List ℕ) → IsName name → All IsGraphic name
+graphic_name name h = graphic_letters name h.letters
 
 decimal_digits : (n : ℕ) → n < 2 ^ 64 → (i : ℕ) → i < length (decimal n) → IsInRange 48 57 (get_or (decimal n) i 0)
 decimal_digits n small =

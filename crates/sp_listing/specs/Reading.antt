@@ -1,9 +1,10 @@
 -- Which cells a listing's lines may be, and the first line that breaks a rule.
-use Rattle.std.specs.Prelude.{◌≡◌, ◌≢◌, ℕ, ◌+◌, ◌^◌, ◌<◌, ◌≤◌, List, [], ◌∷◌, ◌++◌, IsTrue, codes, length, map, filter_map, count_by, All, Contains, ◌==◌}
+use Rattle.std.specs.Prelude.{◌≡◌, ◌≢◌, ℕ, ◌+◌, ◌^◌, ◌<◌, ◌≤◌, List, [], ◌∷◌, ◌++◌, codes, length, map, filter_map, count_by, All, Contains, ◌==◌}
 use Rattle.std.specs.List.{slice_split}
 use Rattle.sp_words.specs.declared.types.Ty.{Ty}
+use Rattle.sp_words.specs.Names.{IsName}
 use Rattle.sp_netlist.specs.Cells.{PlainCell, in_cell, out_cell, done_cell, const_cell, op_cell, not_cell, shift_cell, cast_cell, mux_cell, reg_cell, bank_cell, read_tap, write_tap, dram_cell, load_unit, store_unit}
-use Rattle.sp_netlist.specs.Rules.{is_name, is_done, is_bank, is_dram, is_unit, in_name, out_name, dram_name, IsWidth, IsLength}
+use Rattle.sp_netlist.specs.Rules.{is_done, is_bank, is_dram, is_unit, in_name, out_name, dram_name, IsWidth, IsLength}
 use Rattle.sp_netlist.specs.Refusals.{AreLines}
 use Rattle.sp_listing.specs.Text.{cell_text, listing_text}
 
@@ -16,8 +17,8 @@ IsDramNumber n = n < 2 ^ 32
 
 -- What a cell obeys whatever stands beside it: its names are names, and its numbers are in their ranges.
 abbrev pub IsFormed : PlainCell → Type 0
-IsFormed (in_cell name net ty) = IsTrue (is_name name) × IsNumber net
-IsFormed (out_cell name net ty) = IsTrue (is_name name) × IsNumber net
+IsFormed (in_cell name net ty) = IsName name × IsNumber net
+IsFormed (out_cell name net ty) = IsName name × IsNumber net
 IsFormed (done_cell net) = IsNumber net
 IsFormed (const_cell net width word) = IsNumber net × IsWidth width × (word < 2 ^ width)
 IsFormed (op_cell net ty op a b) = IsNumber net × IsNumber a × IsNumber b
@@ -29,7 +30,7 @@ IsFormed (reg_cell net width first next enable) = IsNumber net × IsWidth width 
 IsFormed (bank_cell bank width len) = IsNumber bank × IsWidth width × IsLength len
 IsFormed (read_tap net bank enable addr) = IsNumber net × IsNumber bank × IsNumber enable × IsNumber addr
 IsFormed (write_tap bank enable addr word) = IsNumber bank × IsNumber enable × IsNumber addr × IsNumber word
-IsFormed (dram_cell dram name ty dims) = IsDramNumber dram × IsTrue (is_name name) × (1 ≤ length dims) × (length dims ≤ 3) × All IsLength dims
+IsFormed (dram_cell dram name ty dims) = IsDramNumber dram × IsName name × (1 ≤ length dims) × (length dims ≤ 3) × All IsLength dims
 IsFormed (load_unit channel dram ready net request last addr) =
     IsNumber channel × IsDramNumber dram × IsNumber ready × IsNumber net × IsNumber request × IsNumber last × IsNumber addr
 IsFormed (store_unit channel dram ready request last addr word) =

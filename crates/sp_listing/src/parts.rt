@@ -1,43 +1,22 @@
 //! The parts of a listing's line, each from its word.
 ghost use Rattle.std.specs.Prelude.{◌≡◌, ◌≢◌, ◌≤◌, ◌<◌, ◌^◌, ◌↔◌, ℕ, List, [], ◌∷◌, ◌++◌, Bool, true, false, IsTrue, decimal, MatchOption};
-ghost use Rattle.std.specs.List.{list_all};
 ghost use Rattle.sp_words.specs.declared.types.Ty.{Ty};
 ghost use Rattle.sp_netlist.specs.declared.cell.CellOp.{CellOp};
 ghost use Rattle.sp_netlist.specs.declared.cell.CellShift.{CellShift};
-ghost use Rattle.sp_netlist.specs.Rules.{is_letter, is_name, is_name_byte, IsWidth, IsLength};
+ghost use Rattle.sp_netlist.specs.Rules.{IsWidth, IsLength};
 ghost use Rattle.sp_words.specs.declared.types.FixTy.{FixTy};
+ghost use Rattle.sp_words.specs.Names.{IsName};
 ghost use Rattle.sp_listing.specs.Text.{type_text, op_text, shift_text};
 ghost use Rattle.sp_listing.specs.Readers.{Lacks, sign_text, counts_text};
 
 use sp_netlist::{CellOp, CellShift, NetId};
-use sp_words::{FixTy, Ty};
+use sp_words::{FixTy, Ty, is_name, is_reserved};
 
-fn is_letter(byte: u8) -> bool
-    ensures { result ≡ is_letter byte }
+/// Whether the word is a name, and no word of the language.
+pub fn is_port_name(word: &str) -> bool
+    ensures { IsTrue result ↔ IsName word.now }
 {
-    byte.is_ascii_alphabetic()
-}
-
-fn is_name_byte(byte: u8) -> bool
-    ensures { result ≡ is_name_byte byte }
-{
-    is_letter(byte) || byte.is_ascii_digit() || byte == b'_'
-}
-
-fn are_name_bytes(bytes: &[u8]) -> bool
-    ensures { result ≡ list_all is_name_byte bytes.now }
-{
-    bytes.iter().all(|byte| is_name_byte(*byte))
-}
-
-/// Whether the word is a letter, then letters, digits and `_`.
-pub fn is_name(word: &str) -> bool
-    ensures { result ≡ is_name word.now }
-{
-    match word.as_bytes().split_first() {
-        Some((first, rest)) => is_letter(*first) && are_name_bytes(rest),
-        None => false,
-    }
+    is_name(word) && !is_reserved(word)
 }
 
 /// A number below 2^64, without leading zeros.

@@ -15,12 +15,12 @@ use Rattle.sp_netlist.proofs.SameRun.{step_same, only_net, one_of_two}
 use Rattle.sp_netlist.proofs.Alone.{some_cell, alone}
 
 -- the cell that passes a test
-record Passing (test : PlainCell → Bool) (xs : List PlainCell) : Type 0 where
-  item : PlainCell
-  split : Split xs item
-  passes : test item ≡ true
+pub record Passing (test : PlainCell → Bool) (xs : List PlainCell) : Type 0 where
+  pub item : PlainCell
+  pub split : Split xs item
+  pub passes : test item ≡ true
 
-passing : (test : PlainCell → Bool) (xs : List PlainCell) → SomeCell test xs → Passing test xs
+pub passing : (test : PlainCell → Bool) (xs : List PlainCell) → SomeCell test xs → Passing test xs
 passing test [] e = absurd (false≢true e)
 passing test (x ∷ xs) e = ⊎_elim (λ k. record { item = x; split = record { before = []; after = xs; is = refl }; passes = k }) (λ k. later (passing test xs k)) (or_cases (test x) (list_any test xs) e)
   where

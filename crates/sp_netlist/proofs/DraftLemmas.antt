@@ -97,7 +97,7 @@ drives_once cells (dram_cell dram name ty dims) net apart = omega arith
 drives_once cells (load_unit channel dram ready n request last addr) net apart = let t = at_most_one_of ready n net apart in omega (arith, t)
 drives_once cells (store_unit channel dram ready request last addr word) net apart = let t = at_most_one (ready == net) in omega (arith, t)
 
-count_by-map : {X Y : Type 0} (p : Y → Bool) (f : X → Y) (xs : List X) → count_by p (map f xs) ≡ count_by (λ x. p (f x)) xs
+pub count_by-map : {X Y : Type 0} (p : Y → Bool) (f : X → Y) (xs : List X) → count_by p (map f xs) ≡ count_by (λ x. p (f x)) xs
 count_by-map p f [] = refl
 count_by-map p f (x ∷ xs) =
     let one = sum_by-cons (λ y. cond (p y) 1 0) (f x) (map f xs) in
@@ -309,6 +309,7 @@ pub Keeps-refl : (d : Draft) → Keeps d d
 Keeps-refl d = record {
   promised = λ net width kept e. e;
   widths = λ net width e. e;
+  kept = λ net k. k;
   driven = λ net e. e;
   ready = λ net h. h;
   banks = λ bank within. (within, refl);
@@ -319,6 +320,7 @@ pub Keeps-trans : (a b c : Draft) → Keeps a b → Keeps b c → Keeps a c
 Keeps-trans a b c k l = record {
   promised = λ net width kept e. l.promised net width kept (k.promised net width kept e);
   widths = λ net width e. l.widths net width (k.widths net width e);
+  kept = λ net h. l.kept net (k.kept net h);
   driven = λ net e. l.driven net (k.driven net e);
   ready = λ net h. l.ready net (k.ready net h);
   banks = λ bank within. let first = k.banks bank within in let second = l.banks bank first.0 in (second.0, second.1 ∙ first.1);
@@ -329,6 +331,7 @@ pub Keeps-promise : (d : Draft) (width : ℕ) (kept : Bool) → Keeps d (with_pr
 Keeps-promise d width kept = record {
   promised = λ net w k e. slice_get_grown d.promised ((width, kept) ∷ []) net (w, k) e;
   widths = λ net w e. found_grown (λ n. n.0) d.promised ((width, kept) ∷ []) net w e;
+  kept = λ net k. found_grown (λ n. n.1) d.promised ((width, kept) ∷ []) net true k;
   driven = λ net e. e;
   ready = λ net h. elim h [ inl k ↦ inl (found_grown (λ n. n.1) d.promised ((width, kept) ∷ []) net true k) | inr e ↦ inr e ];
   banks = λ bank within. (within, refl);
@@ -341,6 +344,7 @@ Keeps-add d c h can =
     record {
       promised = λ net width kept e. e;
       widths = λ net width e. e;
+      kept = λ net k. k;
       driven = λ net e. (let grown = driver_count-push d.cells c net all can.right in let once = driven_once-push d c h all can net in omega (arith, e, grown, once));
       ready = λ net ready. IsReady-push d c net all can ready (driven_once-push d c h all can net);
       banks = λ bank within. (let grown = sum_by-append (λ x. cond (is_bank x) 1 0) d.cells (c ∷ []) in omega (arith, within, grown), bank_width-kept d.cells c bank can.right within);

@@ -25,7 +25,7 @@ dram_placed cells b n _ r pass = absurd (false≢true pass)
 pub dram_once : (cells : List PlainCell) → IsNetlist cells → (n : ℕ) → count_by (stands_for_dram n) cells ≤ 1
 dram_once cells h n = one_placed (stands_for_dram n) is_dram n 0 cells (λ b x a e. dram_placed cells b n x (h.right b x a e))
 
-channel_placed : (cells b : List PlainCell) (n : ℕ) (x : PlainCell) → IsRight cells b x → stands_for_channel n x ≡ true → (is_unit x ≡ true) × (n ≡ 0 + count_by is_unit b)
+pub channel_placed : (cells b : List PlainCell) (n : ℕ) (x : PlainCell) → IsRight cells b x → stands_for_channel n x ≡ true → (is_unit x ≡ true) × (n ≡ 0 + count_by is_unit b)
 channel_placed cells b n (load_unit channel dram ready net request last addr) r pass = (refl, omega (arith, eqb-true channel n pass, r.0))
 channel_placed cells b n (store_unit channel dram ready request last addr word) r pass = (refl, omega (arith, eqb-true channel n pass, r.0))
 channel_placed cells b n _ r pass = absurd (false≢true pass)

@@ -31,3 +31,4 @@ pub mod Accepting
 pub mod QuietRuns
 pub mod TextCells
 pub mod Orders
+pub mod DraftNames

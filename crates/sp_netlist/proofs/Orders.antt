@@ -1,12 +1,13 @@
 -- The places of the cells that compute, sorted by the numbers of their components.
-use Rattle.std.proofs.Common.{◌≡◌, ◌≢◌, ℕ, zero, suc, ◌+◌, ◌<◌, ◌≤◌, List, [], ◌∷◌, ◌++◌, Bool, true, false, cond, IsTrue, length, get_or, map, filter, All, Contains, slice_get, slice_index, Option, Some, None, refl, sym, ap, ◌∙◌, subst, arith, ⊎_elim, inl, inr, ◌⊎◌}
+use Rattle.std.proofs.Common.{◌≡◌, ◌≢◌, ℕ, zero, suc, ◌+◌, ◌<◌, ◌≤◌, List, [], ◌∷◌, ◌++◌, Bool, true, false, cond, IsTrue, length, get_or, map, filter, count_by, sum_by, ◌==◌, eq-eqb, ne_eqb, All, Contains, slice_get, slice_index, Option, Some, None, refl, sym, ap, ◌∙◌, subst, arith, ⊎_elim, inl, inr, ◌⊎◌}
 use Rattle.std.specs.List.{range_with_len}
 use Rattle.std.specs.List.Sorted.{IsPermutation, IsNonDecreasingBy}
-use Rattle.std.proofs.lemmas.Bool.{cases_Bool, cases_lt, cond-true, cond-false, false≢true}
+use Rattle.std.proofs.lemmas.Bool.{cases_Bool, cases_lt, cases_eq, cond-true, cond-false, false≢true}
 use Rattle.std.proofs.lemmas.List.{get_or_default, get_or_at, length-append, get_or-append-add}
 use Rattle.std.proofs.lemmas.List.Elements.{Contains-append_cases, All-contains, Contains-get_or, Contains-append_right}
-use Rattle.std.proofs.lemmas.List.FromFn.{length-range_with_len, get_or-range_with_len}
-use Rattle.std.proofs.lemmas.List.Sorted.{Contains-permutation, IsPermutation-sym}
+use Rattle.std.proofs.lemmas.List.FromFn.{length-range_with_len, get_or-range_with_len, fill_by_all}
+use Rattle.std.proofs.lemmas.List.Sorted.{Contains-permutation, IsPermutation-sym, length_permutation, sum_by-IsPermutation}
+use Rattle.std.proofs.lemmas.List.Sums.{length-filter}
 use Rattle.sp_graph.specs.Edges.{IsEdge}
 use Rattle.sp_graph.specs.Components.{AreComponents}
 use Rattle.sp_netlist.specs.Cells.{PlainCell, done_cell, op_cell, not_cell, shift_cell, cast_cell, mux_cell}
@@ -15,6 +16,8 @@ use Rattle.sp_netlist.specs.CellGraph.{computed_net, operands, computed_at, oper
 use Rattle.sp_netlist.specs.Order.{IsComputing, IsOrder}
 use Rattle.sp_netlist.proofs.CellGraphs.{at_place, looped_from}
 use Rattle.sp_netlist.proofs.Endings.{no_loop}
+use Rattle.sp_netlist.proofs.Splits.{count-cons, count-cons_yes, count-cons_no}
+use Rattle.sp_netlist.proofs.DraftLemmas.{count_by-map}
 
 -- what is filtered
 Contains-filter : {X : Type 0} (p : X → Bool) (xs : List X) (x : X) → Contains xs x → p x ≡ true → Contains (filter p xs) x
@@ -45,6 +48,38 @@ Contains-from_filter {X} p (y ∷ ys) x c = go (Contains-from_filter p ys x) (ca
     go : (Contains (filter p ys) x → Contains ys x × (p x ≡ true)) → (p y ≡ true) ⊎ (p y ≡ false) → Contains (y ∷ ys) x × (p x ≡ true)
     go rest (inl t) = let d = subst (λ zs. Contains zs x) (cond-true (p y) (y ∷ filter p ys) (filter p ys) t) c in first rest t d.0 d.1 d.2
     go rest (inr t) = later (rest (subst (λ zs. Contains zs x) (cond-false (p y) (y ∷ filter p ys) (filter p ys) t) c))
+
+-- what is counted place by place, and what is left of a count by a filter
+count_by_places : (cells : List PlainCell) → count_by (λ at. is_computed (get_or cells at (done_cell 0))) (range_with_len 0 (length cells)) ≡ count_by is_computed cells
+count_by_places cells =
+    sym (count_by-map is_computed (λ at. get_or cells at (done_cell 0)) (range_with_len 0 (length cells)))
+    ∙ ap (count_by is_computed) (sym (fill_by_all (λ at. get_or cells at (done_cell 0)) cells (length cells) (done_cell 0) refl (λ k h. refl)))
+
+few_in_filter : (p : ℕ → Bool) (at : ℕ) (xs : List ℕ) → count_by (λ x. x == at) (filter p xs) ≤ count_by (λ x. x == at) xs
+few_in_filter p at [] = omega arith
+few_in_filter p at (x ∷ xs) = go (few_in_filter p at xs) (cases_Bool (p x))
+  where
+    go : count_by (λ x. x == at) (filter p xs) ≤ count_by (λ x. x == at) xs → (p x ≡ true) ⊎ (p x ≡ false) → count_by (λ x. x == at) (filter p (x ∷ xs)) ≤ count_by (λ x. x == at) (x ∷ xs)
+    go rest (inl t) =
+        let e = ap (count_by (λ (n : ℕ). n == at)) (cond-true (p x) (x ∷ filter p xs) (filter p xs) t) in
+        let a = count-cons (λ (n : ℕ). n == at) x (filter p xs) in
+        let b = count-cons (λ (n : ℕ). n == at) x xs in
+        omega (arith, e, a, b, rest)
+    go rest (inr t) =
+        let e = ap (count_by (λ (n : ℕ). n == at)) (cond-false (p x) (x ∷ filter p xs) (filter p xs) t) in
+        let b = count-cons (λ (n : ℕ). n == at) x xs in
+        omega (arith, e, b, rest)
+
+none_below : (a n at : ℕ) → at < a → count_by (λ x. x == at) (range_with_len a n) ≡ 0
+none_below a zero at l = refl
+none_below a (suc n) at l = count-cons_no (λ (x : ℕ). x == at) a (range_with_len (a + 1) n) (ne_eqb a at (λ e. omega (arith, e, l))) ∙ none_below (a + 1) n at (omega arith)
+
+once_in_range : (a n at : ℕ) → count_by (λ x. x == at) (range_with_len a n) ≤ 1
+once_in_range a zero at = omega arith
+once_in_range a (suc n) at = ⊎_elim
+    (λ same. let none = none_below (a + 1) n at (omega (arith, same)) in let all = count-cons_yes (λ (x : ℕ). x == at) a (range_with_len (a + 1) n) (eq-eqb a at same) in omega (arith, none, all))
+    (λ other. let rest = once_in_range (a + 1) n at in let all = count-cons_no (λ (x : ℕ). x == at) a (range_with_len (a + 1) n) (ne_eqb a at other) in omega (arith, rest, all))
+    (cases_eq a at)
 
 in_range : (n at : ℕ) → at < n → Contains (range_with_len 0 n) at
 in_range n at l = (at, let e = length-range_with_len 0 n in omega arith, get_or-range_with_len 0 n at at l ∙ omega arith)
@@ -102,6 +137,8 @@ module _ (cells : List PlainCell) (h : IsNetlist cells) (graph : List (List ℕ)
   sorted_order places order e p up = record {
     computing = λ k d l. is_computing (get_or order k d) (Contains-get_or order k d l);
     complete = in_order;
+    number = length_permutation places order p ∙ ap length e ∙ length-filter (λ at. is_computed (get_or cells at (done_cell 0))) (range_with_len 0 (length cells)) ∙ count_by_places cells;
+    once = λ at. (let same = sum_by-IsPermutation (λ other. cond (other == at) 1 0) places order p in let none = few_in_filter (λ i. is_computed (get_or cells i (done_cell 0))) at (range_with_len 0 (length cells)) in let one = once_in_range 0 (length cells) at in let was = ap (count_by (λ other. other == at)) e in omega (arith, same, none, one, was));
     operands_first = λ before at after split net driver r c d.
         let computing_at = is_computing at (subst (λ xs. Contains xs at) (sym split) (Contains-append_right before (at ∷ after) at (0, omega arith, refl))) in
         let low = lower at driver net computing_at c r d in

@@ -74,6 +74,7 @@ pub record IsDraft (d : Draft) : Type 0 where
 pub record Keeps (old new : Draft) : Type 0 where
   pub promised : (net width : ℕ) (kept : Bool) → slice_get old.promised net ≡ Some (width, kept) → slice_get new.promised net ≡ Some (width, kept)
   pub widths : (net width : ℕ) → promised_width old net ≡ Some width → promised_width new net ≡ Some width
+  pub kept : (net : ℕ) → IsKept old net → IsKept new net
   pub driven : (net : ℕ) → driver_count old.cells net ≡ 1 → driver_count new.cells net ≡ 1
   pub ready : (net : ℕ) → IsReady old net → IsReady new net
   pub banks : (bank : ℕ) → bank < count_by is_bank old.cells → (bank < count_by is_bank new.cells) × (bank_width new.cells bank ≡ bank_width old.cells bank)

@@ -14,3 +14,5 @@ pub mod Tables
 pub mod CellGraph
 pub mod Quiet
 pub mod Order
+pub mod Texts
+pub mod DraftLaws

@@ -1,8 +1,8 @@
 -- When a list of cells is a netlist.
-use Rattle.std.specs.Prelude.{◌≡◌, ℕ, ◌^◌, ◌<◌, ◌≤◌, List, [], ◌∷◌, ◌++◌, Bool, true, false, ◌&&◌, ◌||◌, ◌==◌, nat_le, IsTrue, if◌then◌else◌, length, map, flat_map, filter_map, count_by, All, Contains, Option, Some, None}
-use Rattle.std.specs.List.{list_all}
+use Rattle.std.specs.Prelude.{◌≡◌, ℕ, ◌^◌, ◌<◌, ◌≤◌, List, [], ◌∷◌, ◌++◌, Bool, true, false, ◌==◌, IsTrue, if◌then◌else◌, length, map, flat_map, filter_map, count_by, All, Contains, Option, Some, None}
 use Rattle.sp_words.specs.declared.types.Ty.{Ty}
 use Rattle.sp_words.specs.Types.{width_of}
+use Rattle.sp_words.specs.Names.{IsName}
 use Rattle.sp_netlist.specs.declared.cell.CellOp.{CellOp}
 use Rattle.sp_netlist.specs.declared.cell.CellOp.TheVariants.{Lt, Eq}
 use Rattle.sp_netlist.specs.Cells.{PlainCell, in_cell, out_cell, done_cell, const_cell, op_cell, not_cell, shift_cell, cast_cell, mux_cell, reg_cell, bank_cell, read_tap, write_tap, dram_cell, load_unit, store_unit}
@@ -43,17 +43,6 @@ abbrev pub dram_name : PlainCell → Option (List ℕ)
 dram_name (dram_cell dram name ty dims) = Some name
 dram_name cell = None
 
--- a name is an ASCII letter, and then letters, digits and underscores
-abbrev pub is_letter : ℕ → Bool
-is_letter c = (nat_le 65 c && nat_le c 90) || (nat_le 97 c && nat_le c 122)
-
-abbrev pub is_name_byte : ℕ → Bool
-is_name_byte c = is_letter c || ((nat_le 48 c && nat_le c 57) || (c == 95))
-
-abbrev pub is_name : List ℕ → Bool
-is_name [] = false
-is_name (c ∷ rest) = is_letter c && list_all is_name_byte rest
-
 abbrev pub IsWidth : ℕ → Type 0
 IsWidth width = (1 ≤ width) × (width ≤ 64)
 
@@ -62,11 +51,11 @@ abbrev pub IsLength : ℕ → Type 0
 IsLength len = (1 ≤ len) × (len < 2 ^ 31)
 
 -- What a cell obeys by itself, after the cells before it, where `cells` are all: its numbers are in their
--- ranges, it has the next number of its kind, its name is new in its kind, and the bank or DRAM that it
+-- ranges, it has the next number of its kind, its name is one and is new in its kind, and the bank or DRAM that it
 -- names stands.
 abbrev pub IsRight : List PlainCell → List PlainCell → PlainCell → Type 0
-IsRight cells before (in_cell name net ty) = IsTrue (is_name name) × (Contains (filter_map in_name before) name → ⊥)
-IsRight cells before (out_cell name net ty) = IsTrue (is_name name) × (Contains (filter_map out_name before) name → ⊥)
+IsRight cells before (in_cell name net ty) = IsName name × (Contains (filter_map in_name before) name → ⊥)
+IsRight cells before (out_cell name net ty) = IsName name × (Contains (filter_map out_name before) name → ⊥)
 IsRight cells before (done_cell net) = count_by is_done before ≡ 0
 IsRight cells before (const_cell net width word) = IsWidth width × (word < 2 ^ width)
 IsRight cells before (op_cell net ty op a b) = Unit {0}
@@ -79,7 +68,7 @@ IsRight cells before (bank_cell bank width len) = (bank ≡ count_by is_bank bef
 IsRight cells before (read_tap net bank enable addr) = bank < count_by is_bank cells
 IsRight cells before (write_tap bank enable addr word) = bank < count_by is_bank cells
 IsRight cells before (dram_cell dram name ty dims) =
-    (dram ≡ count_by is_dram before) × IsTrue (is_name name) × (Contains (filter_map dram_name before) name → ⊥)
+    (dram ≡ count_by is_dram before) × IsName name × (Contains (filter_map dram_name before) name → ⊥)
     × (1 ≤ length dims) × (length dims ≤ 3) × All IsLength dims
 IsRight cells before (load_unit channel dram ready net request last addr) =
     (channel ≡ count_by is_unit before) × (dram < count_by is_dram cells)

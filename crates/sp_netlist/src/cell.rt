@@ -80,7 +80,7 @@ pub enum Port {
 }
 
 /// A cell. The fields stand in the order of a listing's line; `docs/netlists.md` says what each does.
-#[derive(Debug, Drop)]
+#[derive(Clone, Debug, PartialEq, Eq, Drop)]
 pub enum Cell {
     /// Name, net, type: the net is the argument.
     In(String, NetId, Ty),

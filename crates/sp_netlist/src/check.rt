@@ -1,5 +1,5 @@
 //! The test of whether a list of cells is a netlist within the limits.
-ghost use Rattle.std.specs.Prelude.{◌≡◌, ◌∷◌, [], ◌-◌, ◌^◌, min, option_map, IfOk, IfErr, OnOk};
+ghost use Rattle.std.specs.Prelude.{◌≡◌, ◌↔◌, ℕ, ◌∷◌, [], ◌-◌, ◌^◌, min, option_map, IfOk, IfErr, OnOk};
 ghost use Rattle.sp_netlist.specs.Cells.{plain_cell, plain_cells};
 ghost use Rattle.sp_words.specs.Interface.{word_count};
 ghost use Rattle.sp_netlist.specs.Rules.{IsNetlist};
@@ -90,16 +90,13 @@ fn first_over_limit(cells: &[Cell]) -> Option<u64>
     None
 }
 
-/// The first fault of a list of cells.
+/// The first fault of a list of cells within the limits.
 fn find_fault(alloc: Global, cells: &[Cell]) -> Result<(), NetError>
-    requires { AreLines (plain_cells cells.now) }
+    requires lines { AreLines (plain_cells cells.now) }
+    requires within { IsWithinLimits (plain_cells cells.now) }
     ensures netlist { OnOk result (IsNetlist (plain_cells cells.now)) }
-    ensures within { OnOk result (IsWithinLimits (plain_cells cells.now)) }
     ensures refused { IfErr result (Refuses (plain_cells cells.now)) }
 {
-    if let Some(count) = first_over_limit(cells) {
-        return Err(NetError::NetLimit { count });
-    }
     let (undriven, unequal) = net_faults(alloc, cells)?;
     if let Some(net) = undriven {
         return Err(NetError::Driven { net });
@@ -115,15 +112,19 @@ fn find_fault(alloc: Global, cells: &[Cell]) -> Result<(), NetError>
 
 impl Netlist {
     /// The netlist of these cells, if they are one within the limits; else their first fault of too many cells or
-    /// words, a net that isn't driven once, a net at two widths and a loop. On a refusal the cells are gone. Takes
-    /// time near linear in the cells.
+    /// words, a net that isn't driven once, a net at two widths and a loop. A count is looked at before any memory is
+    /// taken. On a refusal the cells are gone. Takes time near linear in the cells.
     pub fn check(alloc: Global, cells: Vec<Cell>) -> Result<Netlist, NetError>
         requires { AreLines (plain_cells cells.items) }
         ensures accepted { IfOk result (λ netlist. netlist ≡ plain_cells cells.items) }
         ensures netlist { OnOk result (IsNetlist (plain_cells cells.items)) }
         ensures within { OnOk result (IsWithinLimits (plain_cells cells.items)) }
         ensures refused { IfErr result (Refuses (plain_cells cells.items)) }
+        ensures over { (count : ℕ) → (result ≡ Err (NetError.NetLimit count)) ↔ Refuses (plain_cells cells.items) (NetError.NetLimit count) }
     {
+        if let Some(count) = first_over_limit(&cells) {
+            return Err(NetError::NetLimit { count });
+        }
         find_fault(alloc, &cells)?;
         Ok(Netlist::new(alloc, cells)?)
     }

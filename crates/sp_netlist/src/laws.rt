@@ -6,6 +6,7 @@ ghost use Rattle.sp_netlist.specs.PartExamples.{PartExamples};
 ghost use Rattle.sp_netlist.specs.Channels.{ChannelServes};
 ghost use Rattle.sp_netlist.specs.Parts.{Locality};
 ghost use Rattle.sp_netlist.specs.Quiet.{HasQuietRun};
+ghost use Rattle.sp_netlist.specs.DraftLaws.{DraftLaws};
 ghost use Rattle.sp_netlist.specs.Examples.{ExampleEndings};
 
 /// Every netlist has exactly one run for each list of arguments, contents of its DRAMs and list of
@@ -57,6 +58,12 @@ pub fn example_endings()
 /// through the nets that they read and the delays that their channels take.
 pub fn locality()
     ensures { Locality }
+{}
+
+/// The cells of a draft name no bank, DRAM or channel past those that it has and drive no net that wasn't promised;
+/// whether some cell of two lists does so is told by the two; what stands in a draft stands in each later one.
+pub fn draft_laws()
+    ensures { DraftLaws }
 {}
 
 /// What two small circuits do in every netlist that has them: a counter that is started and says when

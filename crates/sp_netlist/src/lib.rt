@@ -24,8 +24,8 @@ pub use builder::Builder;
 pub use cell::{Cell, CellOp, CellShift, NetId, Port};
 pub use error::NetError;
 pub use laws::{
-    channel_serves, ending_kept, example_endings, locality, no_loop, one_ending, one_run,
-    part_examples, quiet_run, refusals_exact,
+    channel_serves, draft_laws, ending_kept, example_endings, locality, no_loop, one_ending,
+    one_run, part_examples, quiet_run, refusals_exact,
 };
 pub use netlist::Netlist;
 pub use order::evaluation_order;

@@ -1,6 +1,6 @@
 ghost use Rattle.std.specs.Prelude.{◌≡◌, ◌∷◌, [], true, false, IfOk, OnOk, codes};
 ghost use Rattle.sp_words.specs.Types.{int_type};
-ghost use Rattle.sp_netlist.specs.Cells.{in_cell, out_cell, done_cell, const_cell, op_cell, reg_cell, bank_cell, read_tap, dram_cell};
+ghost use Rattle.sp_netlist.specs.Cells.{in_cell, out_cell, done_cell, const_cell, op_cell, reg_cell, bank_cell, read_tap, dram_cell, plain_cell};
 ghost use Rattle.sp_words.specs.declared.types.Ty.TheVariants.{Bit};
 ghost use Rattle.sp_netlist.specs.declared.cell.CellOp.TheVariants.{Add};
 
@@ -145,5 +145,34 @@ fn lists_ports_in_the_order_of_their_cells(rt: HostRuntime) -> Result<(), Fail> 
         format!(in alloc; "{ports:?}")?.as_str(),
         "Ports { args: [PortDecl { name: \"a\", ty: Bit, dims: [] }], outs: [PortDecl { name: \"q\", ty: Bit, dims: [] }, PortDecl { name: \"p\", ty: Bit, dims: [] }], drams: [PortDecl { name: \"m\", ty: Bit, dims: [4] }, PortDecl { name: \"k\", ty: Bit, dims: [2, 3] }] }"
     );
+    Ok(())
+}
+
+fn copy_of(cell: &Cell) -> Result<Cell, NoMemory>
+    ensures { IfOk result (λ copy. plain_cell copy ≡ plain_cell cell.now) }
+{
+    cell.clone()
+}
+
+#[test]
+fn cells_are_copied_and_compared(rt: HostRuntime) -> Result<(), Fail> {
+    let alloc = rt.alloc();
+    let dims = [4, 3];
+    let dram = Cell::Dram(
+        0,
+        String::from_str(alloc, "m")?,
+        Ty::int(),
+        Vec::from_slice(alloc, &dims)?,
+    );
+    let copy = copy_of(&dram)?;
+    assert_eq!(rt; copy, dram);
+    let smaller = Cell::Dram(
+        0,
+        String::from_str(alloc, "m")?,
+        Ty::int(),
+        Vec::from_slice(alloc, &dims[..1])?,
+    );
+    assert_ne!(rt; smaller, dram);
+    assert_ne!(rt; Cell::Done(NetId::new(1)), Cell::Done(NetId::new(2)));
     Ok(())
 }

@@ -2,12 +2,13 @@
 //! its numbers; a type is the width of an unsigned whole number, an operator 0 for a sum, 1 for `lt` and 2 for `eq`.
 ghost use Rattle.std.specs.Prelude.{◌≡◌, ◌↔◌, ◌<◌, ◌≤◌, ◌^◌, length, IsTrue, IfOk, OnOk, is_some, string_bytes, cond, count_by, filter_map, Contains, ℕ, List, ◌+◌, All};
 ghost use Rattle.sp_netlist.specs.Cells.{plain_cell, plain_cells};
-ghost use Rattle.sp_netlist.specs.Rules.{IsRight, IsLength, IsWidth, is_bank, is_dram, is_unit, is_done, in_name, out_name, dram_name, is_name};
+ghost use Rattle.sp_netlist.specs.Rules.{IsRight, IsLength, IsWidth, is_bank, is_dram, is_unit, is_done, in_name, out_name, dram_name};
+ghost use Rattle.sp_words.specs.Names.{IsName};
 ghost use Rattle.sp_netlist.specs.Refusals.{AreLines};
 ghost use Rattle.sp_netlist.specs.Tables.{AllRight};
 
 use crate::cell::{Cell, CellOp, CellShift, NetId};
-use sp_words::{FixTy, Ty};
+use sp_words::{FixTy, Ty, is_name, is_reserved};
 use std::alloc::Global;
 use std::test::Fail;
 
@@ -242,10 +243,10 @@ fn named_dram_count(cells: &[Cell]) -> usize
     count
 }
 
-fn is_letter(name: &str) -> bool
-    ensures { IsTrue result → IsTrue (is_name name.now) }
+fn is_free_name(name: &str) -> bool
+    ensures { IsTrue result → IsName name.now }
 {
-    matches!(name, "x" | "y" | "m")
+    is_name(name) && !is_reserved(name)
 }
 
 fn no_in(cells: &[Cell]) -> bool
@@ -285,28 +286,28 @@ fn is_length(len: u32) -> bool
     1 <= len && len < 0x8000_0000
 }
 
-fn is_letter_name(name: &String) -> bool
-    ensures { IsTrue result → IsTrue (is_name (string_bytes name.now)) }
+fn is_port_name(name: &String) -> bool
+    ensures { IsTrue result → IsName (string_bytes name.now) }
 {
-    is_letter(name)
+    is_free_name(name)
 }
 
 fn is_new_in(cells: &[Cell], name: &String) -> bool
-    ensures { IsTrue result → IsTrue (is_name (string_bytes name.now)) × (Contains (filter_map in_name (plain_cells cells.now)) (string_bytes name.now) → ⊥) }
+    ensures { IsTrue result → IsName (string_bytes name.now) × (Contains (filter_map in_name (plain_cells cells.now)) (string_bytes name.now) → ⊥) }
 {
-    is_letter_name(name) && no_in(cells)
+    is_port_name(name) && no_in(cells)
 }
 
 fn is_new_out(cells: &[Cell], name: &String) -> bool
-    ensures { IsTrue result → IsTrue (is_name (string_bytes name.now)) × (Contains (filter_map out_name (plain_cells cells.now)) (string_bytes name.now) → ⊥) }
+    ensures { IsTrue result → IsName (string_bytes name.now) × (Contains (filter_map out_name (plain_cells cells.now)) (string_bytes name.now) → ⊥) }
 {
-    is_letter_name(name) && no_out(cells)
+    is_port_name(name) && no_out(cells)
 }
 
 fn is_new_dram(cells: &[Cell], name: &String) -> bool
-    ensures { IsTrue result → IsTrue (is_name (string_bytes name.now)) × (Contains (filter_map dram_name (plain_cells cells.now)) (string_bytes name.now) → ⊥) }
+    ensures { IsTrue result → IsName (string_bytes name.now) × (Contains (filter_map dram_name (plain_cells cells.now)) (string_bytes name.now) → ⊥) }
 {
-    is_letter_name(name) && no_dram(cells)
+    is_port_name(name) && no_dram(cells)
 }
 
 fn is_next_dram(cells: &[Cell], dram: u32) -> bool
@@ -328,13 +329,13 @@ fn are_all_dimensions(dims: &Vec<u32>) -> bool
 }
 
 fn is_numbered_dram(cells: &[Cell], dram: u32, name: &String) -> bool
-    ensures { IsTrue result → (dram ≡ count_by is_dram (plain_cells cells.now)) × IsTrue (is_name (string_bytes name.now)) × (Contains (filter_map dram_name (plain_cells cells.now)) (string_bytes name.now) → ⊥) }
+    ensures { IsTrue result → (dram ≡ count_by is_dram (plain_cells cells.now)) × IsName (string_bytes name.now) × (Contains (filter_map dram_name (plain_cells cells.now)) (string_bytes name.now) → ⊥) }
 {
     is_next_dram(cells, dram) && is_new_dram(cells, name)
 }
 
 fn is_right_dram(cells: &[Cell], dram: u32, name: &String, dims: &Vec<u32>) -> bool
-    ensures { IsTrue result → (dram ≡ count_by is_dram (plain_cells cells.now)) × IsTrue (is_name (string_bytes name.now)) × (Contains (filter_map dram_name (plain_cells cells.now)) (string_bytes name.now) → ⊥) × (1 ≤ length dims.now.items) × (length dims.now.items ≤ 3) × All IsLength dims.now.items }
+    ensures { IsTrue result → (dram ≡ count_by is_dram (plain_cells cells.now)) × IsName (string_bytes name.now) × (Contains (filter_map dram_name (plain_cells cells.now)) (string_bytes name.now) → ⊥) × (1 ≤ length dims.now.items) × (length dims.now.items ≤ 3) × All IsLength dims.now.items }
 {
     is_numbered_dram(cells, dram, name) && are_all_dimensions(dims)
 }

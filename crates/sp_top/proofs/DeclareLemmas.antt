@@ -1,6 +1,6 @@
 -- Reading a declaration.
 use Rattle.std.proofs.Common.{◌≡◌, ◌≢◌, ℕ, List, [], ◌∷◌, ◌++◌, Contains, IsTrue, Result, Ok, Err, MatchResult, IfOk, codes, refl, sym, ◌∙◌, subst, inl, inr, lit<, lit≤}
-use Rattle.sp_netlist.specs.Rules.{is_name}
+use Rattle.sp_words.specs.Names.{IsName}
 use Rattle.sp_top.specs.declared.straight.lines.Side.{Side}
 use Rattle.sp_top.specs.declared.straight.lines.Side.TheVariants.{Arg, Out}
 use Rattle.sp_top.specs.declared.straight.program.Program.{Program}
@@ -15,13 +15,12 @@ use Rattle.sp_top.proofs.ReadLemmas.{declared_either, arg_declared, out_declared
 use Rattle.sp_top.proofs.StopLemmas.{no_declaration}
 use Rattle.sp_top.proofs.SoundLemmas.{fitting_sound}
 
-pub name_lacks : (name : List ℕ) → IsTrue (is_name name) → Lacks 32 name
+pub name_lacks : (name : List ℕ) → IsName name → Lacks 32 name
 name_lacks name form = graphic_lacks 32 name (lit< tt) (graphic_name name form)
 
 pub free_in : (lines : List Line) (p : PlainProgram) (name : List ℕ) → Declares lines p → IsFree lines name → IsFreeIn p name
 free_in lines p name k free = record {
   name_form = free.name_form;
-  not_reserved = free.not_reserved;
   no_arg = λ within. free.new (arg_declared lines name (subst (λ names. Contains names name) k.args within));
   no_out = λ within. free.new (out_declared lines name (subst (λ names. Contains names name) k.outs within));
 }
@@ -29,7 +28,6 @@ free_in lines p name k free = record {
 pub free_after : (lines : List Line) (p : PlainProgram) (name : List ℕ) → Declares lines p → IsFreeIn p name → IsFree lines name
 free_after lines p name k free = record {
   name_form = free.name_form;
-  not_reserved = free.not_reserved;
   new = λ within. elim (declared_either lines name within) [
     | inl arg ↦ free.no_arg (subst (λ names. Contains names name) (sym k.args) arg)
     | inr out ↦ free.no_out (subst (λ names. Contains names name) (sym k.outs) out)

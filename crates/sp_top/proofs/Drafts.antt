@@ -5,7 +5,8 @@ use Rattle.std.proofs.lemmas.Bool.Decides.{nat_tests}
 use Rattle.std.proofs.lemmas.List.Sums.{sum_by-append, sum_by-cons}
 use Rattle.sp_words.specs.Types.{int_type}
 use Rattle.sp_netlist.specs.Cells.{PlainCell, in_cell, out_cell, done_cell, const_cell, op_cell, reg_cell}
-use Rattle.sp_netlist.specs.Rules.{IsWidth, is_name, is_done, in_name, out_name, op_width}
+use Rattle.sp_words.specs.Names.{IsName}
+use Rattle.sp_netlist.specs.Rules.{IsWidth, is_done, in_name, out_name, op_width}
 use Rattle.sp_netlist.specs.Draft.{Draft, IsDraft, CanAdd, promised_width, driver_count, net_count}
 use Rattle.sp_top.specs.declared.straight.program.Operator.{Operator}
 use Rattle.sp_top.specs.declared.straight.program.Operator.TheVariants.{Add, Sub, Mul}
@@ -126,7 +127,7 @@ can_reg d net width first next enable nets h promised w fits from gate = record 
   operands_ready = λ computed. absurd (cc);
 }
 
-pub can_in : (d : Draft) (net : ℕ) (name : List ℕ) (nets : List ℕ) → Awaits d (net ∷ nets) → IsKeptInt d.promised net → IsTrue (is_name name) → (Contains (filter_map in_name d.cells) name → ⊥)
+pub can_in : (d : Draft) (net : ℕ) (name : List ℕ) (nets : List ℕ) → Awaits d (net ∷ nets) → IsKeptInt d.promised net → IsName name → (Contains (filter_map in_name d.cells) name → ⊥)
     → CanAdd d (in_cell name net int_type)
 can_in d net name nets h promised named new = record {
   right = (named, new);
@@ -137,7 +138,7 @@ can_in d net name nets h promised named new = record {
   operands_ready = λ computed. tt;
 }
 
-pub can_out : (d : Draft) (net : ℕ) (name : List ℕ) → IsInt d.promised net → IsTrue (is_name name) → (Contains (filter_map out_name d.cells) name → ⊥) → CanAdd d (out_cell name net int_type)
+pub can_out : (d : Draft) (net : ℕ) (name : List ℕ) → IsInt d.promised net → IsName name → (Contains (filter_map out_name d.cells) name → ⊥) → CanAdd d (out_cell name net int_type)
 can_out d net name promised named new = record {
   right = (named, new);
   drives_promised = tt;

@@ -6,7 +6,7 @@ use Rattle.std.proofs.lemmas.Fmt.{decimal_injective}
 use Rattle.std.specs.List.{list_all}
 use Rattle.std.proofs.lemmas.Bool.{false≢true}
 use Rattle.std.proofs.lemmas.Bool.Decides.{nat_tests}
-use Rattle.sp_netlist.specs.Rules.{is_name, is_letter, is_name_byte}
+use Rattle.sp_words.specs.Names.{IsName, is_name, is_letter, is_name_byte}
 use Rattle.sp_top.specs.declared.straight.program.Operator.{Operator}
 use Rattle.sp_top.specs.declared.straight.lines.Side.TheVariants.{Arg, Out}
 use Rattle.sp_top.specs.Form.{Word, name_word, number_word, Phrase, one_word, two_words, Line, arg_line, out_line, begin_line, write_line, end_line, stage_of, line_text, ended_line, text_of, word_text, phrase_text, operator_text, arg_names, out_names, LineFits, AllFit, PhraseFits, WordFits, BreaksAt, IsStraight}
@@ -34,9 +34,9 @@ same_word : (lines : List Line) (v w : Word) → EachFits lines → WordFits lin
 same_word lines (name_word a) (name_word b) each one two e = ap name_word e
 same_word lines (number_word m) (number_word n) each one two e = ap number_word (decimal_injective m n (omega arith) (omega arith) e)
 same_word lines (name_word a) (number_word n) each one two e =
-    absurd (name_or_number a n (All-contains (λ x. IsTrue (is_name x)) (arg_names lines) a (arg_form lines each) one) two e)
+    absurd (name_or_number a n (All-contains IsName (arg_names lines) a (arg_form lines each) one).letters two e)
 same_word lines (number_word n) (name_word a) each one two e =
-    absurd (name_or_number a n (All-contains (λ x. IsTrue (is_name x)) (arg_names lines) a (arg_form lines each) two) one (sym e))
+    absurd (name_or_number a n (All-contains IsName (arg_names lines) a (arg_form lines each) two).letters one (sym e))
 
 blank_in : (lines : List Line) (a b : Word) (op : Operator) (text : List ℕ) → Lacks 32 text → text ≡ phrase_text (two_words a op b) → ⊥
 blank_in lines a b op text lacks e =
@@ -71,7 +71,7 @@ same_write lines a b p q each in_a in_b one two e =
     let bodies : a ++ (32 ∷ (codes ":= " ++ phrase_text p)) ≡ b ++ (32 ∷ (codes ":= " ++ phrase_text q)) =
     append_cancel_left (codes "  ") (a ++ (32 ∷ (codes ":= " ++ phrase_text p))) (b ++ (32 ∷ (codes ":= " ++ phrase_text q))) e in
     let form : (name : List ℕ) → Contains (out_names lines) name → Lacks 32 name = λ name within.
-    name_lacks name (All-contains (λ x. IsTrue (is_name x)) (out_names lines) name (out_form lines each) within) in
+    name_lacks name (All-contains IsName (out_names lines) name (out_form lines each) within) in
     let cut = cut_same 32 a b (codes ":= " ++ phrase_text p) (codes ":= " ++ phrase_text q) (form a in_a) (form b in_b) bodies in
     let phrases : p ≡ q = same_phrase lines p q each one two (append_cancel_left (codes ":= ") (phrase_text p) (phrase_text q) cut.1) in
     let names : a ≡ b = cut.0 in

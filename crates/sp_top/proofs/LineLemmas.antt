@@ -2,7 +2,7 @@
 use Rattle.std.proofs.Common.{◌≡◌, ◌≢◌, ℕ, List, ◌∷◌, ◌++◌, Contains, IsTrue, codes, sym, ◌∙◌, lit<}
 use Rattle.std.proofs.lemmas.List.{append_cancel_left}
 use Rattle.std.proofs.lemmas.List.Elements.{All-contains}
-use Rattle.sp_netlist.specs.Rules.{is_name}
+use Rattle.sp_words.specs.Names.{IsName}
 use Rattle.sp_top.specs.declared.straight.lines.Side.{Side}
 use Rattle.sp_top.specs.declared.straight.lines.Side.TheVariants.{Arg, Out}
 use Rattle.sp_top.specs.Straight.{PlainProgram}
@@ -37,7 +37,7 @@ pub written_body : (line body name : List ℕ) (phrase : Phrase) → line ≡ co
 written_body line body name phrase begins same = append_cancel_left (codes "  ") body (name ++ (32 ∷ (codes ":= " ++ phrase_text phrase))) (sym begins ∙ same)
 
 pub written_lacks : (lines : List Line) (p : PlainProgram) (name : List ℕ) → Declares lines p → Contains (out_names lines) name → Lacks 32 name
-written_lacks lines p name k within = graphic_lacks 32 name (lit< tt) (graphic_name name (All-contains (λ n. IsTrue (is_name n)) (out_names lines) name k.out_form within))
+written_lacks lines p name k within = graphic_lacks 32 name (lit< tt) (graphic_name name (All-contains IsName (out_names lines) name k.out_form within))
 
 pub written_cut : (lines : List Line) (p : PlainProgram) (line body front rest name : List ℕ) (phrase : Phrase) → Declares lines p → line ≡ codes "  " ++ body → body ≡ front ++ (32 ∷ rest)
     → Lacks 32 front → Contains (out_names lines) name → line ≡ line_text (write_line name phrase) → (front ≡ name) × (rest ≡ codes ":= " ++ phrase_text phrase)

@@ -1,7 +1,7 @@
 -- Words and phrases, as they are written.
 use Rattle.std.proofs.Common.{◌≡◌, ◌≢◌, ℕ, ◌<◌, ◌^◌, List, ◌∷◌, ◌++◌, All, Contains, IsTrue, codes, refl, sym, ◌∙◌, ap, arith, decimal, Some}
 use Rattle.std.proofs.lemmas.List.Elements.{All-contains}
-use Rattle.sp_netlist.specs.Rules.{is_name}
+use Rattle.sp_words.specs.Names.{IsName}
 use Rattle.sp_top.specs.declared.straight.program.Operator.{Operator}
 use Rattle.sp_top.specs.declared.straight.program.Operator.TheVariants.{Add, Sub, Mul}
 use Rattle.sp_top.specs.declared.straight.program.Atom.{Atom}
@@ -35,11 +35,11 @@ same_operator Sub Mul text rest e = let h : ◌≡◌ {A = ℕ} 45 42 = cc in ab
 same_operator Mul Add text rest e = let h : ◌≡◌ {A = ℕ} 42 43 = cc in absurd (omega arith)
 same_operator Mul Sub text rest e = let h : ◌≡◌ {A = ℕ} 42 45 = cc in absurd (omega arith)
 
-pub graphic_word : (lines : List Line) (w : Word) → All (λ name. IsTrue (is_name name)) (arg_names lines) → WordFits lines w → All IsGraphic (word_text w)
-graphic_word lines (name_word name) names fits = graphic_name name (All-contains (λ n. IsTrue (is_name n)) (arg_names lines) name names fits)
+pub graphic_word : (lines : List Line) (w : Word) → All IsName (arg_names lines) → WordFits lines w → All IsGraphic (word_text w)
+graphic_word lines (name_word name) names fits = graphic_name name (All-contains IsName (arg_names lines) name names fits)
 graphic_word lines (number_word n) names fits = graphic_decimal n fits
 
-pub word_lacks : (lines : List Line) (w : Word) → All (λ name. IsTrue (is_name name)) (arg_names lines) → WordFits lines w → Lacks 32 (word_text w)
+pub word_lacks : (lines : List Line) (w : Word) → All IsName (arg_names lines) → WordFits lines w → Lacks 32 (word_text w)
 word_lacks lines w names fits = graphic_lacks 32 (word_text w) (omega arith) (graphic_word lines w names fits)
 
 -- a phrase of one word has no blank

@@ -2,7 +2,7 @@
 use Rattle.std.proofs.Common.{◌≡◌, ◌≢◌, ◌⊎◌, ℕ, suc, List, [], ◌∷◌, ◌++◌, All, Contains, IsTrue, Option, Some, None, refl, sym, ◌∙◌, ap, arith, subst, inl, inr, filter_map, take, drop, take-append-drop, drop-cons}
 use Rattle.std.specs.List.{cons_option}
 use Rattle.std.proofs.lemmas.List.Elements.{All-weaker, All-contains_itself, filter_map-append, Contains-append_right}
-use Rattle.sp_netlist.specs.Rules.{is_name}
+use Rattle.sp_words.specs.Names.{IsName}
 use Rattle.sp_top.specs.declared.straight.program.Statement.{Statement}
 use Rattle.sp_top.specs.Form.{Line, arg_line, out_line, begin_line, write_line, end_line, Phrase, Stage, declaring, stating, stage_after, stage_from, stage_of, arg_name, out_name, declared_name, arg_names, out_names, declared_names, LineFits, statement_of, IsFree}
 use Rattle.sp_top.specs.Reading.{EachFits}
@@ -124,17 +124,17 @@ pub out_free : (front : List Line) (name : List ℕ) → LineFits front (out_lin
 out_free front name fits = fits.1
 
 -- the names that fitting lines declare are names
-pub arg_form : (lines : List Line) → EachFits lines → All (λ name. IsTrue (is_name name)) (arg_names lines)
+pub arg_form : (lines : List Line) → EachFits lines → All IsName (arg_names lines)
 arg_form lines each =
-    All-weaker (Contains (arg_names lines)) (λ name. IsTrue (is_name name))
+    All-weaker (Contains (arg_names lines)) IsName
     (λ name within.
     let (front, line, back, cut, is) = kept_contains arg_name lines name within in
     (arg_free front name (subst (λ l. LineFits front l) (declares_arg line name is) (each front line back cut))).name_form)
     (arg_names lines) (All-contains_itself (arg_names lines))
 
-pub out_form : (lines : List Line) → EachFits lines → All (λ name. IsTrue (is_name name)) (out_names lines)
+pub out_form : (lines : List Line) → EachFits lines → All IsName (out_names lines)
 out_form lines each =
-    All-weaker (Contains (out_names lines)) (λ name. IsTrue (is_name name))
+    All-weaker (Contains (out_names lines)) IsName
     (λ name within.
     let (front, line, back, cut, is) = kept_contains out_name lines name within in
     (out_free front name (subst (λ l. LineFits front l) (declares_out line name is) (each front line back cut))).name_form)

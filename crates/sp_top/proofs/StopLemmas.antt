@@ -4,7 +4,7 @@ use Rattle.std.specs.List.{list_all}
 use Rattle.std.proofs.lemmas.List.{append-nil}
 use Rattle.std.proofs.lemmas.Bool.Decides.{nat_tests}
 use Rattle.std.proofs.lemmas.List.Elements.{All-nil, All-cons, All-append, All-weaker, All-contains}
-use Rattle.sp_netlist.specs.Rules.{is_name}
+use Rattle.sp_words.specs.Names.{IsName}
 use Rattle.sp_top.specs.declared.straight.program.Operator.{Operator}
 use Rattle.sp_top.specs.declared.straight.program.Operator.TheVariants.{Add, Sub, Mul}
 use Rattle.sp_top.specs.Straight.{PlainProgram}
@@ -41,7 +41,7 @@ plain_phrase lines (two_words a op b) each fits =
     All-append IsPlain (word_text a) (operator_text op ++ word_text b) (plain_graphic (word_text a) (graphic_word lines a (arg_form lines each) fits.0))
     (All-append IsPlain (operator_text op) (word_text b) (plain_operator op) (plain_graphic (word_text b) (graphic_word lines b (arg_form lines each) fits.1)))
 
-plain_name : (name : List ℕ) → IsTrue (is_name name) → All IsPlain name
+plain_name : (name : List ℕ) → IsName name → All IsPlain name
 plain_name name form = plain_graphic name (graphic_name name form)
 
 -- a line that fits has only blanks and graphic bytes
@@ -55,7 +55,7 @@ plain_line lines (out_line name) each fits =
 plain_line lines begin_line each fits = plain_text (codes "Accel {") refl
 plain_line lines (write_line name phrase) each fits =
     All-append IsPlain (codes "  ") (name ++ (codes " := " ++ phrase_text phrase)) (plain_text (codes "  ") refl)
-    (All-append IsPlain name (codes " := " ++ phrase_text phrase) (plain_name name (All-contains (λ n. IsTrue (is_name n)) (out_names lines) name (out_form lines each) fits.1))
+    (All-append IsPlain name (codes " := " ++ phrase_text phrase) (plain_name name (All-contains IsName (out_names lines) name (out_form lines each) fits.1))
     (All-append IsPlain (codes " := ") (phrase_text phrase) (plain_text (codes " := ") refl) (plain_phrase lines phrase each fits.2)))
 plain_line lines end_line each fits = plain_text (codes "}") refl
 

@@ -13,7 +13,7 @@ use Rattle.std.proofs.lemmas.List.Quantifiers.{position-Some}
 use Rattle.std.proofs.lemmas.List.{get_or-take}
 use Rattle.std.proofs.lemmas.Str.{IsUtf8-from_ascii}
 use Rattle.std.proofs.lemmas.Str.Ascii.{IsAscii-from_all}
-use Rattle.sp_netlist.specs.Rules.{is_name, is_letter, is_name_byte}
+use Rattle.sp_words.specs.Names.{IsName, is_name, is_letter, is_name_byte}
 use Rattle.sp_top.proofs.NameLemmas.{position_none}
 use Rattle.sp_top.specs.Reading.{Lacks, IsAsciiText}
 
@@ -63,11 +63,14 @@ graphic_bytes (x ∷ xs) e =
     All-cons IsGraphic x xs (graphic_byte x (and_left (is_name_byte x) (list_all is_name_byte xs) e))
     (graphic_bytes xs (and_right (is_name_byte x) (list_all is_name_byte xs) e))
 
-pub graphic_name : (name : List ℕ) → IsTrue (is_name name) → All IsGraphic name
-graphic_name [] e = absurd (false≢true e)
-graphic_name (x ∷ xs) e =
+graphic_letters : (name : List ℕ) → IsTrue (is_name name) → All IsGraphic name
+graphic_letters [] e = absurd (false≢true e)
+graphic_letters (x ∷ xs) e =
     All-cons IsGraphic x xs (graphic_letter x (and_left (is_letter x) (list_all is_name_byte xs) e))
     (graphic_bytes xs (and_right (is_letter x) (list_all is_name_byte xs) e))
+
+pub graphic_name : (name : List ℕ) → IsName name → All IsGraphic name
+graphic_name name h = graphic_letters name h.letters
 
 pub graphic_decimal : (n : ℕ) → n < 2 ^ 31 → All IsGraphic (decimal n)
 graphic_decimal n small =

@@ -1,6 +1,6 @@
 -- What the parts of the reader of the straight form know and find out.
 use Rattle.std.specs.Prelude.{◌≡◌, ◌≢◌, ℕ, ◌<◌, ◌≤◌, List, [], ◌∷◌, ◌++◌, IsTrue, length, Contains, All, Option, Some, MatchOption}
-use Rattle.sp_netlist.specs.Rules.{is_name}
+use Rattle.sp_words.specs.Names.{IsName}
 use Rattle.sp_top.specs.declared.straight.program.Statement.{Statement}
 use Rattle.sp_top.specs.declared.straight.lines.Side.{Side}
 use Rattle.sp_top.specs.declared.straight.lines.Side.TheVariants.{Arg, Out}
@@ -9,7 +9,7 @@ use Rattle.sp_top.specs.declared.straight.program.Atom.{Atom}
 use Rattle.sp_top.specs.declared.straight.program.Value.{Value}
 use Rattle.sp_top.specs.declared.straight.parse.ParseError.{ParseError}
 use Rattle.sp_top.specs.declared.straight.parse.ParseError.TheVariants.{Breaks, Memory}
-use Rattle.sp_top.specs.Form.{Word, WordFits, word_text, atom_of, phrase_text, value_of, Line, arg_line, out_line, write_line, Phrase, Stage, line_text, text_of, LineFits, BreaksAt, reserved_words, arg_names, out_names, stage_of, program_of, statement_of, PhraseFits}
+use Rattle.sp_top.specs.Form.{Word, WordFits, word_text, atom_of, phrase_text, value_of, Line, arg_line, out_line, write_line, Phrase, Stage, line_text, text_of, LineFits, BreaksAt, arg_names, out_names, stage_of, program_of, statement_of, PhraseFits}
 
 -- the byte stands nowhere in the bytes
 abbrev pub Lacks : ℕ → List ℕ → Type 0
@@ -31,8 +31,8 @@ EachFits lines = (before : List Line) (line : Line) (after : List Line) → line
 pub record Declares (lines : List Line) (p : PlainProgram) : Type 0 where
   pub args : p.args ≡ arg_names lines
   pub outs : p.outs ≡ out_names lines
-  pub arg_form : All (λ name. IsTrue (is_name name)) (arg_names lines)
-  pub out_form : All (λ name. IsTrue (is_name name)) (out_names lines)
+  pub arg_form : All IsName (arg_names lines)
+  pub out_form : All IsName (out_names lines)
 
 -- What an answer on a word, a phrase or a line says: what it is where some one that fits has this text, and
 -- otherwise that none that fits has it.
@@ -52,8 +52,7 @@ ReadsStatement lines text answer =
 
 -- a name that may be declared in a program
 pub record IsFreeIn (p : PlainProgram) (name : List ℕ) : Type 0 where
-  pub name_form : IsTrue (is_name name)
-  pub not_reserved : Contains reserved_words name → ⊥
+  pub name_form : IsName name
   pub no_arg : Contains p.args name → ⊥
   pub no_out : Contains p.outs name → ⊥
 

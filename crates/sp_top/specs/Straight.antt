@@ -1,6 +1,6 @@
 -- A straight-line program without where its names lie in memory.
 use Rattle.std.specs.Prelude.{◌≡◌, ◌≤◌, ◌+◌, ◌∷◌, ◌++◌, ◌<◌, ◌^◌, length, All, Contains, IsTrue, ℕ, List, map, string_bytes}
-use Rattle.sp_netlist.specs.Rules.{is_name}
+use Rattle.sp_words.specs.Names.{IsName}
 use Rattle.sp_top.specs.declared.straight.program.Atom.{Atom}
 use Rattle.sp_top.specs.declared.straight.program.Atom.TheVariants.{Arg, Literal}
 use Rattle.sp_top.specs.declared.straight.program.Value.{Value}
@@ -31,8 +31,8 @@ StatementStands p statement = (statement.out < length p.outs) × ValueStands p s
 
 -- the names of each kind are names and differ, and each statement stands
 pub record IsSound (p : PlainProgram) : Type 0 where
-  pub arg_names : All (λ name. IsTrue (is_name name)) p.args
-  pub out_names : All (λ name. IsTrue (is_name name)) p.outs
+  pub arg_names : All IsName p.args
+  pub out_names : All IsName p.outs
   pub args_differ : (before : List (List ℕ)) (name : List ℕ) (after : List (List ℕ)) → p.args ≡ before ++ name ∷ after → Contains before name → ⊥
   pub outs_differ : (before : List (List ℕ)) (name : List ℕ) (after : List (List ℕ)) → p.outs ≡ before ++ name ∷ after → Contains before name → ⊥
   pub statements : All (StatementStands p) p.statements

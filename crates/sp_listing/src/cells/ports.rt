@@ -1,26 +1,27 @@
 //! Ports: inputs, outputs and DRAMs.
-ghost use Rattle.std.specs.Prelude.{◌≡◌, ◌≢◌, ◌≤◌, ℕ, List, [], ◌∷◌, All, IsTrue, decimal, length, map, MatchOption, IfOk};
+ghost use Rattle.std.specs.Prelude.{◌≡◌, ◌≢◌, ◌≤◌, ℕ, List, [], ◌∷◌, All, decimal, length, map, MatchOption, IfOk};
 ghost use Rattle.sp_words.specs.declared.types.Ty.{Ty};
+ghost use Rattle.sp_words.specs.Names.{IsName};
 ghost use Rattle.sp_netlist.specs.Cells.{plain_cell, in_cell, out_cell, dram_cell};
-ghost use Rattle.sp_netlist.specs.Rules.{is_name, IsLength};
+ghost use Rattle.sp_netlist.specs.Rules.{IsLength};
 ghost use Rattle.sp_listing.specs.declared.kind.Kind.TheVariants.{In, Out, Dram};
 ghost use Rattle.sp_listing.specs.Text.{type_text};
 ghost use Rattle.sp_listing.specs.Reading.{IsFormed, IsNumber, IsDramNumber};
 ghost use Rattle.sp_listing.specs.Readers.{texts, parts_of, IsOf};
 
 use crate::NoMemory;
-use crate::parts::{dram_of, is_name, length_of, net_of, type_of};
+use crate::parts::{dram_of, is_port_name, length_of, net_of, type_of};
 use sp_netlist::{Cell, NetId};
 use sp_words::Ty;
 use std::alloc::Global;
 
 fn port<'a>(parts: &[&'a str]) -> Option<(&'a str, NetId, Ty)>
-    ensures { MatchOption result ((name : List ℕ) (net : ℕ) (ty : Ty) → IsTrue (is_name name) → IsNumber net → texts parts.now ≢ name ∷ decimal net ∷ type_text ty ∷ []) (λ p. IsTrue (is_name p.0.now) × IsNumber p.1 × (texts parts.now ≡ p.0.now ∷ decimal p.1 ∷ type_text p.2 ∷ [])) }
+    ensures { MatchOption result ((name : List ℕ) (net : ℕ) (ty : Ty) → IsName name → IsNumber net → texts parts.now ≢ name ∷ decimal net ∷ type_text ty ∷ []) (λ p. IsName p.0.now × IsNumber p.1 × (texts parts.now ≡ p.0.now ∷ decimal p.1 ∷ type_text p.2 ∷ [])) }
 {
     let [name, net, ty] = parts else {
         return None;
     };
-    if !is_name(name) {
+    if !is_port_name(name) {
         return None;
     }
     let net = net_of(net)?;
@@ -62,9 +63,9 @@ fn dimensions(alloc: Global, words: &[&str]) -> Result<Option<Vec<u32>>, NoMemor
 }
 
 fn header<'a>(dram: &str, name: &'a str, ty: &str) -> Option<(u32, &'a str, Ty)>
-    ensures { MatchOption result ((n : ℕ) (t : Ty) → IsDramNumber n → IsTrue (is_name name.now) → dram.now ∷ ty.now ∷ [] ≢ decimal n ∷ type_text t ∷ []) (λ p. IsTrue (is_name name.now) × (p.1.now ≡ name.now) × IsDramNumber p.0 × (dram.now ≡ decimal p.0) × (ty.now ≡ type_text p.2)) }
+    ensures { MatchOption result ((n : ℕ) (t : Ty) → IsDramNumber n → IsName name.now → dram.now ∷ ty.now ∷ [] ≢ decimal n ∷ type_text t ∷ []) (λ p. IsName name.now × (p.1.now ≡ name.now) × IsDramNumber p.0 × (dram.now ≡ decimal p.0) × (ty.now ≡ type_text p.2)) }
 {
-    if !is_name(name) {
+    if !is_port_name(name) {
         return None;
     }
     let dram = dram_of(dram)?;

@@ -3,7 +3,8 @@
 ghost use Rattle.std.specs.Prelude.{true, false, None, ◌≡◌, ◌+◌, ◌<◌, ◌^◌, List, [], ◌∷◌, ◌++◌, length, map, replicate, sum_by, string_bytes, filter_map, count_by, Contains, All, IsTrue, IfOk, OnOk};
 ghost use Rattle.std.specs.List.{range_with_len};
 ghost use Rattle.sp_netlist.specs.Draft.{IsDraft};
-ghost use Rattle.sp_netlist.specs.Rules.{is_name, is_done, in_name, out_name};
+ghost use Rattle.sp_netlist.specs.Rules.{is_done, in_name, out_name};
+ghost use Rattle.sp_words.specs.Names.{IsName};
 ghost use Rattle.sp_top.specs.Straight.{plain_program, IsSound};
 ghost use Rattle.sp_top.specs.Carries.{Carries};
 ghost use Rattle.sp_top.specs.StraightCells.{arg_cells, atom_net, atom_cells, cell_op, value_net, value_cells, statement_nets, statement_cells, writers, result_cells, done_cells, out_cells, end_cells, straight_cells};
@@ -114,7 +115,7 @@ fn add_value(builder: &mut Builder, value: Value) -> Result<NetId, NoMemory>
 /// An input of that name.
 fn add_argument(alloc: Global, builder: &mut Builder, name: &str) -> Result<(), NoMemory>
     requires full { Awaits builder.old [] }
-    requires named { IsTrue (is_name name.now) }
+    requires named { IsName name.now }
     requires new { Contains (filter_map in_name builder.old.cells) name.now → ⊥ }
     ensures cells { OnOk result (builder.new.cells ≡ builder.old.cells ++ in_cell name.now (length builder.old.promised) int_type ∷ []) }
     ensures promised { OnOk result (builder.new.promised ≡ builder.old.promised ++ (32, true) ∷ []) }
@@ -131,7 +132,7 @@ fn add_arguments(alloc: Global, builder: &mut Builder, names: &[String]) -> Resu
     requires full { Awaits builder.old [] }
     requires no_nets { builder.old.promised ≡ [] }
     requires no_cells { builder.old.cells ≡ [] }
-    requires named { All (λ name. IsTrue (is_name name)) (map string_bytes names.now) }
+    requires named { All IsName (map string_bytes names.now) }
     requires differ { Differ (map string_bytes names.now) }
     ensures cells { OnOk result (builder.new.cells ≡ arg_cells 0 (map string_bytes names.now)) }
     ensures promised { OnOk result (builder.new.promised ≡ replicate (length names.now) (32, true)) }
@@ -247,7 +248,7 @@ fn add_done(builder: &mut Builder, ends: &EndNets) -> Result<(), NoMemory>
 fn add_result(alloc: Global, builder: &mut Builder, name: &str, net: NetId) -> Result<(), NoMemory>
     requires full { Awaits builder.old [] }
     requires word { IsInt builder.old.promised net }
-    requires named { IsTrue (is_name name.now) }
+    requires named { IsName name.now }
     requires new { Contains (filter_map out_name builder.old.cells) name.now → ⊥ }
     ensures cells { OnOk result (builder.new.cells ≡ builder.old.cells ++ out_cell name.now net int_type ∷ []) }
     ensures same_nets { OnOk result (builder.new.promised ≡ builder.old.promised) }
@@ -269,7 +270,7 @@ fn add_results(
     requires none { filter_map out_name builder.old.cells ≡ [] }
     requires words { All (IsInt builder.old.promised) nets.now }
     requires as_many { length nets.now ≡ length names.now }
-    requires named { All (λ name. IsTrue (is_name name)) (map string_bytes names.now) }
+    requires named { All IsName (map string_bytes names.now) }
     requires differ { Differ (map string_bytes names.now) }
     ensures cells { OnOk result (builder.new.cells ≡ builder.old.cells ++ out_cells nets.now (map string_bytes names.now)) }
     ensures same_nets { OnOk result (builder.new.promised ≡ builder.old.promised) }
@@ -292,7 +293,7 @@ fn add_ends(
     requires full { Awaits builder.old [] }
     requires words { All (WriterIsMet builder.old.promised) writers.now }
     requires as_many { length writers.now ≡ length names.now }
-    requires named { All (λ name. IsTrue (is_name name)) (map string_bytes names.now) }
+    requires named { All IsName (map string_bytes names.now) }
     requires differ { Differ (map string_bytes names.now) }
     requires no_outs { filter_map out_name builder.old.cells ≡ [] }
     requires not_done { count_by is_done builder.old.cells ≡ 0 }

@@ -2,14 +2,15 @@
 
 ghost use Rattle.std.specs.Prelude.{◌≡◌, ◌≢◌, ◌+◌, ◌<◌, ◌≤◌, ◌⊎◌, ◌↔◌, ℕ, List, [], ◌∷◌, ◌++◌, IsTrue, IfOk, MatchResult, length, vec_len, map, string_bytes, Contains, if◌then◌else◌};
 ghost use Rattle.sp_top.specs.Straight.{plain_program, IsSound};
-ghost use Rattle.sp_top.specs.Form.{Line, IsStraight, declaring, stating, closed, program_of, BreaksAt, reserved_words};
+ghost use Rattle.sp_top.specs.Form.{Line, IsStraight, declaring, stating, closed, program_of, BreaksAt};
 ghost use Rattle.sp_top.specs.declared.straight.parse.ParseError.TheVariants.{Breaks, Memory};
 ghost use Rattle.sp_top.specs.Reading.{Lacks, IsAsciiText, HasRead, Stops, IsFreeIn, with_name, with_statement};
-ghost use Rattle.sp_netlist.specs.Rules.{is_name};
+ghost use Rattle.sp_words.specs.Names.{IsName};
 
 use crate::straight::lines::{Side, declaration, next_line, statement};
-use crate::straight::names::{contains, is_name, is_reserved};
+use crate::straight::names::contains;
 use crate::straight::program::{Program, Statement};
+use sp_words::{is_name, is_reserved};
 use std::alloc::{AllocError, Global};
 
 /// The greatest number of lines of a text of the straight form.
@@ -45,7 +46,7 @@ struct Reader<'a> {
 
 /// Whether the text is a name, and no word of the language.
 fn may_be_name(name: &str) -> bool
-    ensures { IsTrue result ↔ (IsTrue (is_name name.now) × (Contains reserved_words name.now → ⊥)) }
+    ensures { IsTrue result ↔ IsName name.now }
 {
     is_name(name) && !is_reserved(name)
 }

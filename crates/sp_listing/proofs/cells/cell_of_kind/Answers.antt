@@ -1,8 +1,9 @@
 use Rattle.std.proofs.Common.{◌≢◌}
+use Rattle.std.proofs.lemmas.Result.{IfOk-weaker}
 use Rattle.sp_listing.specs.Reading.{IsFormed}
-use Rattle.sp_listing.specs.Readers.{texts, parts_of}
-use Rattle.sp_listing.specs.declared.kind.Kind.TheVariants.{Done, Const, Op, Not, Shift, Cast, Mux, Reg, Bank, Read, Write, Load, Store}
-use Rattle.sp_listing.proofs.KindLemmas.{reads_kind, of_done, of_constant, of_operator, of_not, of_shift, of_cast, of_mux, of_register, of_bank, of_read_tap, of_write_tap, of_load, of_store}
+use Rattle.sp_listing.specs.Readers.{texts, parts_of, ReadsParts}
+use Rattle.sp_listing.specs.declared.kind.Kind.TheVariants.{Dram, Done, Const, Op, Not, Shift, Cast, Mux, Reg, Bank, Read, Write, Load, Store}
+use Rattle.sp_listing.proofs.KindLemmas.{reads_kind, of_memory, of_done, of_constant, of_operator, of_not, of_shift, of_cast, of_mux, of_register, of_bank, of_read_tap, of_write_tap, of_load, of_store}
 use Rattle.sp_listing.proofs.cells.cell_of_kind.Goals as goal
 
 pub returns-in-Done : goal.returns-in-Done
@@ -43,3 +44,9 @@ returns-in-Load c = rw c.in-Load.is (reads_kind Load (texts c.args.parts.now) _ 
 
 pub returns-in-Store : goal.returns-in-Store
 returns-in-Store c = rw c.in-Store.is (reads_kind Store (texts c.args.parts.now) _ c.store.result (of_store (λ cell. IsFormed cell → texts c.args.parts.now ≢ parts_of cell)) c.store.ensures)
+
+pub returns-in-Dram : goal.returns-in-Dram
+returns-in-Dram c =
+    rw c.in-Dram.is
+    (IfOk-weaker c.memory.result _ (ReadsParts Dram (texts c.args.parts.now))
+    (λ r h. reads_kind Dram (texts c.args.parts.now) _ r (of_memory (λ cell. IsFormed cell → texts c.args.parts.now ≢ parts_of cell)) h) c.memory.ensures)
