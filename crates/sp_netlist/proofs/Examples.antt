@@ -18,7 +18,7 @@ use Rattle.sp_netlist.proofs.Evaluate.{after, word_of}
 use Rattle.sp_netlist.proofs.Ended.{done_at, conflict_at, fine, goes_on, no_share}
 
 -- a name that is no word of the language
-a_name : (name : List ℕ) → IsTrue (is_name name) → list_any (λ word. bytes_eq word name) reserved_words ≡ false → IsName name
+pub a_name : (name : List ℕ) → IsTrue (is_name name) → list_any (λ word. bytes_eq word name) reserved_words ≡ false → IsName name
 a_name name letters none = record {
   letters = letters;
   free = λ (k, lt, same). absurd (false≢true (sym none ∙ list_any_at (λ word. bytes_eq word name) reserved_words k name lt ((bytes_eq-Decides (get_or reserved_words k name) name).1 same)));

@@ -21,7 +21,8 @@ fn add_sum(alloc: Global, builder: &mut Builder) -> Result<NetId, NoMemory>
     let x = builder.promise(32, true)?;
     let three = builder.promise(32, true)?;
     let sum = builder.promise(32, false)?;
-    builder.add(Cell::In(String::from_str(alloc, "x")?, x, int))?;
+    let name = String::from_str(alloc, "x")?;
+    builder.add(Cell::In(name, x, int))?;
     builder.add(Cell::Const(three, 32, 3))?;
     builder.add(Cell::Op(sum, int, CellOp::Add, x, three))?;
     Ok(sum)
@@ -41,7 +42,8 @@ fn add_result(alloc: Global, builder: &mut Builder, sum: NetId) -> Result<(), No
     builder.add(Cell::Hold(held, 32, 0, sum, one))?;
     builder.add(Cell::Const(one, 1, 1))?;
     builder.add(Cell::Hold(done, 1, 0, one, one))?;
-    builder.add(Cell::Out(String::from_str(alloc, "y")?, held, Ty::int()))?;
+    let name = String::from_str(alloc, "y")?;
+    builder.add(Cell::Out(name, held, Ty::int()))?;
     builder.add(Cell::Done(done))
 }
 
@@ -99,21 +101,18 @@ fn add_ports(alloc: Global, builder: &mut Builder) -> Result<(), NoMemory>
     ensures cells { OnOk result (builder.new.cells ≡ dram_cell 0 (codes "m") Bit (4 ∷ []) ∷ out_cell (codes "q") 0 Bit ∷ in_cell (codes "a") 0 Bit ∷ dram_cell 1 (codes "k") Bit (2 ∷ 3 ∷ []) ∷ out_cell (codes "p") 0 Bit ∷ done_cell 0 ∷ []) }
 {
     let a = builder.promise(1, true)?;
-    builder.add(Cell::Dram(
-        0,
-        String::from_str(alloc, "m")?,
-        Ty::Bit,
-        Vec::from_slice(alloc, &[4])?,
-    ))?;
-    builder.add(Cell::Out(String::from_str(alloc, "q")?, a, Ty::Bit))?;
-    builder.add(Cell::In(String::from_str(alloc, "a")?, a, Ty::Bit))?;
-    builder.add(Cell::Dram(
-        1,
-        String::from_str(alloc, "k")?,
-        Ty::Bit,
-        Vec::from_slice(alloc, &[2, 3])?,
-    ))?;
-    builder.add(Cell::Out(String::from_str(alloc, "p")?, a, Ty::Bit))?;
+    let m = String::from_str(alloc, "m")?;
+    let four = Vec::from_slice(alloc, &[4])?;
+    builder.add(Cell::Dram(0, m, Ty::Bit, four))?;
+    let q = String::from_str(alloc, "q")?;
+    builder.add(Cell::Out(q, a, Ty::Bit))?;
+    let first = String::from_str(alloc, "a")?;
+    builder.add(Cell::In(first, a, Ty::Bit))?;
+    let k = String::from_str(alloc, "k")?;
+    let two_by_three = Vec::from_slice(alloc, &[2, 3])?;
+    builder.add(Cell::Dram(1, k, Ty::Bit, two_by_three))?;
+    let p = String::from_str(alloc, "p")?;
+    builder.add(Cell::Out(p, a, Ty::Bit))?;
     builder.add(Cell::Done(a))
 }
 
