@@ -1,6 +1,6 @@
 -- Reading a declaration.
 use Rattle.std.proofs.Common.{◌≡◌, ◌≢◌, ℕ, List, [], ◌∷◌, ◌++◌, Contains, IsTrue, Result, Ok, Err, MatchResult, IfOk, codes, refl, sym, ◌∙◌, subst, inl, inr, lit<, lit≤}
-use Rattle.sp_netlist.specs.Rules.{is_name}
+use Rattle.sp_words.specs.Names.{is_name}
 use Rattle.sp_top.specs.declared.straight.lines.Side.{Side}
 use Rattle.sp_top.specs.declared.straight.lines.Side.TheVariants.{Arg, Out}
 use Rattle.sp_top.specs.declared.straight.program.Program.{Program}

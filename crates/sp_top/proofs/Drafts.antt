@@ -5,7 +5,8 @@ use Rattle.std.proofs.lemmas.Bool.Decides.{nat_tests}
 use Rattle.std.proofs.lemmas.List.Sums.{sum_by-append, sum_by-cons}
 use Rattle.sp_words.specs.Types.{int_type}
 use Rattle.sp_netlist.specs.Cells.{PlainCell, in_cell, out_cell, done_cell, const_cell, op_cell, reg_cell}
-use Rattle.sp_netlist.specs.Rules.{IsWidth, is_name, is_done, in_name, out_name, op_width}
+use Rattle.sp_netlist.specs.Rules.{IsWidth, is_done, in_name, out_name, op_width}
+use Rattle.sp_words.specs.Names.{is_name}
 use Rattle.sp_netlist.specs.Draft.{Draft, IsDraft, CanAdd, promised_width, driver_count, net_count}
 use Rattle.sp_top.specs.declared.straight.program.Operator.{Operator}
 use Rattle.sp_top.specs.declared.straight.program.Operator.TheVariants.{Add, Sub, Mul}

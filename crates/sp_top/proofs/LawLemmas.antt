@@ -6,7 +6,7 @@ use Rattle.std.proofs.lemmas.Fmt.{decimal_injective}
 use Rattle.std.specs.List.{list_all}
 use Rattle.std.proofs.lemmas.Bool.{false≢true}
 use Rattle.std.proofs.lemmas.Bool.Decides.{nat_tests}
-use Rattle.sp_netlist.specs.Rules.{is_name, is_letter, is_name_byte}
+use Rattle.sp_words.specs.Names.{is_name, is_letter, is_name_byte}
 use Rattle.sp_top.specs.declared.straight.program.Operator.{Operator}
 use Rattle.sp_top.specs.declared.straight.lines.Side.TheVariants.{Arg, Out}
 use Rattle.sp_top.specs.Form.{Word, name_word, number_word, Phrase, one_word, two_words, Line, arg_line, out_line, begin_line, write_line, end_line, stage_of, line_text, ended_line, text_of, word_text, phrase_text, operator_text, arg_names, out_names, LineFits, AllFit, PhraseFits, WordFits, BreaksAt, IsStraight}

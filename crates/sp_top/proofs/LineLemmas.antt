@@ -2,7 +2,7 @@
 use Rattle.std.proofs.Common.{◌≡◌, ◌≢◌, ℕ, List, ◌∷◌, ◌++◌, Contains, IsTrue, codes, sym, ◌∙◌, lit<}
 use Rattle.std.proofs.lemmas.List.{append_cancel_left}
 use Rattle.std.proofs.lemmas.List.Elements.{All-contains}
-use Rattle.sp_netlist.specs.Rules.{is_name}
+use Rattle.sp_words.specs.Names.{is_name}
 use Rattle.sp_top.specs.declared.straight.lines.Side.{Side}
 use Rattle.sp_top.specs.declared.straight.lines.Side.TheVariants.{Arg, Out}
 use Rattle.sp_top.specs.Straight.{PlainProgram}

@@ -47,14 +47,6 @@ contains_decided names name b e =
     ] in
     cases (position (bytes_eq name) names) refl e
 
-pub reserved_decided : (names : List (List ℕ)) (name : List ℕ) (b : Bool) → b ≡ list_any (λ word. bytes_eq word name) names → IsTrue b ↔ Contains names name
-reserved_decided names name b e = (
-  (λ yes. let found = Any-from_list_any (λ word. bytes_eq word name) names (sym e ∙ yes) in
-      let same : found.1 ≡ name = (bytes_eq-Decides found.1 name).0 found.4 in
-      (found.0, found.2, rw same at found.3)),
-  λ (k, lt, same). e ∙ list_any_at (λ word. bytes_eq word name) names k name lt ((bytes_eq-Decides (get_or names k name) name).1 same),
-)
-
 pub place_within : (names : List (List ℕ)) (name : List ℕ) → Contains names name → place_of names name < length names
 place_within names name within =
     let P : Option ℕ → Type 0 = λ o. position (bytes_eq name) names ≡ o → place_of names name < length names in

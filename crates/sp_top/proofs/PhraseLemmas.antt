@@ -1,7 +1,7 @@
 -- Words and phrases, as they are written.
 use Rattle.std.proofs.Common.{◌≡◌, ◌≢◌, ℕ, ◌<◌, ◌^◌, List, ◌∷◌, ◌++◌, All, Contains, IsTrue, codes, refl, sym, ◌∙◌, ap, arith, decimal, Some}
 use Rattle.std.proofs.lemmas.List.Elements.{All-contains}
-use Rattle.sp_netlist.specs.Rules.{is_name}
+use Rattle.sp_words.specs.Names.{is_name}
 use Rattle.sp_top.specs.declared.straight.program.Operator.{Operator}
 use Rattle.sp_top.specs.declared.straight.program.Operator.TheVariants.{Add, Sub, Mul}
 use Rattle.sp_top.specs.declared.straight.program.Atom.{Atom}

@@ -2,7 +2,7 @@
 use Rattle.std.proofs.Common.{◌≡◌, ◌≢◌, ◌⊎◌, ℕ, suc, List, [], ◌∷◌, ◌++◌, All, Contains, IsTrue, Option, Some, None, refl, sym, ◌∙◌, ap, arith, subst, inl, inr, filter_map, take, drop, take-append-drop, drop-cons}
 use Rattle.std.specs.List.{cons_option}
 use Rattle.std.proofs.lemmas.List.Elements.{All-weaker, All-contains_itself, filter_map-append, Contains-append_right}
-use Rattle.sp_netlist.specs.Rules.{is_name}
+use Rattle.sp_words.specs.Names.{is_name}
 use Rattle.sp_top.specs.declared.straight.program.Statement.{Statement}
 use Rattle.sp_top.specs.Form.{Line, arg_line, out_line, begin_line, write_line, end_line, Phrase, Stage, declaring, stating, stage_after, stage_from, stage_of, arg_name, out_name, declared_name, arg_names, out_names, declared_names, LineFits, statement_of, IsFree}
 use Rattle.sp_top.specs.Reading.{EachFits}

@@ -4,7 +4,7 @@ use Rattle.std.specs.List.{list_all}
 use Rattle.std.proofs.lemmas.List.{append-nil}
 use Rattle.std.proofs.lemmas.Bool.Decides.{nat_tests}
 use Rattle.std.proofs.lemmas.List.Elements.{All-nil, All-cons, All-append, All-weaker, All-contains}
-use Rattle.sp_netlist.specs.Rules.{is_name}
+use Rattle.sp_words.specs.Names.{is_name}
 use Rattle.sp_top.specs.declared.straight.program.Operator.{Operator}
 use Rattle.sp_top.specs.declared.straight.program.Operator.TheVariants.{Add, Sub, Mul}
 use Rattle.sp_top.specs.Straight.{PlainProgram}

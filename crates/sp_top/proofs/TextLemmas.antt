@@ -13,7 +13,7 @@ use Rattle.std.proofs.lemmas.List.Quantifiers.{position-Some}
 use Rattle.std.proofs.lemmas.List.{get_or-take}
 use Rattle.std.proofs.lemmas.Str.{IsUtf8-from_ascii}
 use Rattle.std.proofs.lemmas.Str.Ascii.{IsAscii-from_all}
-use Rattle.sp_netlist.specs.Rules.{is_name, is_letter, is_name_byte}
+use Rattle.sp_words.specs.Names.{is_name, is_letter, is_name_byte}
 use Rattle.sp_top.proofs.NameLemmas.{position_none}
 use Rattle.sp_top.specs.Reading.{Lacks, IsAsciiText}
 

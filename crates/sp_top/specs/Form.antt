@@ -8,7 +8,7 @@ use Rattle.sp_top.specs.declared.straight.program.Statement.{Statement}
 use Rattle.sp_top.specs.Straight.{PlainProgram}
 use Rattle.std.specs.Prelude.{unwrap_or, position}
 use Rattle.std.specs.Str.{bytes_eq}
-use Rattle.sp_netlist.specs.Rules.{is_name}
+use Rattle.sp_words.specs.Names.{is_name, reserved_words}
 use Rattle.sp_top.specs.declared.straight.program.Operator.{Operator}
 use Rattle.sp_top.specs.declared.straight.program.Operator.TheVariants.{Add, Sub, Mul}
 
@@ -80,15 +80,6 @@ out_names = filter_map out_name
 
 abbrev pub declared_names : List Line → List (List ℕ)
 declared_names = filter_map declared_name
-
--- words of the language that are no names of a program
-abbrev pub reserved_words : List (List ℕ)
-reserved_words =
-    codes "val" ∷ codes "Accel" ∷ codes "ArgIn" ∷ codes "ArgOut" ∷ codes "DRAM" ∷ codes "Reg" ∷ codes "SRAM" ∷ codes "FIFO"
-    ∷ codes "LineBuffer" ∷ codes "Int" ∷ codes "Bit" ∷ codes "FixPt" ∷ codes "TRUE" ∷ codes "FALSE" ∷ codes "true" ∷ codes "false"
-    ∷ codes "Foreach" ∷ codes "Reduce" ∷ codes "Fold" ∷ codes "MemReduce" ∷ codes "FSM" ∷ codes "Sequential" ∷ codes "Pipe"
-    ∷ codes "Parallel" ∷ codes "Stream" ∷ codes "if" ∷ codes "else" ∷ codes "mux" ∷ codes "min" ∷ codes "max" ∷ codes "by"
-    ∷ codes "par" ∷ codes "until" ∷ codes "load" ∷ codes "store" ∷ []
 
 -- how far a text has come: declarations, then statements, then nothing more
 pub data Stage : Type 0 where

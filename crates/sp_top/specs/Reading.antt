@@ -1,6 +1,6 @@
 -- What the parts of the reader of the straight form know and find out.
 use Rattle.std.specs.Prelude.{◌≡◌, ◌≢◌, ℕ, ◌<◌, ◌≤◌, List, [], ◌∷◌, ◌++◌, IsTrue, length, Contains, All, Option, Some, MatchOption}
-use Rattle.sp_netlist.specs.Rules.{is_name}
+use Rattle.sp_words.specs.Names.{is_name, reserved_words}
 use Rattle.sp_top.specs.declared.straight.program.Statement.{Statement}
 use Rattle.sp_top.specs.declared.straight.lines.Side.{Side}
 use Rattle.sp_top.specs.declared.straight.lines.Side.TheVariants.{Arg, Out}
@@ -9,7 +9,7 @@ use Rattle.sp_top.specs.declared.straight.program.Atom.{Atom}
 use Rattle.sp_top.specs.declared.straight.program.Value.{Value}
 use Rattle.sp_top.specs.declared.straight.parse.ParseError.{ParseError}
 use Rattle.sp_top.specs.declared.straight.parse.ParseError.TheVariants.{Breaks, Memory}
-use Rattle.sp_top.specs.Form.{Word, WordFits, word_text, atom_of, phrase_text, value_of, Line, arg_line, out_line, write_line, Phrase, Stage, line_text, text_of, LineFits, BreaksAt, reserved_words, arg_names, out_names, stage_of, program_of, statement_of, PhraseFits}
+use Rattle.sp_top.specs.Form.{Word, WordFits, word_text, atom_of, phrase_text, value_of, Line, arg_line, out_line, write_line, Phrase, Stage, line_text, text_of, LineFits, BreaksAt, arg_names, out_names, stage_of, program_of, statement_of, PhraseFits}
 
 -- the byte stands nowhere in the bytes
 abbrev pub Lacks : ℕ → List ℕ → Type 0

@@ -1,6 +1,6 @@
 -- A straight-line program without where its names lie in memory.
 use Rattle.std.specs.Prelude.{◌≡◌, ◌≤◌, ◌+◌, ◌∷◌, ◌++◌, ◌<◌, ◌^◌, length, All, Contains, IsTrue, ℕ, List, map, string_bytes}
-use Rattle.sp_netlist.specs.Rules.{is_name}
+use Rattle.sp_words.specs.Names.{is_name}
 use Rattle.sp_top.specs.declared.straight.program.Atom.{Atom}
 use Rattle.sp_top.specs.declared.straight.program.Atom.TheVariants.{Arg, Literal}
 use Rattle.sp_top.specs.declared.straight.program.Value.{Value}

@@ -3,7 +3,8 @@
 ghost use Rattle.std.specs.Prelude.{true, false, None, ◌≡◌, ◌+◌, ◌<◌, ◌^◌, List, [], ◌∷◌, ◌++◌, length, map, replicate, sum_by, string_bytes, filter_map, count_by, Contains, All, IsTrue, IfOk, OnOk};
 ghost use Rattle.std.specs.List.{range_with_len};
 ghost use Rattle.sp_netlist.specs.Draft.{IsDraft};
-ghost use Rattle.sp_netlist.specs.Rules.{is_name, is_done, in_name, out_name};
+ghost use Rattle.sp_netlist.specs.Rules.{is_done, in_name, out_name};
+ghost use Rattle.sp_words.specs.Names.{is_name};
 ghost use Rattle.sp_top.specs.Straight.{plain_program, IsSound};
 ghost use Rattle.sp_top.specs.Carries.{Carries};
 ghost use Rattle.sp_top.specs.StraightCells.{arg_cells, atom_net, atom_cells, cell_op, value_net, value_cells, statement_nets, statement_cells, writers, result_cells, done_cells, out_cells, end_cells, straight_cells};

@@ -2,14 +2,15 @@
 
 ghost use Rattle.std.specs.Prelude.{◌≡◌, ◌≢◌, ◌+◌, ◌<◌, ◌≤◌, ◌⊎◌, ◌↔◌, ℕ, List, [], ◌∷◌, ◌++◌, IsTrue, IfOk, MatchResult, length, vec_len, map, string_bytes, Contains, if◌then◌else◌};
 ghost use Rattle.sp_top.specs.Straight.{plain_program, IsSound};
-ghost use Rattle.sp_top.specs.Form.{Line, IsStraight, declaring, stating, closed, program_of, BreaksAt, reserved_words};
+ghost use Rattle.sp_top.specs.Form.{Line, IsStraight, declaring, stating, closed, program_of, BreaksAt};
 ghost use Rattle.sp_top.specs.declared.straight.parse.ParseError.TheVariants.{Breaks, Memory};
 ghost use Rattle.sp_top.specs.Reading.{Lacks, IsAsciiText, HasRead, Stops, IsFreeIn, with_name, with_statement};
-ghost use Rattle.sp_netlist.specs.Rules.{is_name};
+ghost use Rattle.sp_words.specs.Names.{is_name, reserved_words};
 
 use crate::straight::lines::{Side, declaration, next_line, statement};
-use crate::straight::names::{contains, is_name, is_reserved};
+use crate::straight::names::contains;
 use crate::straight::program::{Program, Statement};
+use sp_words::{is_name, is_reserved};
 use std::alloc::{AllocError, Global};
 
 /// The greatest number of lines of a text of the straight form.
