@@ -1,7 +1,8 @@
 -- Calls for names, each with its answer, in the order in which they were made.
-use Rattle.std.specs.Prelude.{◌≡◌, ℕ, ◌≤◌, List, [], ◌∷◌, ◌++◌, Result, Ok, Err, refl}
+use Rattle.std.specs.Prelude.{◌≡◌, ◌≢◌, ℕ, ◌≤◌, ⊤, List, [], ◌∷◌, ◌++◌, Result, Ok, Err, refl}
 use Rattle.std.proofs.Common.{arith, ◌∙◌}
 use Rattle.sp_edges.specs.declared.input.InputFault.{InputFault}
+use Rattle.sp_edges.specs.declared.input.InputFault.TheVariants.{Failed}
 
 -- a call for a name, and how it was answered
 pub record Call : Type 0 where
@@ -15,6 +16,18 @@ given name = record { name = name; answer = Ok tt }
 -- a call that was refused
 abbrev pub refused : List ℕ → InputFault → Call
 refused name fault = record { name = name; answer = Err fault }
+
+-- Calls for the first of these names in order, each of which gave what stands there. Only the last one may have
+-- been refused, and not for a fault.
+abbrev pub AreUnfaulted : List (List ℕ) → List Call → Type 0
+AreUnfaulted names [] = ⊤
+AreUnfaulted [] (call ∷ calls) = ⊥
+AreUnfaulted (name ∷ names) (call ∷ []) = (call.name ≡ name) × (call.answer ≢ Err Failed)
+AreUnfaulted (name ∷ names) (call ∷ (next ∷ calls)) = (call ≡ given name) × AreUnfaulted names (next ∷ calls)
+
+-- such calls were made
+abbrev pub WantsMemory : (List Call → Type 0) → List (List ℕ) → Type 0
+WantsMemory asked names = (calls : List Call) × AreUnfaulted names calls × asked calls
 
 -- Between two moments of the machine's files or sinks these calls were made, as far as a count of faults shows
 -- it: it never falls, and without a call it stays.

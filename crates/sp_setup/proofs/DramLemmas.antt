@@ -4,14 +4,14 @@ use Rattle.std.proofs.lemmas.List.{map-append, take_more, take-append-drop}
 use Rattle.std.specs.Global.{Vec}
 use Rattle.toml.specs.Data.{Members}
 use Rattle.sp_edges.specs.Standing.{Standing}
-use Rattle.sp_edges.specs.Calls.{Call, given}
+use Rattle.sp_edges.specs.Calls.{Call, given, AreUnfaulted, WantsMemory}
 use Rattle.sp_edges.specs.declared.input.InputFault.TheVariants as fault
 use Rattle.sp_words.specs.declared.interface.PortDecl.{PortDecl}
 use Rattle.sp_words.specs.Ports.{PlainPort, plain_port}
 use Rattle.sp_setup.proofs.Turns.{drop-turn}
 use Rattle.sp_setup.specs.declared.error.SetupEnd.{SetupEnd}
 use Rattle.sp_setup.specs.declared.error.SetupEnd.TheVariants.{Refused, ReadFault, TooLong, Memory}
-use Rattle.sp_setup.specs.Drams.{NamedGives, DramGives, AllGive, NamedEnds, DramEnds, DramsEnd, file_of, files_of, AreUnfaulted, WantsMemory}
+use Rattle.sp_setup.specs.Drams.{NamedGives, DramGives, AllGive, NamedEnds, DramEnds, DramsEnd, file_of, files_of}
 
 -- what is told of a file stays
 pub DramGives-told : (now before : List ℕ → Standing) (file : Option (List ℕ)) (port : PlainPort) (words : List ℕ) → ((n : List ℕ) → now n ≡ before n)

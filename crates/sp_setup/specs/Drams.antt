@@ -1,8 +1,8 @@
 -- The words of the DRAMs: those of their files, and zeros where none is named.
-use Rattle.std.specs.Prelude.{◌≡◌, ◌≢◌, ℕ, ◌+◌, ◌≤◌, List, [], ◌∷◌, ◌++◌, map, flat_map, option_to_list, replicate, length, Option, Some, None, Err, option_and_then, string_bytes, ⊤}
+use Rattle.std.specs.Prelude.{◌≡◌, ℕ, ◌+◌, ◌≤◌, List, [], ◌∷◌, ◌++◌, map, flat_map, option_to_list, replicate, length, Option, Some, None, option_and_then, string_bytes, ⊤}
 use Rattle.toml.specs.Data.{Members, get_member, as_str}
 use Rattle.sp_edges.specs.Standing.{Standing, IsAllOf, BeginsWith}
-use Rattle.sp_edges.specs.Calls.{Call, given, refused}
+use Rattle.sp_edges.specs.Calls.{Call, given, refused, WantsMemory}
 use Rattle.sp_edges.specs.declared.input.InputFault.TheVariants as fault
 use Rattle.sp_words.specs.Ports.{PlainPort}
 use Rattle.sp_words.specs.Interface.{word_count}
@@ -32,18 +32,6 @@ file_of files port = option_and_then as_str (get_member port.name files)
 -- the files that are named, in the order of the DRAMs
 abbrev pub files_of : Members → List PlainPort → List (List ℕ)
 files_of files ports = flat_map (λ port. option_to_list (file_of files port)) ports
-
--- Calls for the first of these names in order, each of which gave what stands there. Only the last one may have
--- been refused, and not for a fault.
-abbrev pub AreUnfaulted : List (List ℕ) → List Call → Type 0
-AreUnfaulted names [] = ⊤
-AreUnfaulted [] (call ∷ calls) = ⊥
-AreUnfaulted (name ∷ names) (call ∷ []) = (call.name ≡ name) × (call.answer ≢ Err fault.Failed)
-AreUnfaulted (name ∷ names) (call ∷ (next ∷ calls)) = (call ≡ given name) × AreUnfaulted names (next ∷ calls)
-
--- such calls were made
-abbrev pub WantsMemory : (List Call → Type 0) → List (List ℕ) → Type 0
-WantsMemory asked names = (calls : List Call) × AreUnfaulted names calls × asked calls
 
 -- a file that gives the words of a DRAM
 pub record NamedGives (standing : Standing) (port : PlainPort) (words : List ℕ) : Type 0 where
