@@ -3,3 +3,4 @@ pub mod Sure
 pub mod SureRoom
 pub mod PutText
 pub mod HostRead
+pub mod LawLemmas

@@ -1,5 +1,7 @@
 -- A text of which some pieces have been put.
 use Rattle.std.proofs.Common.{arith, ◌≡◌, ℕ, ◌+◌, ◌<◌, ◌≤◌, List, ◌++◌, length, append_assoc, length-append, ap, Option, Result, Ok, Err, OnErr}
+use Rattle.std.proofs.Common.{[], ◌∷◌, min, refl}
+use Rattle.sp_edges.specs.Pieces.{piece_length, IsFirstPiece, AreFirstPieces}
 use Rattle.sp_edges.specs.Gained.{Gained, GainedPart}
 use Rattle.sp_edges.specs.Laws.{Gained-append, GainedPart-append, GainedPart-front}
 
@@ -33,3 +35,21 @@ pub GainedPart-piece : (text rest rest' piece : List ℕ) (before middle after :
     Gained before middle front → GainedPart middle after piece → GainedPart before after text
 GainedPart-piece text rest rest' piece before middle after front split next gained part =
     rw (split, next) (GainedPart-append before middle after front (piece ++ rest') gained (GainedPart-front middle after piece rest' part))
+
+-- one more piece of a text
+pub AreFirstPieces-more : (text : List ℕ) (pieces : List (List ℕ)) (rest piece after : List ℕ) → AreFirstPieces text pieces rest → IsFirstPiece rest piece after →
+    AreFirstPieces text (pieces ++ piece ∷ []) after
+AreFirstPieces-more text [] rest piece after first next = (after, rw (← first) next, refl)
+AreFirstPieces-more text (p ∷ pieces) rest piece after first next = (first.0, first.1, AreFirstPieces-more first.0 pieces rest piece after first.2 next)
+
+-- the next piece of a text that is cut into pieces of that length
+pub IsFirstPiece-of : (text piece rest : List ℕ) (size : ℕ) → text ≡ piece ++ rest → length piece ≡ min size (length text) → size ≡ piece_length → 0 < length text → IsFirstPiece text piece rest
+IsFirstPiece-of text piece rest size parts long is some = record {
+  parts = parts;
+  long = rw (← is) long;
+  some = omega (arith, long, is, some);
+}
+
+pub length_zero : (text : List ℕ) → length text ≡ 0 → text ≡ []
+length_zero [] none = refl
+length_zero (byte ∷ text) none = absurd (omega arith)

@@ -1,4 +1,6 @@
 pub mod Counts
+pub mod Calls
+pub mod Pieces
 pub mod Standing
 pub mod Gained
 pub mod Memory

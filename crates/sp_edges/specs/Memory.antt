@@ -2,7 +2,10 @@
 use Rattle.std.specs.Prelude.{◌≡◌, ◌||◌, not, is_some, ℕ, ◌+◌, ◌^◌, Bool, true, false, List, find, nat_lt, ◌==◌, if◌then◌else◌, Some, None, IsTrue, IsSome, refl}
 use Rattle.std.specs.List.{list_all, list_any}
 use Rattle.std.specs.Str.{bytes_eq}
-use Rattle.std.specs.Prelude.{◌≡◌, ◌||◌, not, is_some, Option}
+use Rattle.std.specs.Prelude.{◌≡◌, ◌||◌, not, is_some, Option, [], ◌∷◌, ◌++◌, Result, Ok, Err}
+use Rattle.sp_edges.specs.declared.input.InputFault.{InputFault}
+use Rattle.sp_edges.specs.declared.input.InputFault.TheVariants.{Failed, TooLong, Memory}
+use Rattle.sp_edges.specs.Calls.{Call}
 use Rattle.sp_edges.specs.Counts.{one_more}
 use Rattle.sp_edges.specs.Standing.{Standing, Missing, Holds}
 
@@ -59,6 +62,21 @@ fails_at kept name = is_among kept.failing kept.next || not (is_some (file_named
 abbrev pub counted : KeptFiles → Bool → KeptFiles
 counted kept failed = record kept { next = next_number kept.next; faults = if failed then one_more kept.faults else kept.faults }
 
+-- the answer is that the call failed
+abbrev pub is_failed : Result (Unit {0}) InputFault → Bool
+is_failed (Ok done) = false
+is_failed (Err Failed) = true
+is_failed (Err TooLong) = false
+is_failed (Err Memory) = false
+
+-- the files after these calls
+abbrev pub after_calls : KeptFiles → List Call → KeptFiles
+after_calls kept [] = kept
+after_calls kept (call ∷ calls) = after_calls (counted kept (is_failed call.answer)) calls
+
+abbrev pub WasAsked : KeptFiles → List Call → KeptFiles → Type 0
+WasAsked before calls after = after ≡ after_calls before calls
+
 file_there : (file : Option (List ℕ × List ℕ)) → IsSome file → (bytes : List ℕ) × (standing_of file ≡ Holds bytes)
 file_there (Some file) some = (file.1, refl)
 file_there None some = absurd (cc)
@@ -66,3 +84,10 @@ file_there None some = absurd (cc)
 -- what stands under a sure name is told
 pub sure_name-told : (kept : KeptFiles) (name : List ℕ) → IsSure kept name → (bytes : List ℕ) × (standing_under kept name ≡ Holds bytes)
 sure_name-told kept name sure = file_there (file_named kept.files name) sure.0
+
+-- calls one after another
+pub after_calls-append : (before middle after : KeptFiles) (calls more : List Call) →
+    WasAsked before calls middle → WasAsked middle more after → WasAsked before (calls ++ more) after
+after_calls-append before middle after [] more first second = rw (← first) second
+after_calls-append before middle after (call ∷ calls) more first second =
+    after_calls-append (counted before (is_failed call.answer)) middle after calls more first second

@@ -1,5 +1,5 @@
 -- A sink that keeps what it takes in memory.
-use Rattle.std.specs.Prelude.{length, ◌-◌, ◌&&◌, ◌++◌, Bool, not, [], is_some, nat_le, take, ℕ, ◌==◌, if◌then◌else◌, List, map, find, min, Some, None}
+use Rattle.std.specs.Prelude.{◌≡◌, ◌∷◌, length, ◌-◌, ◌&&◌, ◌++◌, Bool, not, [], is_some, nat_le, take, ℕ, ◌==◌, if◌then◌else◌, List, map, find, min, Some, None}
 use Rattle.std.specs.Option.{unwrap_or, option_map}
 use Rattle.std.specs.Prelude.{Option}
 use Rattle.sp_edges.specs.declared.memory_output.SinkStop.{SinkStop}
@@ -38,6 +38,14 @@ after_put store piece =
       faults = if takes_whole store (length piece) then store.faults else one_more store.faults;
     }
 
+-- the sink after these pieces were put, one after another
+abbrev pub after_puts : Store → List (List ℕ) → Store
+after_puts store [] = store
+after_puts store (piece ∷ pieces) = after_puts (after_put store piece) pieces
+
+abbrev pub WasPut : Store → List (List ℕ) → Store → Type 0
+WasPut before pieces after = after ≡ after_puts before pieces
+
 -- the sink at its beginning
 abbrev pub new_store : ℕ → List SinkStop → Store
 new_store room stops = record { bytes = []; room = room; stops = stops; next = Some 0; faults = 0 }
@@ -45,3 +53,9 @@ new_store room stops = record { bytes = []; room = room; stops = stops; next = S
 -- the room within which no put fails: all that is left where no stop is still to come, else none
 abbrev pub sure_room_of : Store → ℕ
 sure_room_of store = if all_past (map (λ stop. stop.call) store.stops) store.next then store.room else 0
+
+-- pieces one after another
+pub after_puts-append : (before middle after : Store) (pieces more : List (List ℕ)) →
+    WasPut before pieces middle → WasPut middle more after → WasPut before (pieces ++ more) after
+after_puts-append before middle after [] more first second = rw (← first) second
+after_puts-append before middle after (piece ∷ pieces) more first second = after_puts-append (after_put before piece) middle after pieces more first second

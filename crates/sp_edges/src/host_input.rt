@@ -1,6 +1,7 @@
 // The files of the machine, as inputs.
-ghost use Rattle.std.specs.Prelude.{◌≡◌, ◌<◌, ◌≤◌, length, OnOk, OnErr, Err};
+ghost use Rattle.std.specs.Prelude.{◌≡◌, ◌<◌, ◌≤◌, [], ◌∷◌, length, OnOk, OnErr, Err, refl};
 ghost use Rattle.sp_edges.specs.Counts.{one_more, Rose};
+ghost use Rattle.sp_edges.specs.Calls.{Call, Counts, Counts-none, Counts-append};
 ghost use Rattle.sp_edges.specs.Standing.{Standing, Untold, AppendsAll, AppendsPast, AppendsPart};
 
 use crate::faults::count_fault;
@@ -50,7 +51,15 @@ impl<'a, R: Files> Inputs for HostInputs<'a, R> {
 
     ghost sure = { λ _ _. ⊥ };
 
+    ghost asked = { Counts };
+
     ghost sure_is_told = { λ _ _ sure. absurd sure };
+
+    ghost no_call = { Counts-none };
+
+    ghost stays = { λ _ _ same. same.1 refl };
+
+    ghost more_calls = { Counts-append };
 
     fn read_into(&mut self, name: &str, most: usize, into: &mut Vec<u8>) -> Result<(), InputFault> {
         let Ok(mut buffer) = vec![in self.alloc; 0u8; BUFFER] else {

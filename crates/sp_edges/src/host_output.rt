@@ -1,6 +1,7 @@
 // Standard output and the files of the machine, as sinks.
-ghost use Rattle.std.specs.Prelude.{◌≡◌, ◌≤◌, None, OnErr};
+ghost use Rattle.std.specs.Prelude.{◌≡◌, ◌≤◌, [], ◌∷◌, None, OnErr, refl};
 ghost use Rattle.sp_edges.specs.Counts.{Rose};
+ghost use Rattle.sp_edges.specs.Calls.{Counts, Counts-none, Counts-append};
 
 use crate::faults::count_fault;
 use crate::output::{Sink, SinkFailed};
@@ -67,6 +68,14 @@ impl<'a, R: Files + Print> Sink for HostSink<'a, R> {
     ghost faults = { λ sink. sink };
 
     ghost sure_room = { λ _. 0 };
+
+    ghost was_put = { Counts };
+
+    ghost no_put = { Counts-none };
+
+    ghost stays = { λ _ _ same. same.1 refl };
+
+    ghost more_puts = { Counts-append };
 
     fn put(&mut self, piece: &[u8]) -> Result<(), SinkFailed> {
         if let Destination::Unmade(name) = self.to {

@@ -1,11 +1,12 @@
 // Inputs that are kept in memory.
-ghost use Rattle.std.specs.Prelude.{◌≡◌, ◌≢◌, ◌↔◌, ◌⊎◌, ℕ, ◌+◌, ◌^◌, ◌<◌, ◌≤◌, List, [], ◌++◌, length, map, find, take, Some, None, Err, OnOk, OnErr, IsTrue, is_some, IsSome, if◌then◌else◌};
+ghost use Rattle.std.specs.Prelude.{◌≡◌, ◌≢◌, ◌↔◌, ◌⊎◌, ℕ, ◌+◌, ◌^◌, ◌<◌, ◌≤◌, List, [], ◌∷◌, ◌++◌, refl, length, map, find, take, Some, None, Err, OnOk, OnErr, IsTrue, is_some, IsSome, if◌then◌else◌};
 ghost use Rattle.std.specs.Option.{option_copied, option_map};
 ghost use Rattle.std.specs.String.{string_bytes};
 ghost use Rattle.std.specs.Str.{bytes_eq};
 ghost use Rattle.sp_edges.specs.Counts.{one_more, Rose};
 ghost use Rattle.sp_edges.specs.Standing.{Standing, Untold, Missing, Holds, AppendsAll, AppendsPast, AppendsPart};
-ghost use Rattle.sp_edges.specs.Memory.{next_number, is_among, file_named, standing_under, IsSure, sure_name-told, fails_at, counted, new_files, standing_of};
+ghost use Rattle.sp_edges.specs.Calls.{Call};
+ghost use Rattle.sp_edges.specs.Memory.{WasAsked, after_calls-append, next_number, is_among, file_named, standing_under, IsSure, sure_name-told, fails_at, counted, new_files, standing_of};
 ghost use Rattle.sp_edges.specs.Files.{file_of};
 
 use crate::input::{InputFault, Inputs};
@@ -118,13 +119,22 @@ impl Inputs for MemInputs {
 
     ghost sure = { IsSure };
 
+    ghost asked = { WasAsked };
+
     ghost sure_is_told = { sure_name-told };
+
+    ghost no_call = { λ _. refl };
+
+    ghost stays = { λ _ _ same. same };
+
+    ghost more_calls = { after_calls-append };
 
     fn read_into(&mut self, name: &str, most: usize, into: &mut Vec<u8>) -> Result<(), InputFault>
         ensures all { OnOk result (AppendsAll (standing_under self.old name.now) most into.old.items into.new.items) }
         ensures too_long { result ≡ Err InputFault.TooLong →
             AppendsPast (standing_under self.old name.now) most into.old.items into.new.items }
         ensures part { OnErr result (AppendsPart (standing_under self.old name.now) into.old.items into.new.items) }
+        ensures asks { WasAsked self.old (record { name = name.now; answer = result } ∷ []) self.new }
         ensures failed { result ≡ Err InputFault.Failed → Rose self.old.faults self.new.faults }
         ensures not_sure { IsSure self.old name.now → result ≢ Err InputFault.Failed }
         ensures missing { standing_under self.old name.now ≡ Missing → result ≡ Err InputFault.Failed }

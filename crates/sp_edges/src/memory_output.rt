@@ -104,10 +104,10 @@ fn find_stop(stops: &[SinkStop], call: u64) -> Option<usize>
 }
 
 impl Sink for MemSink {
-    ghost use Rattle.std.specs.Prelude.{◌≡◌, ◌+◌, ◌<◌, ◌≤◌, length, [], Some, OnOk, OnErr, IsOk, IsTrue};
+    ghost use Rattle.std.specs.Prelude.{◌≡◌, ◌+◌, ◌<◌, ◌≤◌, length, [], ◌∷◌, Some, OnOk, OnErr, IsOk, IsTrue, refl};
     ghost use Rattle.sp_edges.specs.Counts.{one_more, Rose};
     ghost use Rattle.sp_edges.specs.Gained.{Gained, GainedPart};
-    ghost use Rattle.sp_edges.specs.Store.{sure_room_of, takes_whole, after_put};
+    ghost use Rattle.sp_edges.specs.Store.{sure_room_of, takes_whole, after_put, WasPut, after_puts-append};
 
     ghost taken = { λ sink. Some sink.bytes };
 
@@ -115,9 +115,18 @@ impl Sink for MemSink {
 
     ghost sure_room = { sure_room_of };
 
+    ghost was_put = { WasPut };
+
+    ghost no_put = { λ _. refl };
+
+    ghost stays = { λ _ _ same. same };
+
+    ghost more_puts = { after_puts-append };
+
     fn put(&mut self, piece: &[u8]) -> Result<(), SinkFailed>
         ensures whole { OnOk result (Gained (Some self.old.bytes) (Some self.new.bytes) piece.now) }
         ensures part { OnErr result (GainedPart (Some self.old.bytes) (Some self.new.bytes) piece.now) }
+        ensures puts { WasPut self.old (piece.now ∷ []) self.new }
         ensures failed { OnErr result (Rose self.old.faults self.new.faults) }
         ensures sure { 0 < length piece.now → length piece.now ≤ sure_room_of self.old → IsOk result }
         ensures room { 0 < length piece.now → length piece.now ≤ sure_room_of self.old →

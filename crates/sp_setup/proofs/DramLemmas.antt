@@ -1,15 +1,17 @@
 -- The DRAMs, one after another, and what is told of their files.
-use Rattle.std.proofs.Common.{◌≡◌, ℕ, ◌+◌, ◌<◌, List, [], ◌∷◌, ◌++◌, map, take, drop, length, get_or, Option, Some, None, refl, sym, subst, ap, ◌∙◌}
+use Rattle.std.proofs.Common.{◌≡◌, ℕ, ◌+◌, ◌<◌, List, [], ◌∷◌, ◌++◌, map, take, drop, length, get_or, Option, Some, None, refl, sym, subst, ap, ◌∙◌, append_assoc, append-nil, option_to_list, Ok, Err}
 use Rattle.std.proofs.lemmas.List.{map-append, take_more, take-append-drop}
 use Rattle.std.specs.Global.{Vec}
 use Rattle.toml.specs.Data.{Members}
 use Rattle.sp_edges.specs.Standing.{Standing}
+use Rattle.sp_edges.specs.Calls.{Call, given, AreUnfaulted, WantsMemory}
+use Rattle.sp_edges.specs.declared.input.InputFault.TheVariants as fault
 use Rattle.sp_words.specs.declared.interface.PortDecl.{PortDecl}
 use Rattle.sp_words.specs.Ports.{PlainPort, plain_port}
 use Rattle.sp_setup.proofs.Turns.{drop-turn}
 use Rattle.sp_setup.specs.declared.error.SetupEnd.{SetupEnd}
 use Rattle.sp_setup.specs.declared.error.SetupEnd.TheVariants.{Refused, ReadFault, TooLong, Memory}
-use Rattle.sp_setup.specs.Drams.{NamedGives, DramGives, AllGive, NamedEnds, DramEnds, DramsEnd, file_of}
+use Rattle.sp_setup.specs.Drams.{NamedGives, DramGives, AllGive, NamedEnds, DramEnds, DramsEnd, file_of, files_of}
 
 -- what is told of a file stays
 pub DramGives-told : (now before : List ℕ → Standing) (file : Option (List ℕ)) (port : PlainPort) (words : List ℕ) → ((n : List ℕ) → now n ≡ before n)
@@ -18,17 +20,54 @@ DramGives-told now before None port words same gives = gives
 DramGives-told now before (Some name) port words same gives =
     let P : Standing → Type 0 = λ standing. NamedGives standing port words in subst P (same name) gives
 
-NamedEnds-failed : (standing : Standing) (now before : Type 0) (name : List ℕ) (port : PlainPort) (end : SetupEnd) → (now → before)
-    → NamedEnds standing now name port end → NamedEnds standing before name port end
-NamedEnds-failed standing now before name port (Refused e) wide ends = ends
-NamedEnds-failed standing now before name port ReadFault wide ends = wide ends
-NamedEnds-failed standing now before name port (TooLong text) wide ends = ends
-NamedEnds-failed standing now before name port Memory wide ends = tt
+WantsMemory-wide : (now then : List Call → Type 0) (names : List (List ℕ)) → ((calls : List Call) → now calls → then calls) → WantsMemory now names → WantsMemory then names
+WantsMemory-wide now then names wide wants = (wants.0, wants.1, wide wants.0 wants.2)
 
-NamedEnds-told : (now before : Standing) (failed : Type 0) (name : List ℕ) (port : PlainPort) (end : SetupEnd) → now ≡ before
-    → NamedEnds now failed name port end → NamedEnds before failed name port end
-NamedEnds-told now before failed name port end same ends =
-    let P : Standing → Type 0 = λ standing. NamedEnds standing failed name port end in subst P same ends
+-- what may have failed, and which calls were made, by a longer time
+NamedEnds-wide : (standing : Standing) (now before : Type 0) (asked_now asked : List Call → Type 0) (name : List ℕ) (port : PlainPort) (end : SetupEnd) → (now → before)
+    → ((calls : List Call) → asked_now calls → asked calls)
+    → NamedEnds standing now asked_now name port end → NamedEnds standing before asked name port end
+NamedEnds-wide standing now before asked_now asked name port (Refused e) wide more ends = (more _ ends.0, ends.1)
+NamedEnds-wide standing now before asked_now asked name port ReadFault wide more ends = (more _ ends.0, wide ends.1)
+NamedEnds-wide standing now before asked_now asked name port (TooLong text) wide more ends = (more _ ends.0, ends.1, ends.2)
+NamedEnds-wide standing now before asked_now asked name port Memory wide more ends = WantsMemory-wide asked_now asked _ more ends
+
+NamedEnds-told : (now before : Standing) (failed : Type 0) (asked : List Call → Type 0) (name : List ℕ) (port : PlainPort) (end : SetupEnd) → now ≡ before
+    → NamedEnds now failed asked name port end → NamedEnds before failed asked name port end
+NamedEnds-told now before failed asked name port end same ends =
+    let P : Standing → Type 0 = λ standing. NamedEnds standing failed asked name port end in subst P same ends
+
+-- calls after others that gave
+AreUnfaulted-given : (before names : List (List ℕ)) (calls : List Call) → AreUnfaulted names calls → AreUnfaulted (before ++ names) (map given before ++ calls)
+AreUnfaulted-given [] names calls some = some
+AreUnfaulted-given (b ∷ []) names [] some = (refl, λ (same : Ok tt ≡ Err fault.Failed). cc)
+AreUnfaulted-given (b ∷ []) names (call ∷ calls) some = (refl, some)
+AreUnfaulted-given (b ∷ (next ∷ before)) names calls some = (refl, AreUnfaulted-given (next ∷ before) names calls some)
+
+AreUnfaulted-more : (names more : List (List ℕ)) (calls : List Call) → AreUnfaulted names calls → AreUnfaulted (names ++ more) calls
+AreUnfaulted-more names more [] some = tt
+AreUnfaulted-more [] more (call ∷ calls) some = absurd some
+AreUnfaulted-more (name ∷ names) more (call ∷ []) some = some
+AreUnfaulted-more (name ∷ names) more (call ∷ (next ∷ calls)) some = (some.0, AreUnfaulted-more names more (next ∷ calls) some.1)
+
+-- the files of the DRAMs before a place, the one there and those after it
+pub files_of-append : (files : Members) (before after : List PlainPort) → files_of files (before ++ after) ≡ files_of files before ++ files_of files after
+files_of-append files [] after = refl
+files_of-append files (port ∷ before) after =
+    ap (λ names. option_to_list (file_of files port) ++ names) (files_of-append files before after) ∙ sym (append_assoc (option_to_list (file_of files port)) (files_of files before) (files_of files after))
+
+-- want of memory at a DRAM, after those before it
+WantsMemory-at : (asked_now asked : List Call → Type 0) (files : Members) (before after : List PlainPort) (port : PlainPort) (file : Option (List ℕ)) → file ≡ file_of files port
+    → ((calls : List Call) → asked_now calls → asked (map given (files_of files before) ++ calls))
+    → WantsMemory asked_now (option_to_list file) → WantsMemory asked (files_of files (before ++ (port ∷ after)))
+WantsMemory-at asked_now asked files before after port file is more wants =
+    let names : List (List ℕ) = option_to_list (file_of files port) in
+    let calls : List Call = map given (files_of files before) ++ wants.0 in
+    let here : AreUnfaulted names wants.0 = let P : Option (List ℕ) → Type 0 = λ f. AreUnfaulted (option_to_list f) wants.0 in subst P is wants.1 in
+    let some : AreUnfaulted (files_of files before ++ (names ++ files_of files after)) calls =
+    AreUnfaulted-given (files_of files before) (names ++ files_of files after) wants.0 (AreUnfaulted-more names (files_of files after) wants.0 here) in
+    let P : List (List ℕ) → Type 0 = λ all. AreUnfaulted all calls in
+    (calls, subst P (sym (files_of-append files before (port ∷ after))) some, more wants.0 wants.2)
 
 -- one more DRAM gives its words
 pub AllGive-push : (told : List ℕ → Standing) (files : Members) (ports : List PlainPort) (port : PlainPort) (drams : List (List ℕ)) (words : List ℕ)
@@ -44,36 +83,64 @@ unfolding AllGive
 AllGive-none told files = tt
 
 -- the DRAM at which the reading ended is the first one
-pub DramsEnd-first : (now told : List ℕ → Standing) (failed_now failed : List ℕ → Type 0) (files : Members) (before after : List PlainPort) (port : PlainPort) (drams : List (List ℕ)) (end : SetupEnd)
-    → ((n : List ℕ) → now n ≡ told n) → ((n : List ℕ) → failed_now n → failed n)
-    → AllGive told files before drams → (file : Option (List ℕ)) → file ≡ file_of files port → DramEnds now failed_now file port end
-    → DramsEnd told failed files (before ++ (port ∷ after)) end
-DramsEnd-first now told failed_now failed files before after port drams (Refused e) same wide all None is ends = absurd ends
-DramsEnd-first now told failed_now failed files before after port drams ReadFault same wide all None is ends = absurd ends
-DramsEnd-first now told failed_now failed files before after port drams (TooLong text) same wide all None is ends = absurd ends
-DramsEnd-first now told failed_now failed files before after port drams Memory same wide all None is ends = tt
-DramsEnd-first now told failed_now failed files before after port drams (Refused e) same wide all (Some name) is ends = record {
+pub DramsEnd-first : (now told : List ℕ → Standing) (failed_now failed : List ℕ → Type 0) (asked_now asked : List Call → Type 0) (files : Members) (before after : List PlainPort) (port : PlainPort)
+    (drams : List (List ℕ)) (end : SetupEnd) → ((n : List ℕ) → now n ≡ told n) → ((n : List ℕ) → failed_now n → failed n)
+    → ((calls : List Call) → asked_now calls → asked (map given (files_of files before) ++ calls))
+    → AllGive told files before drams → (file : Option (List ℕ)) → file ≡ file_of files port → DramEnds now failed_now asked_now file port end
+    → DramsEnd told failed asked files (before ++ (port ∷ after)) end
+DramsEnd-first now told failed_now failed asked_now asked files before after port drams (Refused e) same wide more all None is ends = absurd ends.0
+DramsEnd-first now told failed_now failed asked_now asked files before after port drams ReadFault same wide more all None is ends = absurd ends.0
+DramsEnd-first now told failed_now failed asked_now asked files before after port drams (TooLong text) same wide more all None is ends = absurd ends.0
+DramsEnd-first now told failed_now failed asked_now asked files before after port drams Memory same wide more all None is ends =
+    WantsMemory-at asked_now asked files before after port None is more ([], tt, ends.1)
+DramsEnd-first now told failed_now failed asked_now asked files before after port drams (Refused e) same wide more all (Some name) is ends = record {
   port = port;
   name = name;
   reached = record { before = before; after = after; words = drams; stands = refl; given = all };
   named = sym is;
-  ends = NamedEnds-failed (told name) (failed_now name) (failed name) name port (Refused e) (wide name) (NamedEnds-told (now name) (told name) (failed_now name) name port (Refused e) (same name) ends);
+  ends = NamedEnds-wide (told name) (failed_now name) (failed name) asked_now (λ calls. asked (map given (files_of files before) ++ calls)) name port (Refused e) (wide name) more
+      (NamedEnds-told (now name) (told name) (failed_now name) asked_now name port (Refused e) (same name) ends);
 }
-DramsEnd-first now told failed_now failed files before after port drams ReadFault same wide all (Some name) is ends = record {
+DramsEnd-first now told failed_now failed asked_now asked files before after port drams ReadFault same wide more all (Some name) is ends = record {
   port = port;
   name = name;
   reached = record { before = before; after = after; words = drams; stands = refl; given = all };
   named = sym is;
-  ends = NamedEnds-failed (told name) (failed_now name) (failed name) name port ReadFault (wide name) (NamedEnds-told (now name) (told name) (failed_now name) name port ReadFault (same name) ends);
+  ends = NamedEnds-wide (told name) (failed_now name) (failed name) asked_now (λ calls. asked (map given (files_of files before) ++ calls)) name port ReadFault (wide name) more
+      (NamedEnds-told (now name) (told name) (failed_now name) asked_now name port ReadFault (same name) ends);
 }
-DramsEnd-first now told failed_now failed files before after port drams (TooLong text) same wide all (Some name) is ends = record {
+DramsEnd-first now told failed_now failed asked_now asked files before after port drams (TooLong text) same wide more all (Some name) is ends = record {
   port = port;
   name = name;
   reached = record { before = before; after = after; words = drams; stands = refl; given = all };
   named = sym is;
-  ends = NamedEnds-failed (told name) (failed_now name) (failed name) name port (TooLong text) (wide name) (NamedEnds-told (now name) (told name) (failed_now name) name port (TooLong text) (same name) ends);
+  ends = NamedEnds-wide (told name) (failed_now name) (failed name) asked_now (λ calls. asked (map given (files_of files before) ++ calls)) name port (TooLong text) (wide name) more
+      (NamedEnds-told (now name) (told name) (failed_now name) asked_now name port (TooLong text) (same name) ends);
 }
-DramsEnd-first now told failed_now failed files before after port drams Memory same wide all (Some name) is ends = tt
+DramsEnd-first now told failed_now failed asked_now asked files before after port drams Memory same wide more all (Some name) is ends =
+    WantsMemory-at asked_now asked files before after port (Some name) is more ends
+
+-- want of memory after the words of a DRAM
+pub DramsEnd-memory : (told : List ℕ → Standing) (failed : List ℕ → Type 0) (asked : List Call → Type 0) (files : Members) (before after : List PlainPort) (port : PlainPort)
+    → asked (map given (files_of files before) ++ map given (option_to_list (file_of files port))) → DramsEnd told failed asked files (before ++ (port ∷ after)) Memory
+DramsEnd-memory told failed asked files before after port made =
+    let names : List (List ℕ) = files_of files before ++ option_to_list (file_of files port) in
+    let some : AreUnfaulted (names ++ []) (map given names ++ []) = AreUnfaulted-given names [] [] tt in
+    let P : List Call → Type 0 = λ calls. AreUnfaulted (names ++ []) calls in
+    let Q : List (List ℕ) → Type 0 = λ all. AreUnfaulted all (map given names) in
+    let here : AreUnfaulted names (map given names) = subst Q (append-nil names) (subst P (append-nil (map given names)) some) in
+    let all : AreUnfaulted (names ++ files_of files after) (map given names) = AreUnfaulted-more names (files_of files after) (map given names) here in
+    let R : List Call → Type 0 = λ calls. asked calls in (
+      map given names,
+      subst Q (append_assoc (files_of files before) (option_to_list (file_of files port)) (files_of files after) ∙ sym (files_of-append files before (port ∷ after))) all,
+      subst R (sym (map-append given (files_of files before) (option_to_list (file_of files port)))) made,
+    )
+
+-- the files of the DRAMs before a place and of the one there
+pub files_of-push : (files : Members) (before : List PlainPort) (port : PlainPort) → map given (files_of files (before ++ (port ∷ []))) ≡ map given (files_of files before) ++ map given (option_to_list (file_of files port))
+files_of-push files before port =
+    ap (map given) (files_of-append files before (port ∷ []) ∙ ap (λ names. files_of files before ++ names) (append-nil (option_to_list (file_of files port))))
+    ∙ map-append given (files_of files before) (option_to_list (file_of files port))
 
 -- the ports before a place, the one there and those after it
 pub ports-at : (ports : List PortDecl) (i : ℕ) (port : PortDecl) → i < length ports → port ≡ get_or ports i port

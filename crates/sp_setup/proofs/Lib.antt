@@ -5,6 +5,7 @@ pub mod Turns
 pub mod CellLemmas
 pub mod DramLemmas
 pub mod FileLemmas
+pub mod FitLemmas
 pub mod SetupLemmas
 pub mod SizeLemmas
 pub mod SettingsLemmas

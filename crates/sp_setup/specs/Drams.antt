@@ -1,7 +1,9 @@
 -- The words of the DRAMs: those of their files, and zeros where none is named.
-use Rattle.std.specs.Prelude.{◌≡◌, ℕ, ◌+◌, ◌≤◌, List, [], ◌∷◌, ◌++◌, replicate, length, Option, Some, None, option_and_then, string_bytes, ⊤}
+use Rattle.std.specs.Prelude.{◌≡◌, ℕ, ◌+◌, ◌≤◌, List, [], ◌∷◌, ◌++◌, map, flat_map, option_to_list, replicate, length, Option, Some, None, option_and_then, string_bytes, ⊤}
 use Rattle.toml.specs.Data.{Members, get_member, as_str}
 use Rattle.sp_edges.specs.Standing.{Standing, IsAllOf, BeginsWith}
+use Rattle.sp_edges.specs.Calls.{Call, given, refused, WantsMemory}
+use Rattle.sp_edges.specs.declared.input.InputFault.TheVariants as fault
 use Rattle.sp_words.specs.Ports.{PlainPort}
 use Rattle.sp_words.specs.Interface.{word_count}
 use Rattle.sp_setup.specs.declared.error.SetupEnd.{SetupEnd}
@@ -26,6 +28,10 @@ pub record IsPastFile (standing : Standing) : Type 0 where
 -- the name of a DRAM's file
 abbrev pub file_of : Members → PlainPort → Option (List ℕ)
 file_of files port = option_and_then as_str (get_member port.name files)
+
+-- the files that are named, in the order of the DRAMs
+abbrev pub files_of : Members → List PlainPort → List (List ℕ)
+files_of files ports = flat_map (λ port. option_to_list (file_of files port)) ports
 
 -- a file that gives the words of a DRAM
 pub record NamedGives (standing : Standing) (port : PlainPort) (words : List ℕ) : Type 0 where
@@ -66,12 +72,13 @@ IsTooLong name ReadFault = ⊥
 IsTooLong name (TooLong text) = string_bytes text ≡ name
 IsTooLong name Memory = ⊤
 
--- how the reading of a file may end without its bytes
-abbrev pub FileEnds : Standing → Type 0 → List ℕ → SetupEnd → Type 0
-FileEnds standing failed name (Refused e) = ⊥
-FileEnds standing failed name ReadFault = failed
-FileEnds standing failed name (TooLong text) = (string_bytes text ≡ name) × IsPastFile standing
-FileEnds standing failed name Memory = ⊤
+-- How the reading of a file may end without its bytes, where `failed` says that it may have failed, and `asked` of
+-- calls that they were made.
+abbrev pub FileEnds : Standing → Type 0 → (List Call → Type 0) → List ℕ → SetupEnd → Type 0
+FileEnds standing failed asked name (Refused e) = ⊥
+FileEnds standing failed asked name ReadFault = asked (refused name fault.Failed ∷ []) × failed
+FileEnds standing failed asked name (TooLong text) = asked (refused name fault.TooLong ∷ []) × (string_bytes text ≡ name) × IsPastFile standing
+FileEnds standing failed asked name Memory = WantsMemory asked (name ∷ [])
 
 -- a file that refuses
 pub record NamedRefuses (standing : Standing) (port : PlainPort) (end : SetupEnd) : Type 0 where
@@ -79,29 +86,29 @@ pub record NamedRefuses (standing : Standing) (port : PlainPort) (end : SetupEnd
   pub given : GivesFile standing bytes
   pub refuses : CellsEnd port bytes end
 
--- How the reading of a named DRAM may end without words, where `failed` says that reading the name may have
--- failed. Want of memory may come always.
-abbrev pub NamedEnds : Standing → Type 0 → List ℕ → PlainPort → SetupEnd → Type 0
-NamedEnds standing failed name port (Refused e) = NamedRefuses standing port (Refused e)
-NamedEnds standing failed name port ReadFault = failed
-NamedEnds standing failed name port (TooLong text) = (string_bytes text ≡ name) × IsPastFile standing
-NamedEnds standing failed name port Memory = ⊤
+-- How the reading of a named DRAM may end without words: a file that was given refuses, or the call for it was
+-- refused. Want of memory may come always.
+abbrev pub NamedEnds : Standing → Type 0 → (List Call → Type 0) → List ℕ → PlainPort → SetupEnd → Type 0
+NamedEnds standing failed asked name port (Refused e) = asked (given name ∷ []) × NamedRefuses standing port (Refused e)
+NamedEnds standing failed asked name port ReadFault = asked (refused name fault.Failed ∷ []) × failed
+NamedEnds standing failed asked name port (TooLong text) = asked (refused name fault.TooLong ∷ []) × (string_bytes text ≡ name) × IsPastFile standing
+NamedEnds standing failed asked name port Memory = WantsMemory asked (name ∷ [])
 
 -- the same of a DRAM, by the name of its file
-abbrev pub DramEnds : (List ℕ → Standing) → (List ℕ → Type 0) → Option (List ℕ) → PlainPort → SetupEnd → Type 0
-DramEnds told failed None port end = IsMemory end
-DramEnds told failed (Some name) port end = NamedEnds (told name) (failed name) name port end
+abbrev pub DramEnds : (List ℕ → Standing) → (List ℕ → Type 0) → (List Call → Type 0) → Option (List ℕ) → PlainPort → SetupEnd → Type 0
+DramEnds told failed asked None port end = IsMemory end × asked []
+DramEnds told failed asked (Some name) port end = NamedEnds (told name) (failed name) asked name port end
 
--- the first DRAM whose words aren't there, with how its file ends
-pub record FirstEnds (told : List ℕ → Standing) (failed : List ℕ → Type 0) (files : Members) (ports : List PlainPort) (end : SetupEnd) : Type 0 where
+-- The first DRAM whose words aren't there, with how its file ends. The files before it were asked for, each once.
+pub record FirstEnds (told : List ℕ → Standing) (failed : List ℕ → Type 0) (asked : List Call → Type 0) (files : Members) (ports : List PlainPort) (end : SetupEnd) : Type 0 where
   pub port : PlainPort
   pub name : List ℕ
   pub reached : IsReached told files ports port
   pub named : file_of files port ≡ Some name
-  pub ends : NamedEnds (told name) (failed name) name port end
+  pub ends : NamedEnds (told name) (failed name) (λ calls. asked (map given (files_of files reached.before) ++ calls)) name port end
 
-abbrev pub DramsEnd : (List ℕ → Standing) → (List ℕ → Type 0) → Members → List PlainPort → SetupEnd → Type 0
-DramsEnd told failed files ports (Refused e) = FirstEnds told failed files ports (Refused e)
-DramsEnd told failed files ports ReadFault = FirstEnds told failed files ports ReadFault
-DramsEnd told failed files ports (TooLong text) = FirstEnds told failed files ports (TooLong text)
-DramsEnd told failed files ports Memory = ⊤
+abbrev pub DramsEnd : (List ℕ → Standing) → (List ℕ → Type 0) → (List Call → Type 0) → Members → List PlainPort → SetupEnd → Type 0
+DramsEnd told failed asked files ports (Refused e) = FirstEnds told failed asked files ports (Refused e)
+DramsEnd told failed asked files ports ReadFault = FirstEnds told failed asked files ports ReadFault
+DramsEnd told failed asked files ports (TooLong text) = FirstEnds told failed asked files ports (TooLong text)
+DramsEnd told failed asked files ports Memory = WantsMemory asked (files_of files ports)

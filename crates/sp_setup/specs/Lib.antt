@@ -2,6 +2,7 @@ pub mod Number
 pub mod NumberText
 pub mod Reading
 pub mod Refusal
+pub mod ErrorText
 pub mod Checks
 pub mod Section
 pub mod Table

@@ -1,13 +1,14 @@
 //! The words of the DRAMs: those of their files, and zeros where none is named.
-ghost use Rattle.std.specs.Prelude.{◌≡◌, ◌≤◌, ℕ, List, map, replicate, option_map, IfOk, IfErr};
+ghost use Rattle.std.specs.Prelude.{◌≡◌, ◌≤◌, ℕ, List, [], ◌∷◌, map, replicate, option_map, option_to_list, IfOk, IfErr, OnOk};
 ghost use Rattle.std.specs.Global.{Vec};
 ghost use Rattle.std.specs.List.{All};
 ghost use Rattle.sp_edges.specs.Counts.{Rose};
+ghost use Rattle.sp_edges.specs.Calls.{given};
 ghost use Rattle.sp_words.specs.declared.interface.PortDecl.{PortDecl};
 ghost use Rattle.sp_words.specs.Ports.{plain_port, plain_ports};
 ghost use Rattle.sp_words.specs.Interface.{word_count};
 ghost use Rattle.sp_setup.specs.Table.{option_table};
-ghost use Rattle.sp_setup.specs.Drams.{GivesFile, IsTooLong, NamedGives, file_of, DramGives, AllGive, FileEnds, NamedEnds, DramEnds, DramsEnd};
+ghost use Rattle.sp_setup.specs.Drams.{GivesFile, IsTooLong, NamedGives, file_of, files_of, DramGives, AllGive, FileEnds, NamedEnds, DramEnds, DramsEnd};
 
 use crate::cells::{MOST_WORDS, read_cells, words_of};
 use crate::error::SetupEnd;
@@ -42,7 +43,8 @@ fn too_long(alloc: Global, name: &str) -> SetupEnd
 // The bytes of a file.
 fn read_file<I: Inputs>(alloc: Global, inputs: &mut I, name: &str) -> Result<Vec<u8>, SetupEnd>
     ensures given { IfOk result (λ bytes. GivesFile (I.told inputs.old name.now) bytes.items) }
-    ensures refused { IfErr result (FileEnds (I.told inputs.old name.now) (Rose (I.faults inputs.old) (I.faults inputs.new) × (I.sure inputs.old name.now → ⊥)) name.now) }
+    ensures asks { OnOk result (I.asked inputs.old (given name.now ∷ []) inputs.new) }
+    ensures refused { IfErr result (FileEnds (I.told inputs.old name.now) (Rose (I.faults inputs.old) (I.faults inputs.new) × (I.sure inputs.old name.now → ⊥)) (λ calls. I.asked inputs.old calls inputs.new) name.now) }
     ensures counts { I.faults inputs.old ≤ I.faults inputs.new }
     ensures tells { (n : List ℕ) → I.told inputs.new n ≡ I.told inputs.old n }
     ensures stays_sure { (n : List ℕ) → I.sure inputs.old n → I.sure inputs.new n }
@@ -65,7 +67,8 @@ fn read_named<I: Inputs>(
 ) -> Result<Vec<u64>, SetupEnd>
     requires { word_count port.now.dims.items ≤ MOST_WORDS }
     ensures given { IfOk result (λ words. NamedGives (I.told inputs.old name.now) (plain_port port.now) words.items) }
-    ensures refused { IfErr result (NamedEnds (I.told inputs.old name.now) (Rose (I.faults inputs.old) (I.faults inputs.new) × (I.sure inputs.old name.now → ⊥)) name.now (plain_port port.now)) }
+    ensures asks { OnOk result (I.asked inputs.old (given name.now ∷ []) inputs.new) }
+    ensures refused { IfErr result (NamedEnds (I.told inputs.old name.now) (Rose (I.faults inputs.old) (I.faults inputs.new) × (I.sure inputs.old name.now → ⊥)) (λ calls. I.asked inputs.old calls inputs.new) name.now (plain_port port.now)) }
     ensures counts { I.faults inputs.old ≤ I.faults inputs.new }
     ensures tells { (n : List ℕ) → I.told inputs.new n ≡ I.told inputs.old n }
     ensures stays_sure { (n : List ℕ) → I.sure inputs.old n → I.sure inputs.new n }
@@ -91,7 +94,8 @@ fn read_dram<I: Inputs>(
 ) -> Result<Vec<u64>, SetupEnd>
     requires { word_count port.now.dims.items ≤ MOST_WORDS }
     ensures given { IfOk result (λ words. DramGives (I.told inputs.old) (file_of (option_table files.entry) (plain_port port.now)) (plain_port port.now) words.items) }
-    ensures refused { IfErr result (DramEnds (I.told inputs.old) (λ name. Rose (I.faults inputs.old) (I.faults inputs.new) × (I.sure inputs.old name → ⊥)) (file_of (option_table files.entry) (plain_port port.now)) (plain_port port.now)) }
+    ensures asks { OnOk result (I.asked inputs.old (map given (option_to_list (file_of (option_table files.entry) (plain_port port.now)))) inputs.new) }
+    ensures refused { IfErr result (DramEnds (I.told inputs.old) (λ name. Rose (I.faults inputs.old) (I.faults inputs.new) × (I.sure inputs.old name → ⊥)) (λ calls. I.asked inputs.old calls inputs.new) (file_of (option_table files.entry) (plain_port port.now)) (plain_port port.now)) }
     ensures counts { I.faults inputs.old ≤ I.faults inputs.new }
     ensures tells { (n : List ℕ) → I.told inputs.new n ≡ I.told inputs.old n }
     ensures stays_sure { (n : List ℕ) → I.sure inputs.old n → I.sure inputs.new n }
@@ -111,7 +115,8 @@ fn read_dram_list<I: Inputs>(
 ) -> Result<Vec<Vec<u64>>, SetupEnd>
     requires { All (λ (port : PortDecl). word_count port.dims.items ≤ MOST_WORDS) ports.now }
     ensures given { IfOk result (λ drams. AllGive (I.told inputs.old) (option_table files.entry) (map plain_port ports.now) (map (λ (words : Vec ℕ). words.items) drams.items)) }
-    ensures refused { IfErr result (DramsEnd (I.told inputs.old) (λ name. Rose (I.faults inputs.old) (I.faults inputs.new) × (I.sure inputs.old name → ⊥)) (option_table files.entry) (map plain_port ports.now)) }
+    ensures asks { OnOk result (I.asked inputs.old (map given (files_of (option_table files.entry) (map plain_port ports.now))) inputs.new) }
+    ensures refused { IfErr result (DramsEnd (I.told inputs.old) (λ name. Rose (I.faults inputs.old) (I.faults inputs.new) × (I.sure inputs.old name → ⊥)) (λ calls. I.asked inputs.old calls inputs.new) (option_table files.entry) (map plain_port ports.now)) }
     ensures counts { I.faults inputs.old ≤ I.faults inputs.new }
     ensures tells { (n : List ℕ) → I.told inputs.new n ≡ I.told inputs.old n }
     ensures stays_sure { (n : List ℕ) → I.sure inputs.old n → I.sure inputs.new n }
@@ -133,7 +138,8 @@ pub(crate) fn read_drams<I: Inputs>(
 ) -> Result<Vec<Vec<u64>>, SetupEnd>
     requires { All (λ (port : PortDecl). word_count port.dims.items ≤ MOST_WORDS) ports.now.drams.items }
     ensures given { IfOk result (λ drams. AllGive (I.told inputs.old) (option_table files.entry) (plain_ports ports.now).drams (map (λ (words : Vec ℕ). words.items) drams.items)) }
-    ensures refused { IfErr result (DramsEnd (I.told inputs.old) (λ name. Rose (I.faults inputs.old) (I.faults inputs.new) × (I.sure inputs.old name → ⊥)) (option_table files.entry) (plain_ports ports.now).drams) }
+    ensures asks { OnOk result (I.asked inputs.old (map given (files_of (option_table files.entry) (plain_ports ports.now).drams)) inputs.new) }
+    ensures refused { IfErr result (DramsEnd (I.told inputs.old) (λ name. Rose (I.faults inputs.old) (I.faults inputs.new) × (I.sure inputs.old name → ⊥)) (λ calls. I.asked inputs.old calls inputs.new) (option_table files.entry) (plain_ports ports.now).drams) }
     ensures counts { I.faults inputs.old ≤ I.faults inputs.new }
     ensures tells { (n : List ℕ) → I.told inputs.new n ≡ I.told inputs.old n }
     ensures stays_sure { (n : List ℕ) → I.sure inputs.old n → I.sure inputs.new n }

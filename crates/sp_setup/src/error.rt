@@ -3,30 +3,47 @@ ghost use Rattle.std.specs.Prelude.{◌≡◌, IfOk, string_bytes};
 ghost use Rattle.sp_setup.specs.Refusal.{path};
 
 use std::alloc::{AllocError, AllocFailed, Global};
-use thiserror::Error;
+use std::error::Error;
+use std::fmt;
 
 /// Why a setup is refused. Names are paths, as `turns`, `args.x` or `dram.a`.
-#[derive(Debug, Drop, Error)]
+#[derive(Debug, Drop)]
 pub enum SetupError {
     /// The bytes are no TOML document.
-    #[error("no toml")]
     NoToml,
     /// The key isn't known, or its value isn't of its kind.
-    #[error("key {name}")]
     Key { name: String },
     /// The number at this place, counted from 0, is out of range.
-    #[error("range {name} at {place}")]
     Range { name: String, place: u64 },
     /// The argument has no value.
-    #[error("missing {name}")]
     Missing { name: String },
     /// A cell of this record of the file, counted from 1, is no number text.
-    #[error("csv {name} row {row}")]
     Csv { name: String, row: u64 },
     /// The file has another number of cells than the DRAM has words.
-    #[error("size {name}, want {want}, got {got}")]
     Size { name: String, want: u64, got: u64 },
 }
+
+impl fmt::Display for SetupError {
+    ghost use Rattle.std.specs.Prelude.{Some};
+    ghost use Rattle.sp_setup.specs.ErrorText.{error_text};
+
+    ghost output = { λ error. Some (error_text error) };
+
+    fn fmt<W: fmt::Write>(&self, f: &mut fmt::Formatter<W>) -> fmt::Result {
+        match self {
+            SetupError::NoToml => write!(f, "no toml"),
+            SetupError::Key { name } => write!(f, "key {name}"),
+            SetupError::Range { name, place } => write!(f, "range {name} at {place}"),
+            SetupError::Missing { name } => write!(f, "missing {name}"),
+            SetupError::Csv { name, row } => write!(f, "csv {name} row {row}"),
+            SetupError::Size { name, want, got } => {
+                write!(f, "size {name}, want {want}, got {got}")
+            }
+        }
+    }
+}
+
+impl Error for SetupError {}
 
 /// Why no setup was read.
 #[derive(Debug, Drop)]

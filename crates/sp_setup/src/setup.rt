@@ -1,11 +1,12 @@
 //! Setups.
-ghost use Rattle.std.specs.Prelude.{◌≡◌, ◌≤◌, ℕ, List, IfOk, IfErr};
+ghost use Rattle.std.specs.Prelude.{◌≡◌, ◌≤◌, ℕ, List, map, IfOk, IfErr, OnOk};
 ghost use Rattle.std.specs.List.{All};
 ghost use Rattle.sp_edges.specs.Counts.{Rose};
+ghost use Rattle.sp_edges.specs.Calls.{given};
 ghost use Rattle.sp_words.specs.declared.interface.PortDecl.{PortDecl};
 ghost use Rattle.sp_words.specs.Ports.{plain_ports};
-ghost use Rattle.sp_words.specs.Interface.{word_count};
-ghost use Rattle.sp_setup.specs.Setup.{plain_setup, IsDocument, DocumentEnds, IsSetup, SetupEnds};
+ghost use Rattle.sp_words.specs.Interface.{word_count, Fits};
+ghost use Rattle.sp_setup.specs.Setup.{plain_setup, IsDocument, DocumentEnds, IsSetup, SetupEnds, files_named};
 ghost use Rattle.toml.specs.View.{table_view};
 
 use crate::cells::MOST_WORDS;
@@ -14,7 +15,7 @@ use crate::error::{SetupEnd, SetupError};
 use crate::settings::read_settings;
 use crate::table::section_at;
 use sp_edges::Inputs;
-use sp_words::{Input, Ports};
+use sp_words::{Input, Ports, values_are_a_range};
 use std::alloc::Global;
 use toml::Table;
 
@@ -56,13 +57,19 @@ pub fn read<I: Inputs>(
 ) -> Result<Setup, SetupEnd>
     requires { All (λ (port : PortDecl). word_count port.dims.items ≤ MOST_WORDS) ports.now.drams.items }
     ensures setup { IfOk result (λ setup. IsSetup (I.told inputs.old) (plain_ports ports.now) bytes.now (plain_setup setup)) }
-    ensures refused { IfErr result (SetupEnds (I.told inputs.old) (λ name. Rose (I.faults inputs.old) (I.faults inputs.new) × (I.sure inputs.old name → ⊥)) (plain_ports ports.now) bytes.now) }
+    ensures refused { IfErr result (SetupEnds (I.told inputs.old) (λ name. Rose (I.faults inputs.old) (I.faults inputs.new) × (I.sure inputs.old name → ⊥)) (λ calls. I.asked inputs.old calls inputs.new) (plain_ports ports.now) bytes.now) }
+    ensures fits { IfOk result (λ setup. Fits ports.now setup.input) }
+
+    // The names that were asked for, in order: where a setup is given, its files, each once.
+    ensures asks { OnOk result (I.asked inputs.old (map given (files_named (plain_ports ports.now) bytes.now)) inputs.new) }
 
     // What stays of the inputs.
     ensures counts { I.faults inputs.old ≤ I.faults inputs.new }
     ensures tells { (n : List ℕ) → I.told inputs.new n ≡ I.told inputs.old n }
     ensures stays_sure { (n : List ℕ) → I.sure inputs.old n → I.sure inputs.new n }
 {
+    // what a number is read as is a word of its type
+    values_are_a_range();
     let table = read_document(alloc, bytes)?;
     let settings = read_settings(alloc, ports, &table)?;
     let files = section_at(&table, "dram");

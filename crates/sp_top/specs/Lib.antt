@@ -3,6 +3,8 @@ pub mod Form
 pub mod Meaning
 pub mod Carries
 pub mod Status
+pub mod Reads
+pub mod Compile
 pub mod Commands
 pub mod Said
 pub mod Record

@@ -40,3 +40,9 @@ line_of (write_fault which) = []
 line_of memory = codes "memory\n"
 line_of (too_long name) = codes "too long: " ++ (name ++ codes "\n")
 line_of (unbuilt line) = codes "unbuilt at line " ++ (decimal line ++ codes "\n")
+
+-- the line has a name or a number in it, so memory is needed for it; the other lines are constants
+abbrev pub HasParts : PlainStatus → Type 0
+HasParts (too_long name) = Unit {0}
+HasParts (unbuilt line) = Unit {0}
+HasParts status = ⊥

@@ -3,6 +3,8 @@
 
 mod command;
 mod compile;
+mod laws;
+mod reads;
 mod sinks;
 mod status;
 mod straight;
@@ -10,5 +12,6 @@ mod straight;
 mod tests;
 mod top;
 
+pub use laws::{limits_of_small_programs, refusals_refuse};
 pub use status::{SinkName, Status};
 pub use top::spatialc;

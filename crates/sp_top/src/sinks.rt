@@ -1,6 +1,6 @@
 //! How texts and refusals are put on the sinks.
-ghost use Rattle.std.specs.Prelude.{◌≡◌, ◌≢◌, ◌<◌, IfOk, length, string_bytes};
-ghost use Rattle.sp_top.specs.Status.{plain_status, line_of, done, write_fault};
+ghost use Rattle.std.specs.Prelude.{◌≡◌, ◌≢◌, ◌<◌, IfOk, MatchOption, length, string_bytes};
+ghost use Rattle.sp_top.specs.Status.{plain_status, line_of, done, write_fault, HasParts};
 ghost use Rattle.sp_top.specs.Record.{Puts, Refuses, Delivers};
 
 use crate::status::{SinkName, Status};
@@ -17,8 +17,8 @@ pub struct Texts {
 /// Puts the text for `aside`, and then the one for `out`, up to the first put that fails.
 pub fn deliver<K: Sink, A: Sink>(texts: &Texts, out: &mut K, aside: &mut A) -> Status
     ensures delivered { Delivers (plain_status result) (string_bytes texts.now.out) (string_bytes texts.now.aside)
-        (record { before = K.taken out.old; after = K.taken out.new; faults_before = K.faults out.old; faults_after = K.faults out.new; room = K.sure_room out.old })
-        (record { before = A.taken aside.old; after = A.taken aside.new; faults_before = A.faults aside.old; faults_after = A.faults aside.new; room = A.sure_room aside.old }) }
+        (record { before = K.taken out.old; after = K.taken out.new; faults_before = K.faults out.old; faults_after = K.faults out.new; room = K.sure_room out.old; put = λ pieces. K.was_put out.old pieces out.new })
+        (record { before = A.taken aside.old; after = A.taken aside.new; faults_before = A.faults aside.old; faults_after = A.faults aside.new; room = A.sure_room aside.old; put = λ pieces. A.was_put aside.old pieces aside.new }) }
 {
     if put_text(aside, texts.aside.as_bytes()).is_err() {
         return Status::WriteFault {
@@ -33,17 +33,28 @@ pub fn deliver<K: Sink, A: Sink>(texts: &Texts, out: &mut K, aside: &mut A) -> S
     Status::Done
 }
 
-// The line of a refusal.
-fn refusal_line(alloc: Global, status: &Status) -> Result<String, NoMemory>
+// The line of a status, where it is a constant.
+fn constant_line(status: &Status) -> Option<&'static str>
+    ensures { MatchOption result (HasParts (plain_status status.now)) (λ line. line.now ≡ line_of (plain_status status.now)) }
+{
+    match status {
+        Status::Done | Status::WriteFault { which: _ } => Some(""),
+        Status::Words => Some("words: not in the command table\n"),
+        Status::ReadFault => Some("read fault\n"),
+        Status::Memory => Some("memory\n"),
+        Status::TooLong { name: _ } | Status::Unbuilt { line: _ } => None,
+    }
+}
+
+// The line of a status with a name or a number in it.
+fn built_line(alloc: Global, status: &Status) -> Result<String, NoMemory>
+    requires { HasParts (plain_status status.now) }
     ensures { IfOk result (λ line. string_bytes line ≡ line_of (plain_status status.now)) }
 {
     match status {
-        Status::Done | Status::WriteFault { which: _ } => Ok(String::new(alloc)),
-        Status::Words => String::from_str(alloc, "words: not in the command table\n"),
-        Status::ReadFault => String::from_str(alloc, "read fault\n"),
-        Status::Memory => String::from_str(alloc, "memory\n"),
         Status::TooLong { name } => format!(in alloc; "too long: {name}\n"),
         Status::Unbuilt { line } => format!(in alloc; "unbuilt at line {line}\n"),
+        _ => Ok(String::new(alloc)),
     }
 }
 
@@ -51,7 +62,7 @@ fn refusal_line(alloc: Global, status: &Status) -> Result<String, NoMemory>
 fn put_line<K: Sink>(out: &mut K, line: &[u8], status: Status) -> Status
     requires { 0 < length line.now }
     ensures { Puts (plain_status status) (plain_status result) line.now
-        (record { before = K.taken out.old; after = K.taken out.new; faults_before = K.faults out.old; faults_after = K.faults out.new; room = K.sure_room out.old }) }
+        (record { before = K.taken out.old; after = K.taken out.new; faults_before = K.faults out.old; faults_after = K.faults out.new; room = K.sure_room out.old; put = λ pieces. K.was_put out.old pieces out.new }) }
 {
     match out.put(line) {
         Ok(()) => status,
@@ -66,9 +77,12 @@ pub fn refuse<K: Sink>(alloc: Global, out: &mut K, status: Status) -> Status
     requires not_done { plain_status status ≢ done }
     requires no_fault { (which : _) → plain_status status ≢ write_fault which }
     ensures refused { Refuses (plain_status status) (plain_status result)
-        (record { before = K.taken out.old; after = K.taken out.new; faults_before = K.faults out.old; faults_after = K.faults out.new; room = K.sure_room out.old }) }
+        (record { before = K.taken out.old; after = K.taken out.new; faults_before = K.faults out.old; faults_after = K.faults out.new; room = K.sure_room out.old; put = λ pieces. K.was_put out.old pieces out.new }) }
 {
-    match refusal_line(alloc, &status) {
+    if let Some(line) = constant_line(&status) {
+        return put_line(out, line.as_bytes(), status);
+    }
+    match built_line(alloc, &status) {
         Ok(line) => put_line(out, line.as_bytes(), status),
         Err(_) => put_line(out, b"memory\n", Status::Memory),
     }

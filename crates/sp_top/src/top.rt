@@ -4,7 +4,8 @@ ghost use Rattle.sp_edges.specs.Counts.{Rose};
 ghost use Rattle.sp_top.specs.Status.{plain_status};
 ghost use Rattle.sp_edges.specs.Standing.{Holds};
 ghost use Rattle.sp_top.specs.Form.{Line, IsStraight};
-ghost use Rattle.sp_top.specs.Commands.{IsCommand, DoneTexts, MayRefuse, MayEnd, NotRefused, longest_program};
+ghost use Rattle.sp_top.specs.Commands.{IsCommand, DoneTexts, MayRefuse, MayEnd, NotRefused};
+ghost use Rattle.sp_top.specs.Compile.{longest_program};
 ghost use Rattle.sp_top.specs.Commands as commands;
 ghost use Rattle.sp_top.specs.Said.{plain_command};
 ghost use Rattle.sp_top.specs.Record.{Records};
@@ -18,9 +19,9 @@ use std::alloc::Global;
 
 // The texts of a command, or why it refuses.
 fn texts_of<I: Inputs>(alloc: Global, command: Command<'_>, inputs: &mut I) -> Result<Texts, Status>
-    ensures done { IfOk result (λ texts. DoneTexts (I.told inputs.old) (plain_command command.entry) (string_bytes texts.out) (string_bytes texts.aside)) }
+    ensures done { IfOk result (λ texts. DoneTexts (I.told inputs.old) (λ calls. I.asked inputs.old calls inputs.new) (plain_command command.entry) (string_bytes texts.out) (string_bytes texts.aside)) }
     ensures refused { IfErr result (λ status. MayRefuse (I.told inputs.old)
-        (λ name. Rose (I.faults inputs.old) (I.faults inputs.new) × (I.sure inputs.old name → ⊥)) (plain_command command.entry) (plain_status status)) }
+        (λ name. Rose (I.faults inputs.old) (I.faults inputs.new) × (I.sure inputs.old name → ⊥)) (λ calls. I.asked inputs.old calls inputs.new) (plain_command command.entry) (plain_status status)) }
 {
     match command {
         Command::Compile { program } => compile(alloc, program, inputs),
@@ -35,9 +36,9 @@ fn answer<I: Inputs, K: Sink, A: Sink>(
     out: &mut K,
     aside: &mut A,
 ) -> Status
-    ensures { Records (MayEnd (map string_bytes words.now) (I.told inputs.old) (λ name. Rose (I.faults inputs.old) (I.faults inputs.new) × (I.sure inputs.old name → ⊥)))
-        (record { before = K.taken out.old; after = K.taken out.new; faults_before = K.faults out.old; faults_after = K.faults out.new; room = K.sure_room out.old })
-        (record { before = A.taken aside.old; after = A.taken aside.new; faults_before = A.faults aside.old; faults_after = A.faults aside.new; room = A.sure_room aside.old })
+    ensures { Records (MayEnd (map string_bytes words.now) (I.told inputs.old) (λ name. Rose (I.faults inputs.old) (I.faults inputs.new) × (I.sure inputs.old name → ⊥)) (λ calls. I.asked inputs.old calls inputs.new))
+        (record { before = K.taken out.old; after = K.taken out.new; faults_before = K.faults out.old; faults_after = K.faults out.new; room = K.sure_room out.old; put = λ pieces. K.was_put out.old pieces out.new })
+        (record { before = A.taken aside.old; after = A.taken aside.new; faults_before = A.faults aside.old; faults_after = A.faults aside.new; room = A.sure_room aside.old; put = λ pieces. A.was_put aside.old pieces aside.new })
         (plain_status result) }
 {
     let Some(command) = command_of(words) else {
@@ -59,9 +60,9 @@ pub fn spatialc<I: Inputs, K: Sink, A: Sink>(
     aside: &mut A,
 ) -> Status
     // What the sinks gained belongs to the status, and each status has its cause.
-    ensures record { Records (MayEnd (map string_bytes words.now) (I.told inputs.old) (λ name. Rose (I.faults inputs.old) (I.faults inputs.new) × (I.sure inputs.old name → ⊥)))
-        (record { before = K.taken out.old; after = K.taken out.new; faults_before = K.faults out.old; faults_after = K.faults out.new; room = K.sure_room out.old })
-        (record { before = A.taken aside.old; after = A.taken aside.new; faults_before = A.faults aside.old; faults_after = A.faults aside.new; room = A.sure_room aside.old })
+    ensures record { Records (MayEnd (map string_bytes words.now) (I.told inputs.old) (λ name. Rose (I.faults inputs.old) (I.faults inputs.new) × (I.sure inputs.old name → ⊥)) (λ calls. I.asked inputs.old calls inputs.new))
+        (record { before = K.taken out.old; after = K.taken out.new; faults_before = K.faults out.old; faults_after = K.faults out.new; room = K.sure_room out.old; put = λ pieces. K.was_put out.old pieces out.new })
+        (record { before = A.taken aside.old; after = A.taken aside.new; faults_before = A.faults aside.old; faults_after = A.faults aside.new; room = A.sure_room aside.old; put = λ pieces. A.was_put aside.old pieces aside.new })
         (plain_status result) }
     // A program of the form under a sure name isn't refused.
     ensures complete { (program bytes : List ℕ) (lines : List Line) → IsCommand (map string_bytes words.now) (commands.compile program) → I.sure inputs.old program

@@ -1,4 +1,5 @@
 use Rattle.std.proofs.Common.{ℕ, List}
+use Rattle.sp_edges.specs.Calls.{Call}
 use Rattle.sp_edges.specs.Counts.{Rose}
 use Rattle.sp_top.proofs.CompleteLemmas.{complete}
 use Rattle.sp_top.proofs.top.spatialc.Goals as goal
@@ -9,4 +10,5 @@ returns-clause-complete g c = λ program bytes lines is sure holds small straigh
     let failed : List ℕ → Type 0 =
     λ name. Rose (g.I.Inputs.faults c.args.inputs.now) (g.I.Inputs.faults c.answer.new.inputs) × (g.I.Inputs.sure c.args.inputs.now name → ⊥) in
     let read : failed program → ⊥ = λ f. f.1 sure in
-    complete _ _ failed _ _ _ program bytes lines c.answer.ensures is read holds small straight
+    let asked : List Call → Type 0 = λ calls. g.I.Inputs.asked c.args.inputs.now calls c.answer.new.inputs in
+    complete _ _ failed asked _ _ _ program bytes lines c.answer.ensures is read holds small straight
