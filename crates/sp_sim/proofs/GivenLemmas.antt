@@ -1,18 +1,13 @@
 -- Ports that an input fits, as cells.
-use Rattle.std.proofs.Common.{◌≡◌, ℕ, zero, suc, ◌+◌, ◌*◌, ◌<◌, List, [], ◌∷◌, ◌++◌, Bool, true, false, cond, length, get_or, map, filter_map, count_by, refl, sym, ap, ◌∙◌, subst, arith, All, Option, Some, None, is_some, one-add}
+use Rattle.std.proofs.Common.{◌≡◌, ℕ, zero, suc, ◌+◌, ◌*◌, ◌<◌, ◌≤◌, List, [], ◌∷◌, ◌++◌, Bool, length, get_or, map, filter_map, count_by, refl, sym, ap, ◌∙◌, subst, arith, All, Option, Some, None, is_some, one-add}
 use Rattle.std.specs.List.{AllZip, cons_option}
-use Rattle.std.specs.Global.{Vec}
-use Rattle.sp_words.specs.declared.types.Ty.{Ty}
-use Rattle.sp_words.specs.declared.interface.PortDecl.{PortDecl}
-use Rattle.sp_words.specs.declared.interface.Ports.{Ports}
-use Rattle.sp_words.specs.declared.interface.Input.{Input}
 use Rattle.sp_words.specs.Words.{IsWord}
-use Rattle.sp_words.specs.Interface.{word_count, ArgFits, DramFits, Fits}
+use Rattle.sp_words.specs.Interface.{word_count}
 use Rattle.sp_netlist.specs.Cells.{PlainCell, in_cell, dram_cell}
 use Rattle.sp_netlist.specs.Rules.{is_in, is_dram, IsNetlist}
-use Rattle.sp_words.specs.Ports.{PlainPort, plain_port, plain_ports}
+use Rattle.sp_words.specs.Ports.{PlainPort}
 use Rattle.sp_netlist.specs.Ports.{ports_of, in_port, dram_port}
-use Rattle.sp_sim.specs.Given.{IsGiven}
+use Rattle.sp_sim.specs.Given.{IsGiven, NoFault, no_port}
 use Rattle.sp_sim.proofs.CellLemmas.{count_first, count_skip}
 
 -- an argument, and the words of a DRAM, at a plain port
@@ -21,18 +16,6 @@ ArgAt port word = IsWord port.ty word
 
 abbrev DramAt : PlainPort → List ℕ → Type 0
 DramAt port words = (length words ≡ word_count port.dims) × All (IsWord port.ty) words
-
-plain_args : (ports : List PortDecl) (words : List ℕ) → AllZip ArgFits ports words → AllZip ArgAt (map plain_port ports) words
-plain_args [] [] z = z
-plain_args [] (w ∷ ws) z = z
-plain_args (p ∷ ps) [] z = z
-plain_args (p ∷ ps) (w ∷ ws) z = (z.0, plain_args ps ws z.1)
-
-plain_drams : (ports : List PortDecl) (contents : List (Vec ℕ)) → AllZip (λ port words. DramFits port words.items) ports contents → AllZip DramAt (map plain_port ports) (map (λ v. v.items) contents)
-plain_drams [] [] z = z
-plain_drams [] (w ∷ ws) z = z
-plain_drams (p ∷ ps) [] z = z
-plain_drams (p ∷ ps) (w ∷ ws) z = ((z.0.all_there, z.0.each_fits), plain_drams ps ws z.1)
 
 zip_length : {X Y : Type 0} (R : X → Y → Type 0) (xs : List X) (ys : List Y) → AllZip R xs ys → length ys ≡ length xs
 zip_length R [] [] z = refl
@@ -76,20 +59,32 @@ dram_agrees : (x : PlainCell) → is_dram x ≡ is_some (dram_port x)
 dram_agrees (dram_cell dram name ty dims) = refl
 dram_agrees _ = refl
 
+zip_from_places : {X Y : Type 0} (R : X → Y → Type 0) (d : X) (e : Y) (xs : List X) (ys : List Y) → length ys ≡ length xs → ((n : ℕ) → n < length xs → R (get_or xs n d) (get_or ys n e)) → AllZip R xs ys
+zip_from_places R d e [] [] same each = tt
+zip_from_places R d e [] (y ∷ ys) same each = absurd (omega arith)
+zip_from_places R d e (x ∷ xs) [] same each = absurd (omega arith)
+zip_from_places R d e (x ∷ xs) (y ∷ ys) same each = (each 0 (omega arith), zip_from_places R d e xs ys (omega arith) (λ n l. each (suc n) (omega arith)))
+
+-- as many as there are places, if there are no more and one at each place
+as_many : (n m : ℕ) → m ≤ n → ((k : ℕ) → k < n → k < m) → m ≡ n
+as_many zero m few each = omega arith
+as_many (suc n) m few each = let last = each n (omega arith) in omega arith
+
 -- an input that fits a netlist's ports is given
-pub given_by_ports : (cells : List PlainCell) → IsNetlist cells → (ports : Ports) (input : Input) → plain_ports ports ≡ ports_of cells → Fits ports input → IsGiven cells input.args.items (map (λ (v : Vec ℕ). v.items) input.drams.items)
-given_by_ports cells h ports input e f =
-    let args : AllZip ArgAt (filter_map in_port cells) input.args.items = subst (λ p. AllZip ArgAt p.args input.args.items) e (plain_args ports.args.items input.args.items f.args) in
-    let drams : AllZip DramAt (filter_map dram_port cells) (map (λ (v : Vec ℕ). v.items) input.drams.items) =
-    subst (λ p. AllZip DramAt p.drams (map (λ (v : Vec ℕ). v.items) input.drams.items)) e (plain_drams ports.drams.items input.drams.items f.drams) in
+pub given_without_fault : (cells : List PlainCell) → IsNetlist cells → (args : List ℕ) (drams : List (List ℕ)) → NoFault (ports_of cells) args drams → IsGiven cells args drams
+given_without_fault cells h args contents fit =
+    let args_there = as_many (length (filter_map in_port cells)) (length args) fit.no_more_args (λ k l. (fit.each_arg k l).0) in
+    let drams_there = as_many (length (filter_map dram_port cells)) (length contents) fit.no_more_drams (λ k l. (fit.each_dram k l).0) in
+    let zip : AllZip ArgAt (filter_map in_port cells) args = zip_from_places ArgAt no_port 0 (filter_map in_port cells) args args_there (λ k l. (fit.each_arg k l).1) in
+    let drams : AllZip DramAt (filter_map dram_port cells) contents = zip_from_places DramAt no_port [] (filter_map dram_port cells) contents drams_there (λ k l. let one = fit.each_dram k l in (one.1, one.2)) in
     record {
-      args_number = zip_length ArgAt (filter_map in_port cells) input.args.items args ∙ ports_number is_in in_port in_agrees cells;
+      args_number = zip_length ArgAt (filter_map in_port cells) args zip ∙ ports_number is_in in_port in_agrees cells;
       args_fit = λ before name net ty after split.
-          zip_at is_in in_port in_agrees ArgAt before (in_cell name net ty) (record { name = name; ty = ty; dims = [] }) after input.args.items 0 refl (subst (λ xs. AllZip ArgAt (filter_map in_port xs) input.args.items) split args);
-      drams_number = zip_length DramAt (filter_map dram_port cells) (map (λ (v : Vec ℕ). v.items) input.drams.items) drams ∙ ports_number is_dram dram_port dram_agrees cells;
+          zip_at is_in in_port in_agrees ArgAt before (in_cell name net ty) (record { name = name; ty = ty; dims = [] }) after args 0 refl (subst (λ xs. AllZip ArgAt (filter_map in_port xs) args) split zip);
+      drams_number = zip_length DramAt (filter_map dram_port cells) contents drams ∙ ports_number is_dram dram_port dram_agrees cells;
       drams_fit = λ before dram name ty dims after split.
           let right = h.right before (dram_cell dram name ty dims) after split in
-          subst (λ n. DramAt (record { name = name; ty = ty; dims = dims }) (get_or (map (λ (v : Vec ℕ). v.items) input.drams.items) n [])) (sym right.0)
-          (zip_at is_dram dram_port dram_agrees DramAt before (dram_cell dram name ty dims) (record { name = name; ty = ty; dims = dims }) after (map (λ (v : Vec ℕ). v.items) input.drams.items) [] refl
-          (subst (λ xs. AllZip DramAt (filter_map dram_port xs) (map (λ (v : Vec ℕ). v.items) input.drams.items)) split drams));
+          subst (λ n. DramAt (record { name = name; ty = ty; dims = dims }) (get_or contents n [])) (sym right.0)
+          (zip_at is_dram dram_port dram_agrees DramAt before (dram_cell dram name ty dims) (record { name = name; ty = ty; dims = dims }) after contents [] refl
+          (subst (λ xs. AllZip DramAt (filter_map dram_port xs) contents) split drams));
     }

@@ -16,3 +16,5 @@ pub mod Written
 pub mod Fresh
 pub mod Loads
 pub mod GivenLemmas
+pub mod Faults
+pub mod Counted

@@ -5,7 +5,7 @@ use Rattle.std.specs.List.Sorted.{IsStrictlyIncreasing, IsBinarySearchResult}
 use Rattle.std.specs.Ordering.{nat_cmp}
 use Rattle.std.proofs.lemmas.Bool.{cond-true, cond-false, cases_eq, cases_lt, cases_Bool, false≢true}
 use Rattle.std.proofs.lemmas.List.Sorted.{searched}
-use Rattle.sp_sim.specs.Rows.{word_of, with_word, nets_of}
+use Rattle.sp_sim.specs.Rows.{word_of, with_word, nets_of, IsDense, IsPlaceOf}
 
 pub read_at : (xs : List ℕ) (i x : ℕ) → slice_get xs i ≡ Some x → get_or xs i 0 ≡ x
 read_at [] i x e = absurd (cc)
@@ -57,34 +57,39 @@ with_word-absent (n ∷ ns) (w ∷ ws) net v none =
     cond-false (n == net) ((net, v) ∷ zip ns ws) ((n, w) ∷ with_word (zip ns ws) net v) (ne_eqb n net (none 0 (omega arith)))
     ∙ ap (λ ps. (n, w) ∷ ps) (with_word-absent ns ws net v (λ k h. none (suc k) (omega arith)))
 
--- what a search found
-module _ (ns ws : List ℕ) (net : ℕ) (up : IsStrictlyIncreasing ns) (long : length ws ≡ length ns) where
-  pub found_place : (i : ℕ) → IsBinarySearchResult (λ y. nat_cmp y net) ns (Ok i) → i < length ns
-  found_place i h = (searched ns net (Ok i) h (increasing_up ns up)).0
+-- the place of a net that a search found
+pub place_found : (ns : List ℕ) (net i : ℕ) → IsStrictlyIncreasing ns → IsBinarySearchResult (λ y. nat_cmp y net) ns (Ok i) → IsPlaceOf ns net i
+place_found ns net i up h =
+    let at = searched ns net (Ok i) h (increasing_up ns up) in
+    record { found = λ l. at.1; missing = λ past. let within = at.0 in absurd (omega (arith, past, within)) }
 
-  below_place : (i : ℕ) → IsBinarySearchResult (λ y. nat_cmp y net) ns (Ok i) → (k : ℕ) → k < i → get_or ns k 0 ≢ net
-  below_place i h k l e =
-      let at = searched ns net (Ok i) h (increasing_up ns up) in
-      let far = increasing_far ns up k i l at.0 in
-      let here = at.1 in
-      omega (arith, far, here, e)
+pub place_missing : (ns : List ℕ) (net i : ℕ) → IsStrictlyIncreasing ns → IsBinarySearchResult (λ y. nat_cmp y net) ns (Err i) → IsPlaceOf ns net (length ns)
+place_missing ns net i up h =
+    let at = searched ns net (Err i) h (increasing_up ns up) in
+    record {
+      found = λ l. absurd (omega (arith, l));
+      missing = λ past k l e. ⊎_elim (λ b. let low = at.1 k b in omega (arith, low, e)) (λ b. let high = at.2 k b l in omega (arith, high, e)) (cases_lt k i);
+    }
 
-  pub found_word : (i : ℕ) → IsBinarySearchResult (λ y. nat_cmp y net) ns (Ok i) → word_of (zip ns ws) net ≡ get_or ws i 0
-  found_word i h = let at = searched ns net (Ok i) h (increasing_up ns up) in word_of-place ns ws i net at.0 long at.1 (below_place i h)
+pub place_dense : (ns : List ℕ) (net : ℕ) → IsDense ns → IsPlaceOf ns net net
+place_dense ns net own = record { found = λ l. own net l; missing = λ past k l e. let same = own k l in omega (arith, past, l, e, same) }
 
-  pub found_set : (i v : ℕ) → IsBinarySearchResult (λ y. nat_cmp y net) ns (Ok i) → with_word (zip ns ws) net v ≡ zip ns (set ws i v)
-  found_set i v h = let at = searched ns net (Ok i) h (increasing_up ns up) in with_word-place ns ws i net v at.0 long at.1 (below_place i h)
+-- the word at the place of a net
+module _ (ns ws : List ℕ) (net place : ℕ) (up : IsStrictlyIncreasing ns) (long : length ws ≡ length ns) (p : IsPlaceOf ns net place) where
+  below : place < length ns → (k : ℕ) → k < place → get_or ns k 0 ≢ net
+  below l k b e = let far = increasing_far ns up k place b l in let here = p.found l in omega (arith, far, here, e)
 
-  absent : (i : ℕ) → IsBinarySearchResult (λ y. nat_cmp y net) ns (Err i) → (k : ℕ) → k < length ns → get_or ns k 0 ≢ net
-  absent i h k l e =
-      let at = searched ns net (Err i) h (increasing_up ns up) in
-      ⊎_elim (λ b. let low = at.1 k b in omega (arith, low, e)) (λ b. let high = at.2 k b l in omega (arith, high, e)) (cases_lt k i)
+  pub place_word : place < length ws → word_of (zip ns ws) net ≡ get_or ws place 0
+  place_word l = let m : place < length ns = omega arith in word_of-place ns ws place net m long (p.found m) (below m)
 
-  pub missing_word : (i : ℕ) → IsBinarySearchResult (λ y. nat_cmp y net) ns (Err i) → word_of (zip ns ws) net ≡ 0
-  missing_word i h = word_of-absent ns ws net (absent i h)
+  pub place_put : (v : ℕ) → place < length ws → with_word (zip ns ws) net v ≡ zip ns (set ws place v)
+  place_put v l = let m : place < length ns = omega arith in with_word-place ns ws place net v m long (p.found m) (below m)
 
-  pub missing_set : (i v : ℕ) → IsBinarySearchResult (λ y. nat_cmp y net) ns (Err i) → with_word (zip ns ws) net v ≡ zip ns ws
-  missing_set i v h = with_word-absent ns ws net v (absent i h)
+  pub no_place_word : length ws ≤ place → word_of (zip ns ws) net ≡ 0
+  no_place_word l = word_of-absent ns ws net (p.missing (omega arith))
+
+  pub no_place_put : (v : ℕ) → length ws ≤ place → with_word (zip ns ws) net v ≡ zip ns ws
+  no_place_put v l = with_word-absent ns ws net v (p.missing (omega arith))
 
 abbrev zeros : ℕ → List ℕ
 zeros n = replicate n 0

@@ -12,3 +12,4 @@ pub mod Sims
 pub mod Standing
 pub mod States
 pub mod Writing
+pub mod Texts

@@ -3,6 +3,7 @@
 
 mod conflict;
 mod end;
+mod given;
 mod hold;
 mod load;
 mod memory;
@@ -15,7 +16,6 @@ mod sim;
 mod state;
 mod write;
 
-pub use end::SimEnd;
-pub use load::is_given;
+pub use end::{SimEnd, SimLoad};
 pub use sim::Sim;
 pub use std::alloc::AllocError as NoMemory;

@@ -1,5 +1,5 @@
 //! What a simulation begins with.
-ghost use Rattle.std.specs.Prelude.{IsTrue, ◌≡◌, ℕ, ◌↔◌, ◌++◌, List, map, flat_map, length, replicate, count_by, All, Contains, IfOk, OnOk};
+ghost use Rattle.std.specs.Prelude.{◌≡◌, ℕ, ◌↔◌, ◌++◌, List, map, flat_map, length, replicate, count_by, All, Contains, IfOk, OnOk};
 ghost use Rattle.std.specs.List.{fold};
 ghost use Rattle.std.specs.List.Sorted.{IsStrictlyIncreasing};
 ghost use Rattle.sp_netlist.specs.Cells.{PlainCell, plain_cell, plain_cells};
@@ -15,7 +15,7 @@ use crate::phase::Phase;
 use crate::row::Row;
 use crate::state::State;
 use sp_netlist::{Cell, Netlist};
-use sp_words::{Input, fits};
+use sp_words::Input;
 use std::alloc::Global;
 
 /// Adds the nets that the cell drives.
@@ -231,11 +231,4 @@ pub(crate) fn first_state(
         reads,
         writes,
     })
-}
-
-/// Whether the input fits the netlist's ports.
-pub fn is_given(netlist: &Netlist, input: &Input) -> bool
-    ensures { IsTrue result → IsGiven netlist.now input.now.args.items (map (λ v. v.items) input.now.drams.items) }
-{
-    fits(netlist.ports(), input)
 }

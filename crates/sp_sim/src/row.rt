@@ -1,31 +1,62 @@
 //! Rows of words, by nets.
-ghost use Rattle.std.specs.Prelude.{◌≡◌, map, IfOk};
+ghost use Rattle.std.specs.Prelude.{◌≡◌, map, IsTrue, IfOk};
 ghost use Rattle.std.specs.List.Sorted.{IsStrictlyIncreasing};
-ghost use Rattle.sp_sim.specs.Rows.{word_of, with_word};
+ghost use Rattle.sp_sim.specs.Rows.{word_of, with_word, IsDense, IsPlaceOf};
 
 use crate::NoMemory;
 use sp_netlist::NetId;
-use sp_packed::Packed;
 use std::alloc::Global;
 use std::marker::Model;
+
+/// Whether the nets are 0, 1, 2, ..
+fn is_dense(nets: &[u64]) -> bool
+    ensures { IsTrue result → IsDense nets.now }
+{
+    for (place, net) in nets.iter().enumerate() {
+        if *net != place as u64 {
+            return false;
+        }
+    }
+    true
+}
+
+/// The place of a net among those that ascend, or their number where it isn't one of them.
+#[inline]
+fn place_of(nets: &[u64], dense: bool, net: NetId) -> usize
+    requires ascending { IsStrictlyIncreasing nets.now }
+    requires dense { IsTrue dense → IsDense nets.now }
+    ensures { IsPlaceOf nets.now net result }
+{
+    let number = net.number();
+    if dense {
+        return number as usize;
+    }
+    match nets.binary_search(&number) {
+        Ok(place) => place,
+        Err(_) => nets.len(),
+    }
+}
 
 /// A word for each of some nets, which ascend.
 #[derive(Drop)]
 pub(crate) struct Row {
     nets: Vec<u64>,
-    words: Packed,
+    words: Vec<u64>,
+    // Whether the nets are 0, 1, 2, .., so that each is its own place.
+    dense: bool,
 }
 
 impl Model for Row {
-    ghost use Rattle.std.specs.Prelude.{◌≡◌, ℕ, List, length};
+    ghost use Rattle.std.specs.Prelude.{◌≡◌, ℕ, List, length, IsTrue};
     ghost use Rattle.std.specs.List.{zip};
     ghost use Rattle.std.specs.List.Sorted.{IsStrictlyIncreasing};
+    ghost use Rattle.sp_sim.specs.Rows.{IsDense};
 
     ghost Value = { List (ℕ × ℕ) };
 
-    ghost view = { λ r. zip r.nets.items r.words.numbers };
+    ghost view = { λ r. zip r.nets.items r.words.items };
 
-    ghost invariant = { λ r. IsStrictlyIncreasing r.nets.items × (length r.words.numbers ≡ length r.nets.items) × (r.words.bytes_each ≡ 8) };
+    ghost invariant = { λ r. IsStrictlyIncreasing r.nets.items × (length r.words.items ≡ length r.nets.items) × (IsTrue r.dense → IsDense r.nets.items) };
 }
 
 impl Row {
@@ -34,29 +65,33 @@ impl Row {
         requires { IsStrictlyIncreasing nets.now }
         ensures { IfOk result (λ row. row ≡ map (λ n. (n, 0)) nets.now) }
     {
-        let words = Packed::new(alloc, 8, nets.len())?;
+        let words = vec![in alloc; 0u64; nets.len()]?;
+        let dense = is_dense(nets);
         let nets = Vec::from_slice(alloc, nets)?;
-        Ok(Row { nets, words })
+        Ok(Row { nets, words, dense })
     }
 
     /// The word of a net, and 0 where it has none.
+    #[inline]
     pub(crate) fn get(&self, net: NetId) -> u64
         ensures { result ≡ word_of self.now net }
     {
-        let number = net.number();
-        match self.nets.binary_search(&number) {
-            Ok(place) => self.words.get(place),
-            Err(_) => 0,
+        let place = place_of(&self.nets, self.dense, net);
+        if place < self.words.len() {
+            self.words[place]
+        } else {
+            0
         }
     }
 
     /// Gives a net that stands in the row another word.
+    #[inline]
     pub(crate) fn put(&mut self, net: NetId, word: u64)
         ensures { self.new ≡ with_word self.old net word }
     {
-        let number = net.number();
-        if let Ok(place) = self.nets.binary_search(&number) {
-            self.words.set(place, word);
+        let place = place_of(&self.nets, self.dense, net);
+        if place < self.words.len() {
+            self.words[place] = word;
         }
     }
 }

@@ -3,7 +3,8 @@ ghost use Rattle.std.specs.Prelude.{◌≡◌};
 ghost use Rattle.sp_sim.specs.Sims as sims;
 
 use crate::NoMemory;
-use crate::end::SimEnd;
+use crate::end::{SimEnd, SimLoad};
+use crate::given::first_fault;
 use crate::load::first_state;
 use crate::over::{contents, out_words};
 use crate::state::{Found, State, look, turn};
@@ -49,12 +50,32 @@ fn end_of(cycle: u64, found: Found) -> Option<SimEnd>
 }
 
 impl<'a> Sim<'a> {
-    ghost use Rattle.std.specs.Prelude.{◌≡◌, None, map, IfOk};
+    ghost use Rattle.std.specs.Prelude.{◌≡◌, ◌↔◌, ℕ, None, map, IfOk, OnOk};
+    ghost use Rattle.sp_netlist.specs.Ports.{ports_of};
+    ghost use Rattle.sp_netlist.specs.Refusals.{IsLeast};
     ghost use Rattle.sp_sim.specs.Progress.{setting_of};
-    ghost use Rattle.sp_sim.specs.Given.{IsGiven};
+    ghost use Rattle.sp_sim.specs.Given.{IsGiven, InputFault};
 
-    /// A simulation that stands in cycle 0. The input fits the netlist.
+    /// A simulation that stands in cycle 0, of an input that fits the netlist. Whether it does is looked at before
+    /// any memory is taken.
     pub fn load(
+        alloc: Global,
+        netlist: &'a Netlist,
+        input: &'a Input,
+        delays: &'a [u32],
+    ) -> Result<Sim<'a>, SimLoad>
+        ensures loaded { IfOk result (λ sim. sim ≡ record { setting = setting_of netlist.now input.now delays.now; cycle = 0; ended = None }) }
+        ensures given { OnOk result (IsGiven netlist.now input.now.args.items (map (λ v. v.items) input.now.drams.items)) }
+        ensures shape { (which : ℕ) → (result ≡ Err (SimLoad.InputShape which)) ↔ IsLeast (InputFault (ports_of netlist.now) input.now.args.items (map (λ v. v.items) input.now.drams.items)) which }
+    {
+        if let Some(which) = first_fault(netlist.ports(), input) {
+            return Err(SimLoad::InputShape { which });
+        }
+        Ok(Sim::begin(alloc, netlist, input, delays)?)
+    }
+
+    /// The simulation of an input that fits.
+    fn begin(
         alloc: Global,
         netlist: &'a Netlist,
         input: &'a Input,

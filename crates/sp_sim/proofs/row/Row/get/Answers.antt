@@ -1,32 +1,23 @@
-use Rattle.std.proofs.Common.{◌<◌, sym, ap, ◌∙◌, subst, Ok, Err}
-use Rattle.std.specs.List.Sorted.{IsBinarySearchResult}
-use Rattle.std.specs.Ordering.{nat_cmp}
-use Rattle.sp_sim.specs.Rows.{word_of}
-use Rattle.sp_sim.proofs.RowLemmas.{read_at, found_place, found_word, missing_word}
+use Rattle.std.proofs.Common.{◌<◌, ◌≤◌, sym, ap, ◌∙◌, subst, length, arith}
+use Rattle.std.proofs.lemmas.List.{get_or_read}
+use Rattle.sp_sim.specs.Rows.{word_of, IsPlaceOf}
+use Rattle.sp_sim.proofs.RowLemmas.{place_word, no_place_word}
 use Rattle.sp_sim.proofs.row.Row.get.Goals as goal
 
-pub get-requires : goal.get-requires
-get-requires c =
+pub returns-then-place-len : goal.returns-then-place-len
+returns-then-place-len c =
     let ns = c.self.inside.nets.items in
-    let ws = c.self.inside.words.numbers in
+    let ws = c.self.inside.words.items in
     let inv = c.self.invariant in
-    let p = subst (λ xs. IsBinarySearchResult (λ y. nat_cmp y c.number-number.result) xs (Ok c.in-Ok.place)) c.deref.ensures.value c.in-Ok.ensures.position in
-    subst (λ n. c.in-Ok.place < n) (sym inv.1) (found_place ns ws c.number-number.result inv.0 inv.1 c.in-Ok.place p)
+    let p = subst (λ xs. IsPlaceOf xs c.args.net c.place_of-place.result) c.deref.ensures.value c.place_of-place.ensures in
+    let l : c.place_of-place.result < length ws = omega (arith, c.self.inside.words.ok.0) in
+    sym (ap (λ row. word_of row c.args.net) (sym c.self.view_is) ∙ place_word ns ws c.args.net c.place_of-place.result inv.0 inv.1 p l ∙ sym (get_or_read ws c.place_of-place.result _ l c.index.ensures 0))
 
-pub returns-in-Ok : goal.returns-in-Ok
-returns-in-Ok c =
+pub returns-else-place-len : goal.returns-else-place-len
+returns-else-place-len c =
     let ns = c.self.inside.nets.items in
-    let ws = c.self.inside.words.numbers in
+    let ws = c.self.inside.words.items in
     let inv = c.self.invariant in
-    let p = subst (λ xs. IsBinarySearchResult (λ y. nat_cmp y c.number-number.result) xs (Ok c.in-Ok.place)) c.deref.ensures.value c.in-Ok.ensures.position in
-    sym (ap (word_of c.args.self.now) (sym c.number-number.ensures) ∙ ap (λ row. word_of row c.number-number.result) (sym c.self.view_is)
-    ∙ found_word ns ws c.number-number.result inv.0 inv.1 c.in-Ok.place p ∙ read_at ws c.in-Ok.place c.get.result c.get.ensures.number)
-
-pub returns-in-Err : goal.returns-in-Err
-returns-in-Err c =
-    let ns = c.self.inside.nets.items in
-    let ws = c.self.inside.words.numbers in
-    let inv = c.self.invariant in
-    let p = subst (λ xs. IsBinarySearchResult (λ y. nat_cmp y c.number-number.result) xs (Err c.in-Err.field-0)) c.deref.ensures.value c.in-Err.ensures.position in
-    sym (ap (word_of c.args.self.now) (sym c.number-number.ensures) ∙ ap (λ row. word_of row c.number-number.result) (sym c.self.view_is)
-    ∙ missing_word ns ws c.number-number.result inv.0 inv.1 c.in-Err.field-0 p)
+    let p = subst (λ xs. IsPlaceOf xs c.args.net c.place_of-place.result) c.deref.ensures.value c.place_of-place.ensures in
+    let l : length ws ≤ c.place_of-place.result = omega (arith, c.self.inside.words.ok.0) in
+    sym (ap (λ row. word_of row c.args.net) (sym c.self.view_is) ∙ no_place_word ns ws c.args.net c.place_of-place.result inv.0 inv.1 p l)
