@@ -1,7 +1,7 @@
 -- What the cells keep for the next cycle has the run's words there.
-use Rattle.std.proofs.Common.{◌≡◌, ℕ, zero, suc, ◌<◌, ◌^◌, List, [], ◌∷◌, false, ◌==◌, length, get_or, take, map, count_by, Contains, refl, sym, ap, ◌∙◌, subst, arith}
+use Rattle.std.proofs.Common.{◌≡◌, ℕ, zero, suc, ◌<◌, ◌^◌, List, [], ◌∷◌, false, ◌==◌, length, get_or, take, map, filter, count_by, true, ⊎_elim, All, Contains, refl, sym, ap, ◌∙◌, subst, arith}
 use Rattle.std.specs.List.{fold, AllByRecursion}
-use Rattle.std.proofs.lemmas.Bool.{true≢false, cond_both}
+use Rattle.std.proofs.lemmas.Bool.{true≢false, false≢true, cases_Bool, cond_both}
 use Rattle.sp_words.specs.Types.{width_of}
 use Rattle.sp_netlist.specs.Cells.{PlainCell, done_cell, in_cell, const_cell, op_cell, not_cell, shift_cell, cast_cell, mux_cell, reg_cell, read_tap, load_unit, store_unit}
 use Rattle.sp_netlist.specs.Rules.{is_bank, is_dram, bank_width, dram_width, drives, reads, driven_nets, is_computed, IsNetlist, IsRight}
@@ -12,8 +12,12 @@ use Rattle.sp_sim.specs.Settling.{cell_at, IsRow}
 use Rattle.sp_sim.specs.Holding.{held, put_all}
 use Rattle.sp_sim.proofs.RowLemmas.{word_of-put, nets_of-put, put_right}
 use Rattle.sp_sim.proofs.CellLemmas.{right_at, drives_driven, reads_driven, IsRow-put}
-use Rattle.sp_sim.proofs.Settled.{obeyed, first_of_pair}
+use Rattle.sp_sim.proofs.Settled.{obeyed, first_of_pair, only_one}
+use Rattle.sp_sim.specs.Programs.{is_kept, is_fixed}
+use Rattle.sp_sim.proofs.Parts.{Contains-filter, Contains-from_filter, kept_or_fixed}
 use Rattle.std.proofs.lemmas.List.{get_or_default}
+use Rattle.std.proofs.lemmas.List.Elements.{All-map, All-weaker}
+use Rattle.sp_netlist.specs.Order.{IsComputing}
 
 -- what the cells hold at a run's signals is in the run's next cycle
 held_right : (g : Setting) (s : Signals) (t : ℕ) (before : List PlainCell) (x : PlainCell) → Obeys g s before x
@@ -128,27 +132,56 @@ pub place_of_cell : (cells : List PlainCell) (x : PlainCell) → Contains cells 
 unfolding cell_at
 place_of_cell cells x c = (c.0, c.1, get_or_default cells c.0 (done_cell 0) x c.1 ∙ c.2)
 
+-- the cells at computing places stand in the list
+pub all_stand : (cells : List PlainCell) (order : List ℕ) → All (IsComputing cells) order → All (Contains cells) (map (cell_at cells) order)
+all_stand cells order all =
+    All-map (Contains cells) (cell_at cells) order (All-weaker (IsComputing cells) (λ at. Contains cells (cell_at cells at)) (λ at k. contains_place cells at k.0) order all)
+
 module _ (g : Setting) (h : IsNetlist g.cells) (s : Signals) (q : IsQuiet g s) where
-  pub next_right : (t : ℕ) (row : List (ℕ × ℕ)) → IsRow g.cells row → (at : ℕ) → at < length g.cells → is_computed (cell_at g.cells at) ≡ false
+  -- a word that stays
+  fixed_same : (before : List PlainCell) (x : PlainCell) → Obeys g s before x → is_fixed x ≡ true → (net : ℕ) → Contains (map (λ p. p.0) (drives g.cells x)) net → (t : ℕ) → s.net t net ≡ s.net (suc t) net
+  fixed_same before (in_cell name n ty) o e net c t = subst (λ m. s.net t m ≡ s.net (suc t) m) (only_one n net c) (o t ∙ sym (o (suc t)))
+  fixed_same before (const_cell n width word) o e net c t = subst (λ m. s.net t m ≡ s.net (suc t) m) (only_one n net c) (o t ∙ sym (o (suc t)))
+  fixed_same before _ o e net c t = absurd (false≢true e)
+
+  pub fixed_later : (at : ℕ) → at < length g.cells → is_fixed (cell_at g.cells at) ≡ true → (net : ℕ) → Contains (map (λ p. p.0) (drives g.cells (cell_at g.cells at))) net → (t : ℕ) → s.net t net ≡ s.net (suc t) net
+  fixed_later at l e net c t = fixed_same (take at g.cells) (cell_at g.cells at) (obeyed g h s q at l) e net c t
+
+  -- what each cell holds is in the run's next cycle
+  puts_right : (t : ℕ) (x : PlainCell) → Contains g.cells x → AllByRecursion (λ p. s.net (suc t) p.0 ≡ p.1) (held (s.net t) (s.bank t) (s.dram t) (s.phase (suc t)) x)
+  puts_right t x k =
+      let p = place_of_cell g.cells x k in
+      subst (λ y. AllByRecursion (λ p. s.net (suc t) p.0 ≡ p.1) (held (s.net t) (s.bank t) (s.dram t) (s.phase (suc t)) y)) p.2 (held_right g s t (take p.0 g.cells) (cell_at g.cells p.0) (obeyed g h s q p.0 p.1))
+
+  pub next_right : (t : ℕ) (row : List (ℕ × ℕ)) → IsRow g.cells row
+      → ((at : ℕ) → at < length g.cells → is_fixed (cell_at g.cells at) ≡ true → (net : ℕ) → Contains (map (λ p. p.0) (drives g.cells (cell_at g.cells at))) net → word_of row net ≡ s.net t net)
+      → (at : ℕ) → at < length g.cells → is_computed (cell_at g.cells at) ≡ false
       → (net : ℕ) → Contains (map (λ p. p.0) (drives g.cells (cell_at g.cells at))) net
-      → word_of (fold (λ r x. put_all r (held (s.net t) (s.bank t) (s.dram t) (s.phase (suc t)) x)) row g.cells) net ≡ s.net (suc t) net
-  next_right t row r at l free net c =
+      → word_of (fold (λ r x. put_all r (held (s.net t) (s.bank t) (s.dram t) (s.phase (suc t)) x)) row (filter is_kept g.cells)) net ≡ s.net (suc t) net
+  next_right t row r fixed at l free net c = ⊎_elim
+      (λ yes.
       let pair = first_of_pair (drives g.cells (cell_at g.cells at)) net c in
-      cells_make (s.net (suc t)) (held (s.net t) (s.bank t) (s.dram t) (s.phase (suc t))) g.cells row net (cell_at g.cells at)
-      (λ x k. let p = place_of_cell g.cells x k in
-      subst (λ y. AllByRecursion (λ p. s.net (suc t) p.0 ≡ p.1) (held (s.net t) (s.bank t) (s.dram t) (s.phase (suc t)) y)) p.2 (held_right g s t (take p.0 g.cells) (cell_at g.cells p.0) (obeyed g h s q p.0 p.1)))
-      (contains_place g.cells at l) (held_nets g.cells (s.net t) (s.bank t) (s.dram t) (s.phase (suc t)) (cell_at g.cells at) free net c)
-      (r.covers net pair.0 (drives_driven g.cells at net pair.0 l pair.1))
+      cells_make (s.net (suc t)) (held (s.net t) (s.bank t) (s.dram t) (s.phase (suc t))) (filter is_kept g.cells) row net (cell_at g.cells at) each
+      (Contains-filter is_kept g.cells (cell_at g.cells at) (contains_place g.cells at l) yes)
+      (held_nets g.cells (s.net t) (s.bank t) (s.dram t) (s.phase (suc t)) (cell_at g.cells at) free net c)
+      (r.covers net pair.0 (drives_driven g.cells at net pair.0 l pair.1)))
+      (λ no.
+      let stays = kept_or_fixed g.cells (cell_at g.cells at) free no net c in
+      cells_right (s.net (suc t)) (held (s.net t) (s.bank t) (s.dram t) (s.phase (suc t))) (filter is_kept g.cells) row net each (fixed at l stays net c ∙ fixed_later at l stays net c t))
+      (cases_Bool (is_kept (cell_at g.cells at)))
+    where
+      each : (x : PlainCell) → Contains (filter is_kept g.cells) x → AllByRecursion (λ p. s.net (suc t) p.0 ≡ p.1) (held (s.net t) (s.bank t) (s.dram t) (s.phase (suc t)) x)
+      each x k = puts_right t x (Contains-from_filter is_kept g.cells x k)
 
 -- the next row is a row
 pub next_is_row : (cells : List PlainCell) (h : IsNetlist cells) (w : ℕ → ℕ) (bank dram : ℕ → ℕ → ℕ) (phase : ℕ → Phase)
     → ((net width : ℕ) → Contains (driven_nets cells) (net, width) → w net < 2 ^ width)
     → ((n addr : ℕ) → n < count_by is_bank cells → bank n addr < 2 ^ bank_width cells n)
     → ((n addr : ℕ) → n < count_by is_dram cells → dram n addr < 2 ^ dram_width cells n)
-    → (row : List (ℕ × ℕ)) → IsRow cells row → IsRow cells (fold (λ r x. put_all r (held w bank dram phase x)) row cells)
+    → (row : List (ℕ × ℕ)) → IsRow cells row → IsRow cells (fold (λ r x. put_all r (held w bank dram phase x)) row (filter is_kept cells))
 next_is_row cells h w bank dram phase fits banks drams row r =
-    cells_row cells h (held w bank dram phase) cells row
-    (λ x c. let p = place_of_cell cells x c in
+    cells_row cells h (held w bank dram phase) (filter is_kept cells) row
+    (λ x k. let p = place_of_cell cells x (Contains-from_filter is_kept cells x k) in
     subst (λ y. Fit cells (held w bank dram phase y)) p.2
     (held_fits cells w bank dram phase fits banks drams (take p.0 cells) (cell_at cells p.0) (right_at cells h p.0 p.1)
     (λ n v d. drives_driven cells p.0 n v p.1 d) (λ n v d. reads_driven cells h p.0 n v p.1 d))) r

@@ -18,3 +18,4 @@ pub mod Loads
 pub mod GivenLemmas
 pub mod Faults
 pub mod Counted
+pub mod Parts

@@ -6,9 +6,10 @@ use Rattle.std.proofs.lemmas.List.{get_or_past, get_or-replicate, length-replica
 use Rattle.sp_netlist.specs.Cells.{PlainCell, done_cell, bank_cell, dram_cell, load_unit, store_unit}
 use Rattle.sp_netlist.specs.Rules.{is_bank, is_dram, is_unit, IsNetlist, IsRight}
 use Rattle.sp_netlist.specs.Signals.{Setting, Signals, idle, Obeys}
-use Rattle.sp_netlist.specs.Order.{IsOrder}
+use Rattle.sp_sim.specs.Programs.{IsProgram}
 use Rattle.sp_netlist.specs.Quiet.{IsQuiet, HasQuietRun}
 use Rattle.sp_sim.specs.declared.state.State.{State}
+use Rattle.sp_sim.specs.declared.program.Program.{Program}
 use Rattle.sp_sim.specs.Given.{IsGiven}
 use Rattle.sp_sim.specs.Rows.{word_of}
 use Rattle.sp_sim.specs.Memories.{no_words, word_at}
@@ -22,7 +23,8 @@ use Rattle.sp_sim.proofs.CellLemmas.{place_split, right_at, nth_place}
 use Rattle.sp_sim.proofs.Settled.{obeyed}
 use Rattle.sp_sim.proofs.Held.{place_of_cell, contains_place}
 use Rattle.sp_sim.proofs.Served.{count_split}
-use Rattle.sp_sim.proofs.Begun.{begun, first_begun}
+use Rattle.sp_sim.proofs.Begun.{begun}
+use Rattle.sp_sim.proofs.Parts.{fixed_free}
 use Rattle.sp_sim.proofs.Fresh.{zeros_at, bank_memory, dram_memory, are_banks_first, are_drams_first}
 
 passes_at : (p : PlainCell → Bool) (cells : List PlainCell) (at : ℕ) → p (get_or cells at (done_cell 0)) ≡ true → p (cell_at cells at) ≡ true
@@ -51,7 +53,7 @@ module _ (g : Setting) (h : IsNetlist g.cells) (given : IsGiven g.cells g.args g
   first_is_state : (s : Signals) → IsQuiet g s → IsState g.cells state
   first_is_state s q = record {
     row = subst (IsRow g.cells) (sym b.row) (begun g h s q given b.row_nets b.row_same).is_row;
-    next = subst (IsRow g.cells) (sym b.next) (first_begun g h s q given b.next_nets b.next_same).is_row;
+    next = subst (IsRow g.cells) (sym b.next) (begun g h s q given b.next_nets b.next_same).is_row;
     banks = subst (AreBanks g.cells) (sym b.banks) (are_banks_first g.cells h);
     drams = subst (AreDrams g.cells) (sym b.drams) (are_drams_first g.cells h g.args g.drams given);
     phases = sym (length-map state.phases.items plain_phase) ∙ ap length b.phases ∙ length-replicate (count_by is_unit g.cells) idle;
@@ -121,6 +123,7 @@ module _ (g : Setting) (h : IsNetlist g.cells) (given : IsGiven g.cells g.args g
   unfolding phase_at
   first_stands s q = record {
     kept = λ at l free net c. ap (λ r. word_of r net) b.row ∙ (begun g h s q given b.row_nets b.row_same).made (cell_at g.cells at) (contains_place g.cells at l) free net c;
+    fixed = λ at l stays net c. ap (λ r. word_of r net) b.next ∙ (begun g h s q given b.next_nets b.next_same).made (cell_at g.cells at) (contains_place g.cells at l) (fixed_free (cell_at g.cells at) stays) net c;
     banks = ap word_at b.banks ∙ fun_ext (λ n. fun_ext (λ a. fresh_zero n a ∙ sym (bank_zero s q n a)));
     drams = ap word_at b.drams ∙ fun_ext (λ n. fun_ext (λ a. dram_first s q n a));
     phases = λ n. ap (λ ps. get_or ps n idle) b.phases ∙ all_idle n ∙ sym (phase_idle s q n);
@@ -130,11 +133,11 @@ module _ (g : Setting) (h : IsNetlist g.cells) (given : IsGiven g.cells g.args g
       all_idle : (n : ℕ) → get_or (replicate (count_by is_unit g.cells) idle) n idle ≡ idle
       all_idle n = ⊎_elim (λ l. get_or-replicate (count_by is_unit g.cells) n idle idle l) (λ l. get_or_past (replicate (count_by is_unit g.cells) idle) n idle (omega (arith, length-replicate (count_by is_unit g.cells) idle))) (cases_lt n (count_by is_unit g.cells))
 
-  pub first_sim : HasQuietRun → (order : List ℕ) → IsOrder g.cells order → IsSim g order 0 state None
-  first_sim quiet order o = record {
+  pub first_sim : HasQuietRun → (program : Program) → IsProgram g.cells program → IsSim g program 0 state None
+  first_sim quiet program o = record {
     netlist = h;
     given = given.drams_number;
-    order = o;
+    is_program = o;
     is_state = let run = quiet g h in first_is_state run.0 run.1;
     went_on = λ s q t l. absurd (omega arith);
     stands = first_stands;

@@ -85,6 +85,7 @@ looked g h order o old new e r found tells s q t stands =
     record {
       stands = record {
         kept = λ at l free net c. ap (λ (f : ℕ → ℕ). f net) words;
+        fixed = λ at l stays net c. ap (λ r. word_of r net) e.next ∙ stands.fixed at l stays net c;
         banks = ap word_at e.banks ∙ stands.banks;
         drams = ap word_at e.drams ∙ stands.drams;
         phases = λ n. ap (λ ps. phase_at ps n) e.phases ∙ stands.phases n;

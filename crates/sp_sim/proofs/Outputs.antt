@@ -11,6 +11,7 @@ use Rattle.sp_netlist.specs.Cycle.{out_words, dram_lists, done_in, Ends}
 use Rattle.sp_netlist.specs.Laws.{HasOneEnding}
 use Rattle.sp_netlist.specs.Quiet.{HasQuietRun}
 use Rattle.sp_sim.specs.declared.state.State.{State}
+use Rattle.sp_sim.specs.declared.program.Program.{Program}
 use Rattle.sp_sim.specs.declared.end.SimEnd.{SimEnd}
 use Rattle.sp_sim.specs.declared.end.SimEnd.TheVariants.{Done, Conflict, CyclesSpent}
 use Rattle.sp_sim.specs.Rows.{word_of}
@@ -55,14 +56,14 @@ module _ (cells : List PlainCell) (h : IsNetlist cells) (ms : List Words) (r : A
   pub contents_are : dram_lists cells (word_at ms) ≡ map (λ m. m.words) ms
   contents_are = lists_from cells [] refl
 
-pub outputs_tell : HasOneEnding → HasQuietRun → (g : Setting) (order : List ℕ) (cycle : ℕ) (state : State) (end : Option SimEnd) → IsSim g order cycle state end → IsDone end
+pub outputs_tell : HasOneEnding → HasQuietRun → (g : Setting) (program : Program) (cycle : ℕ) (state : State) (end : Option SimEnd) → IsSim g program cycle state end → IsDone end
     → (outs : List ℕ) (drams : List (List ℕ)) → outs ≡ out_words g.cells (word_of state.row) → drams ≡ map (λ m. m.words) state.drams.items → Ends g cycle (done_in cycle outs drams)
-outputs_tell laws quiet g order cycle state (Some (Done cycles)) sim d outs drams eo ed =
+outputs_tell laws quiet g program cycle state (Some (Done cycles)) sim d outs drams eo ed =
     let o = over_tells laws quiet g sim.netlist cycle sim.went_on (λ s q. (sim.ended s q).1.found) in
     let at = (sim.ended o.0 o.1).1 in
     let same_outs : out_words g.cells (o.0.net cycle) ≡ outs = ap (out_words g.cells) (sym at.words) ∙ sym eo in
     let same_drams : dram_lists g.cells (o.0.dram cycle) ≡ drams = ap (dram_lists g.cells) (sym at.stands.drams) ∙ contents_are g.cells sim.netlist state.drams.items sim.is_state.drams ∙ sym ed in
     subst (λ ds. Ends g cycle (done_in cycle outs ds)) same_drams (subst (λ os. Ends g cycle (done_in cycle os (dram_lists g.cells (o.0.dram cycle)))) same_outs o.2)
-outputs_tell laws quiet g order cycle state (Some (Conflict at bank port)) sim d outs drams eo ed = absurd d
-outputs_tell laws quiet g order cycle state (Some CyclesSpent) sim d outs drams eo ed = absurd d
-outputs_tell laws quiet g order cycle state None sim d outs drams eo ed = absurd d
+outputs_tell laws quiet g program cycle state (Some (Conflict at bank port)) sim d outs drams eo ed = absurd d
+outputs_tell laws quiet g program cycle state (Some CyclesSpent) sim d outs drams eo ed = absurd d
+outputs_tell laws quiet g program cycle state None sim d outs drams eo ed = absurd d

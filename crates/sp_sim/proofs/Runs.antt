@@ -8,6 +8,7 @@ use Rattle.sp_netlist.specs.Cycle.{GoesOn, EndsAs, Ends, done_in, conflict_in, n
 use Rattle.sp_netlist.specs.Laws.{HasOneEnding, EndingKept}
 use Rattle.sp_netlist.specs.Quiet.{IsQuiet, HasQuietRun}
 use Rattle.sp_sim.specs.declared.state.State.{State}
+use Rattle.sp_sim.specs.declared.program.Program.{Program}
 use Rattle.sp_sim.specs.declared.state.Found.{Found}
 use Rattle.sp_sim.specs.declared.state.Found.TheVariants.{Nothing, Over, Shared}
 use Rattle.sp_sim.specs.declared.end.SimEnd.{SimEnd}
@@ -45,11 +46,11 @@ module _ (laws : HasOneEnding) (quiet : HasQuietRun) where
       (laws g h cycle).of_run run.0 (conflict_in cycle bank port) run.1.run (omega arith, before run.0 run.1, found run.0 run.1)
 
 -- the next cycle
-pub next_sim : (g : Setting) (order : List ℕ) (cycle : ℕ) (old new : State) → IsSim g order cycle old None → IsState g.cells new → ((s : Signals) → IsQuiet g s → TurnedIn g s cycle new Nothing) → IsSim g order (cycle + 1) new None
-next_sim g order cycle old new sim state turned = record {
+pub next_sim : (g : Setting) (program : Program) (cycle : ℕ) (old new : State) → IsSim g program cycle old None → IsState g.cells new → ((s : Signals) → IsQuiet g s → TurnedIn g s cycle new Nothing) → IsSim g program (cycle + 1) new None
+next_sim g program cycle old new sim state turned = record {
   netlist = sim.netlist;
   given = sim.given;
-  order = sim.order;
+  is_program = sim.is_program;
   is_state = state;
   went_on = λ s q t l. ⊎_elim (λ k. sim.went_on s q t k) (λ k. subst (GoesOn g s) (omega arith) (turned s q).0) (cases_lt t cycle);
   stands = λ s q. subst (λ n. StandsIn g s n new) (omega arith) (turned s q).1;
@@ -57,11 +58,11 @@ next_sim g order cycle old new sim state turned = record {
 }
 
 -- the same cycle, with its end
-pub ended_sim : (g : Setting) (order : List ℕ) (cycle : ℕ) (old new : State) → IsSim g order cycle old None → IsState g.cells new → (found : Found) → ((s : Signals) → IsQuiet g s → LookedIn g s cycle new found) → IsSim g order cycle new (end_of cycle found)
-ended_sim g order cycle old new sim state found looked = record {
+pub ended_sim : (g : Setting) (program : Program) (cycle : ℕ) (old new : State) → IsSim g program cycle old None → IsState g.cells new → (found : Found) → ((s : Signals) → IsQuiet g s → LookedIn g s cycle new found) → IsSim g program cycle new (end_of cycle found)
+ended_sim g program cycle old new sim state found looked = record {
   netlist = sim.netlist;
   given = sim.given;
-  order = sim.order;
+  is_program = sim.is_program;
   is_state = state;
   went_on = sim.went_on;
   stands = λ s q. (looked s q).stands;
@@ -74,14 +75,14 @@ ended_sim g order cycle old new sim state found looked = record {
     ended (Shared bank port) s q k = (refl, k)
 
 -- what a step tells
-pub step_tells : HasOneEnding → HasQuietRun → (g : Setting) (order : List ℕ) (cycle : ℕ) (old new : State) → IsSim g order cycle old None → (found : Found) → ((s : Signals) → IsQuiet g s → TurnedIn g s cycle new found)
+pub step_tells : HasOneEnding → HasQuietRun → (g : Setting) (program : Program) (cycle : ℕ) (old new : State) → IsSim g program cycle old None → (found : Found) → ((s : Signals) → IsQuiet g s → TurnedIn g s cycle new found)
     → (end : SimEnd) → end_of cycle found ≡ Some end → Tells g cycle end × IsEndIn cycle end
-step_tells laws quiet g order cycle old new sim Nothing turned end e = absurd (cc)
-step_tells laws quiet g order cycle old new sim Over turned end e =
+step_tells laws quiet g program cycle old new sim Nothing turned end e = absurd (cc)
+step_tells laws quiet g program cycle old new sim Over turned end e =
     let o = over_tells laws quiet g sim.netlist cycle sim.went_on (λ s q. (turned s q).found) in
     let same : Done cycle ≡ end = cc in
     subst (λ x. Tells g cycle x × IsEndIn cycle x) same ((_, _, o.2), refl)
-step_tells laws quiet g order cycle old new sim (Shared bank port) turned end e =
+step_tells laws quiet g program cycle old new sim (Shared bank port) turned end e =
     let same : Conflict cycle bank port ≡ end = cc in
     subst (λ x. Tells g cycle x × IsEndIn cycle x) same (shared_tells laws quiet g sim.netlist cycle bank port sim.went_on (λ s q. (turned s q).found), refl)
 
@@ -109,44 +110,44 @@ abbrev pub progress : Setting → ℕ → Option SimEnd → Progress
 progress g cycle ended = record { setting = g; cycle = cycle; ended = ended }
 
 -- a step that goes on
-pub steps_on : HasOneEnding → HasQuietRun → (g : Setting) (order : List ℕ) (cycle : ℕ) (old new : State) → IsSim g order cycle old None → ((s : Signals) → IsQuiet g s → TurnedIn g s cycle new Nothing)
+pub steps_on : HasOneEnding → HasQuietRun → (g : Setting) (program : Program) (cycle : ℕ) (old new : State) → IsSim g program cycle old None → ((s : Signals) → IsQuiet g s → TurnedIn g s cycle new Nothing)
     → (was now : Option SimEnd) → was ≡ None → now ≡ None → (result : Option SimEnd) → result ≡ None
     → StepsTo (record { setting = g; cycle = cycle; ended = was }) result (record { setting = g; cycle = cycle + 1; ended = now })
-steps_on laws quiet g order cycle old new sim turned was now ew en result er =
+steps_on laws quiet g program cycle old new sim turned was now ew en result er =
     subst (λ r. StepsTo (record { setting = g; cycle = cycle; ended = was }) r (record { setting = g; cycle = cycle + 1; ended = now })) (sym er)
     (goes_tells laws quiet g sim.netlist cycle sim.went_on (λ s q. (turned s q).0), ap (progress g (cycle + 1)) en)
 
 -- a step that ends
-pub steps_end : HasOneEnding → HasQuietRun → (g : Setting) (order : List ℕ) (cycle : ℕ) (old new : State) → IsSim g order cycle old None → (found : Found) → ((s : Signals) → IsQuiet g s → TurnedIn g s cycle new found)
+pub steps_end : HasOneEnding → HasQuietRun → (g : Setting) (program : Program) (cycle : ℕ) (old new : State) → IsSim g program cycle old None → (found : Found) → ((s : Signals) → IsQuiet g s → TurnedIn g s cycle new found)
     → (was : Option SimEnd) (result : Option SimEnd) (end : SimEnd) → result ≡ Some end → result ≡ end_of cycle found
     → StepsTo (record { setting = g; cycle = cycle; ended = was }) result (record { setting = g; cycle = cycle; ended = result })
-steps_end laws quiet g order cycle old new sim found turned was result end er ef =
-    let t = step_tells laws quiet g order cycle old new sim found turned end (sym ef ∙ er) in
+steps_end laws quiet g program cycle old new sim found turned was result end er ef =
+    let t = step_tells laws quiet g program cycle old new sim found turned end (sym ef ∙ er) in
     subst (λ r. StepsTo (record { setting = g; cycle = cycle; ended = was }) r (record { setting = g; cycle = cycle; ended = r })) (sym er) (t.0, t.1, refl)
 
 -- what the parts tell of an end
-pub ended_tells : HasOneEnding → HasQuietRun → (g : Setting) (order : List ℕ) (cycle : ℕ) (state : State) (end : SimEnd) → IsSim g order cycle state (Some end) → Tells g cycle end × IsEndIn cycle end
-ended_tells laws quiet g order cycle state (Done cycles) sim =
+pub ended_tells : HasOneEnding → HasQuietRun → (g : Setting) (program : Program) (cycle : ℕ) (state : State) (end : SimEnd) → IsSim g program cycle state (Some end) → Tells g cycle end × IsEndIn cycle end
+ended_tells laws quiet g program cycle state (Done cycles) sim =
     let run = quiet g sim.netlist in
     let e = sim.ended run.0 run.1 in
     let o = over_tells laws quiet g sim.netlist cycle sim.went_on (λ s q. (sim.ended s q).1.found) in
     ((_, _, subst (λ n. Ends g cycle (done_in n (out_words g.cells (o.0.net cycle)) (dram_lists g.cells (o.0.dram cycle)))) (sym e.0) o.2), e.0)
-ended_tells laws quiet g order cycle state (Conflict at bank port) sim =
+ended_tells laws quiet g program cycle state (Conflict at bank port) sim =
     let run = quiet g sim.netlist in
     let e = sim.ended run.0 run.1 in
     (subst (λ n. Ends g cycle (conflict_in n bank port)) (sym e.0) (shared_tells laws quiet g sim.netlist cycle bank port sim.went_on (λ s q. (sim.ended s q).1.found)), e.0)
-ended_tells laws quiet g order cycle state CyclesSpent sim = let run = quiet g sim.netlist in absurd (sim.ended run.0 run.1)
+ended_tells laws quiet g program cycle state CyclesSpent sim = let run = quiet g sim.netlist in absurd (sim.ended run.0 run.1)
 
-pub if_ended : HasOneEnding → HasQuietRun → (g : Setting) (order : List ℕ) (cycle : ℕ) (state : State) (end : Option SimEnd) → IsSim g order cycle state end → IfSome end (λ e. Tells g cycle e × IsEndIn cycle e)
-if_ended laws quiet g order cycle state None sim = tt
-if_ended laws quiet g order cycle state (Some end) sim = ended_tells laws quiet g order cycle state end sim
+pub if_ended : HasOneEnding → HasQuietRun → (g : Setting) (program : Program) (cycle : ℕ) (state : State) (end : Option SimEnd) → IsSim g program cycle state end → IfSome end (λ e. Tells g cycle e × IsEndIn cycle e)
+if_ended laws quiet g program cycle state None sim = tt
+if_ended laws quiet g program cycle state (Some end) sim = ended_tells laws quiet g program cycle state end sim
 
 -- what is looked at and not left
-pub peeks : HasOneEnding → HasQuietRun → (g : Setting) (order : List ℕ) (cycle : ℕ) (old new : State) → IsSim g order cycle old None → (found : Found) → ((s : Signals) → IsQuiet g s → LookedIn g s cycle new found)
+pub peeks : HasOneEnding → HasQuietRun → (g : Setting) (program : Program) (cycle : ℕ) (old new : State) → IsSim g program cycle old None → (found : Found) → ((s : Signals) → IsQuiet g s → LookedIn g s cycle new found)
     → PeeksAt (progress g cycle None) (end_of cycle found) (progress g cycle (end_of cycle found))
-peeks laws quiet g order cycle old new sim Nothing looked = (goes_tells laws quiet g sim.netlist cycle sim.went_on (λ s q. (looked s q).found), refl)
-peeks laws quiet g order cycle old new sim Over looked = let o = over_tells laws quiet g sim.netlist cycle sim.went_on (λ s q. (looked s q).found) in ((_, _, o.2), refl, refl)
-peeks laws quiet g order cycle old new sim (Shared bank port) looked = (shared_tells laws quiet g sim.netlist cycle bank port sim.went_on (λ s q. (looked s q).found), refl, refl)
+peeks laws quiet g program cycle old new sim Nothing looked = (goes_tells laws quiet g sim.netlist cycle sim.went_on (λ s q. (looked s q).found), refl)
+peeks laws quiet g program cycle old new sim Over looked = let o = over_tells laws quiet g sim.netlist cycle sim.went_on (λ s q. (looked s q).found) in ((_, _, o.2), refl, refl)
+peeks laws quiet g program cycle old new sim (Shared bank port) looked = (shared_tells laws quiet g sim.netlist cycle bank port sim.went_on (λ s q. (looked s q).found), refl, refl)
 
 -- an end stays one for every later last cycle
 pub tells_later : EndingKept → (g : Setting) (a b : ℕ) (end : SimEnd) → a ≤ b → IsEndIn a end → Tells g a end → Tells g b end

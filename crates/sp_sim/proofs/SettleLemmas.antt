@@ -1,9 +1,10 @@
 -- The nets that are computed have their words.
-use Rattle.std.proofs.Common.{◌≡◌, ℕ, ◌<◌, ◌^◌, List, length, take, Contains, refl, sym, ap, ◌∙◌, subst, arith, Option, Some}
+use Rattle.std.proofs.Common.{◌≡◌, ℕ, ◌<◌, ◌^◌, List, [], ◌∷◌, length, map, take, Contains, refl, sym, ap, ◌∙◌, subst, arith, Option, Some}
+use Rattle.std.specs.List.{fold}
 use Rattle.sp_netlist.specs.Cells.{PlainCell, op_cell, not_cell, shift_cell, cast_cell, mux_cell}
 use Rattle.sp_netlist.specs.Rules.{drives, reads, IsNetlist, IsRight}
 use Rattle.sp_sim.specs.Rows.{word_of, with_word}
-use Rattle.sp_sim.specs.Settling.{cell_at, computed_word, computed_width, OperandsFit, IsRow, put_some, settle_one}
+use Rattle.sp_sim.specs.Settling.{cell_at, computed_word, computed_width, OperandsFit, IsRow, put_some, settle_cell, settle_one, settled}
 use Rattle.sp_sim.proofs.CellLemmas.{right_at, drives_driven, reads_driven, IsRow-put}
 
 operands : (cells before : List PlainCell) (row : List (ℕ × ℕ)) (x : PlainCell) → IsRight cells before x
@@ -28,9 +29,11 @@ computed_driven cells w (cast_cell net from to a) p e = let same : net ≡ p.0 =
 computed_driven cells w (mux_cell net width choice a b) p e = let same : net ≡ p.0 = cc in (0, omega arith, ap (λ n. (n, width)) same)
 computed_driven cells w _ p e = absurd (cc)
 
-pub settle_step : (cells : List PlainCell) (row : List (ℕ × ℕ)) (at : ℕ) (x : PlainCell) (o : Option (ℕ × ℕ)) → x ≡ cell_at cells at → o ≡ computed_word (word_of row) x → put_some row o ≡ settle_one cells row at
-unfolding settle_one
-settle_step cells row at x o e f = ap (put_some row) (f ∙ ap (computed_word (word_of row)) e)
+-- cell by cell, in the order of their places
+pub settled_as_cells : (cells : List PlainCell) (order : List ℕ) (row : List (ℕ × ℕ)) → fold settle_cell row (map (cell_at cells) order) ≡ settled cells row order
+unfolding settle_cell settle_one
+settled_as_cells cells [] row = refl
+settled_as_cells cells (at ∷ order) row = settled_as_cells cells order (settle_one cells row at)
 
 pub settled_row : (cells : List PlainCell) → IsNetlist cells → (row : List (ℕ × ℕ)) → IsRow cells row → (at : ℕ) → at < length cells → (x : PlainCell) (p : ℕ × ℕ) → x ≡ cell_at cells at
     → Some p ≡ computed_word (word_of row) x → p.1 < 2 ^ computed_width x → IsRow cells (with_word row p.0 p.1)

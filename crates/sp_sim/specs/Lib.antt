@@ -13,3 +13,4 @@ pub mod Standing
 pub mod States
 pub mod Writing
 pub mod Texts
+pub mod Programs

@@ -50,7 +50,7 @@ pub record BeginsWith (cells : List PlainCell) (args : List ℕ) (contents : Lis
   pub row : state.row ≡ (fold (first_one args) (record { row = map (λ n. (n, 0)) row_nets; seen = 0 }) cells).row
   pub next_nets : List ℕ
   pub next_same : AreNets cells next_nets
-  pub next : state.next ≡ map (λ n. (n, 0)) next_nets
+  pub next : state.next ≡ (fold (first_one args) (record { row = map (λ n. (n, 0)) next_nets; seen = 0 }) cells).row
   pub banks : state.banks.items ≡ flat_map fresh_bank cells
   pub drams : state.drams.items ≡ flat_map (fresh_dram contents) cells
   pub phases : map plain_phase state.phases.items ≡ replicate (count_by is_unit cells) idle

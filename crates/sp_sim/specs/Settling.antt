@@ -50,6 +50,10 @@ unfoldable pub put_some : List (ℕ × ℕ) → Option (ℕ × ℕ) → List (�
 put_some row None = row
 put_some row (Some p) = with_word row p.0 p.1
 
+-- the row after one cell
+unfoldable pub settle_cell : List (ℕ × ℕ) → PlainCell → List (ℕ × ℕ)
+settle_cell row cell = put_some row (computed_word (word_of row) cell)
+
 unfoldable pub settle_one : List PlainCell → List (ℕ × ℕ) → ℕ → List (ℕ × ℕ)
 settle_one cells row at = put_some row (computed_word (word_of row) (cell_at cells at))
 

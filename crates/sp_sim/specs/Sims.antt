@@ -9,7 +9,8 @@ use Rattle.sp_sim.specs.declared.state.Found.{Found}
 use Rattle.sp_sim.specs.declared.state.Found.TheVariants.{Nothing, Over, Shared}
 use Rattle.sp_sim.specs.declared.end.SimEnd.{SimEnd}
 use Rattle.sp_sim.specs.declared.end.SimEnd.TheVariants.{Done, Conflict, CyclesSpent}
-use Rattle.sp_netlist.specs.Order.{IsOrder}
+use Rattle.sp_sim.specs.declared.program.Program.{Program}
+use Rattle.sp_sim.specs.Programs.{IsProgram}
 use Rattle.sp_sim.specs.States.{IsState, StandsIn, LookedIn}
 
 -- the end of a run in this cycle, where the state has the words of all nets
@@ -26,10 +27,10 @@ end_of cycle Over = Some (Done cycle)
 end_of cycle (Shared bank port) = Some (Conflict cycle bank port)
 
 -- the run of the setting stands there, and has gone on until then
-pub record IsSim (g : Setting) (places : List ℕ) (cycle : ℕ) (state : State) (end : Option SimEnd) : Type 0 where
+pub record IsSim (g : Setting) (program : Program) (cycle : ℕ) (state : State) (end : Option SimEnd) : Type 0 where
   pub netlist : IsNetlist g.cells
   pub given : length g.drams ≡ count_by is_dram g.cells
-  pub order : IsOrder g.cells places
+  pub is_program : IsProgram g.cells program
   pub is_state : IsState g.cells state
   pub went_on : (s : Signals) → IsQuiet g s → (t : ℕ) → t < cycle → GoesOn g s t
   pub stands : (s : Signals) → IsQuiet g s → StandsIn g s cycle state

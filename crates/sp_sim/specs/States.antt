@@ -12,6 +12,7 @@ use Rattle.sp_sim.specs.Rows.{word_of}
 use Rattle.sp_sim.specs.Memories.{word_at}
 use Rattle.sp_sim.specs.Phases.{phase_at}
 use Rattle.sp_sim.specs.Settling.{cell_at, IsRow}
+use Rattle.sp_sim.specs.Programs.{is_fixed}
 use Rattle.sp_sim.specs.Standing.{AreBanks, AreDrams}
 
 -- the state has what these cells need
@@ -28,6 +29,9 @@ pub record IsState (cells : List PlainCell) (state : State) : Type 0 where
 pub record StandsIn (g : Setting) (s : Signals) (t : ℕ) (state : State) : Type 0 where
   pub kept : (at : ℕ) → at < length g.cells → is_computed (cell_at g.cells at) ≡ false
       → (net : ℕ) → Contains (map (λ p. p.0) (drives g.cells (cell_at g.cells at))) net → word_of state.row net ≡ s.net t net
+  -- the row that is filled next has the words that never change
+  pub fixed : (at : ℕ) → at < length g.cells → is_fixed (cell_at g.cells at) ≡ true
+      → (net : ℕ) → Contains (map (λ p. p.0) (drives g.cells (cell_at g.cells at))) net → word_of state.next net ≡ s.net t net
   pub banks : word_at state.banks.items ≡ s.bank t
   pub drams : word_at state.drams.items ≡ s.dram t
   pub phases : (channel : ℕ) → phase_at state.phases.items channel ≡ s.phase t channel

@@ -38,14 +38,21 @@ fn count_write(cell: &Cell, row: &Row, counts: &mut [u8])
     }
 }
 
-/// Counts the enabled taps of each port of each bank, up to 2.
-fn count_taps(cells: &[Cell], row: &Row, reads: &mut [u8], writes: &mut [u8])
-    ensures reads { reads.new ≡ fold (tally (word_of row.now) Port.Read) reads.old (plain_cells cells.now) }
-    ensures writes { writes.new ≡ fold (tally (word_of row.now) Port.Write) writes.old (plain_cells cells.now) }
+/// Counts the enabled read taps of each bank, up to 2.
+fn count_reads(cells: &[Cell], row: &Row, counts: &mut [u8])
+    ensures { counts.new ≡ fold (tally (word_of row.now) Port.Read) counts.old (plain_cells cells.now) }
 {
     for cell in cells {
-        count_read(cell, row, reads);
-        count_write(cell, row, writes);
+        count_read(cell, row, counts);
+    }
+}
+
+/// Counts the enabled write taps of each bank, up to 2.
+fn count_writes(cells: &[Cell], row: &Row, counts: &mut [u8])
+    ensures { counts.new ≡ fold (tally (word_of row.now) Port.Write) counts.old (plain_cells cells.now) }
+{
+    for cell in cells {
+        count_write(cell, row, counts);
     }
 }
 
@@ -75,18 +82,20 @@ fn first_shared(reads: &[u8], writes: &[u8]) -> Option<(u64, Port)>
 
 /// Counts from nothing, and tells the first bank that has a port with more than one enabled tap.
 pub(crate) fn conflict(
-    cells: &[Cell],
+    read_taps: &[Cell],
+    write_taps: &[Cell],
     row: &Row,
     reads: &mut [u8],
     writes: &mut [u8],
 ) -> Option<(u64, Port)>
     requires { length writes.old ≡ length reads.old }
-    ensures reads { reads.new ≡ fold (tally (word_of row.now) Port.Read) (replicate (length reads.old) 0) (plain_cells cells.now) }
-    ensures writes { writes.new ≡ fold (tally (word_of row.now) Port.Write) (replicate (length reads.old) 0) (plain_cells cells.now) }
+    ensures reads { reads.new ≡ fold (tally (word_of row.now) Port.Read) (replicate (length reads.old) 0) (plain_cells read_taps.now) }
+    ensures writes { writes.new ≡ fold (tally (word_of row.now) Port.Write) (replicate (length reads.old) 0) (plain_cells write_taps.now) }
     ensures first { MatchOption result ((b : ℕ) → (slice_index reads.new b ≤ 1) × (slice_index writes.new b ≤ 1)) (λ p. IsFirstShared reads.new writes.new p.0 p.1) }
 {
     clear(reads);
     clear(writes);
-    count_taps(cells, row, reads, writes);
+    count_reads(read_taps, row, reads);
+    count_writes(write_taps, row, writes);
     first_shared(reads, writes)
 }

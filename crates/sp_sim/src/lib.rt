@@ -9,6 +9,7 @@ mod load;
 mod memory;
 mod over;
 mod phase;
+mod program;
 mod row;
 mod serve;
 mod settle;

@@ -215,7 +215,8 @@ pub(crate) fn first_state(
     let cells = netlist.cells();
     let mut row = empty_row(alloc, cells)?;
     let _seen = first_words(cells, &input.args, &mut row);
-    let next = empty_row(alloc, cells)?;
+    let mut next = empty_row(alloc, cells)?;
+    let _seen = first_words(cells, &input.args, &mut next);
     let banks = first_banks(alloc, cells)?;
     let drams = first_drams(alloc, cells, &input.drams)?;
     let phases = first_phases(alloc, cells)?;

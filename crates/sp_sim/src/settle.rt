@@ -1,9 +1,10 @@
 //! The nets that are computed.
-ghost use Rattle.std.specs.Prelude.{◌≡◌, ◌<◌, ◌^◌, ◌==◌, if◌then◌else◌, length, All, IfSome};
+ghost use Rattle.std.specs.Prelude.{◌≡◌, ◌<◌, ◌^◌, ◌==◌, if◌then◌else◌, All, Contains, IfSome};
+ghost use Rattle.std.specs.List.{fold};
 ghost use Rattle.sp_words.specs.Types.{width_of};
 ghost use Rattle.sp_words.specs.Words.{IsWord};
-ghost use Rattle.sp_netlist.specs.Cells.{plain_cell};
-ghost use Rattle.sp_netlist.specs.Rules.{op_width, IsNetlist};
+ghost use Rattle.sp_netlist.specs.Cells.{plain_cell, plain_cells};
+ghost use Rattle.sp_netlist.specs.Rules.{op_width};
 ghost use Rattle.sp_netlist.specs.Signals.{op_word, shift_word};
 ghost use Rattle.sp_sim.specs.Rows.{word_of};
 ghost use Rattle.sp_sim.specs.Settling as settling;
@@ -77,37 +78,27 @@ fn chosen(row: &Row, choice: NetId, a: NetId, b: NetId) -> u64
     }
 }
 
-/// The cell at a place.
-fn cell_at(netlist: &Netlist, at: usize) -> &Cell
-    requires { at < length netlist.now }
-    ensures cell { plain_cell result.now ≡ settling.cell_at netlist.now at }
-    ensures netlist { IsNetlist netlist.now }
-{
-    let cells = netlist.cells();
-    &cells[at]
-}
-
-/// Computes the net of the cell at a place.
-fn settle_cell(netlist: &Netlist, at: usize, row: &mut Row)
-    requires within { at < length netlist.now }
+/// Computes the net of a cell.
+fn settle_cell(netlist: &Netlist, cell: &Cell, row: &mut Row)
+    requires stands { Contains netlist.now (plain_cell cell.now) }
     requires is_row { settling.IsRow netlist.now row.old }
-    ensures settled { row.new ≡ settling.settle_one netlist.now row.old at }
+    ensures settled { row.new ≡ settling.settle_cell row.old (plain_cell cell.now) }
     ensures is_row { settling.IsRow netlist.now row.new }
 {
-    let cell = cell_at(netlist, at);
+    let _cells = netlist.cells();
     if let Some(found) = computed_word(row, cell) {
         row.put(found.0, found.1);
     }
 }
 
-/// Computes the nets of the cells at these places, one after the other.
-pub(crate) fn settle(netlist: &Netlist, order: &[usize], row: &mut Row)
-    requires within { All (λ at. at < length netlist.now) order.now }
+/// Computes the nets of these cells, one after the other.
+pub(crate) fn settle(netlist: &Netlist, computed: &[Cell], row: &mut Row)
+    requires stand { All (Contains netlist.now) (plain_cells computed.now) }
     requires is_row { settling.IsRow netlist.now row.old }
-    ensures settled { row.new ≡ settling.settled netlist.now row.old order.now }
+    ensures settled { row.new ≡ fold settling.settle_cell row.old (plain_cells computed.now) }
     ensures is_row { settling.IsRow netlist.now row.new }
 {
-    for at in order {
-        settle_cell(netlist, *at, row);
+    for cell in computed {
+        settle_cell(netlist, cell, row);
     }
 }

@@ -7,8 +7,9 @@ use crate::end::{SimEnd, SimLoad};
 use crate::given::first_fault;
 use crate::load::first_state;
 use crate::over::{contents, out_words};
+use crate::program::{Program, program_of};
 use crate::state::{Found, State, look, turn};
-use sp_netlist::{Netlist, ending_kept, evaluation_order, one_ending, quiet_run};
+use sp_netlist::{Netlist, ending_kept, one_ending, quiet_run};
 use sp_words::{Input, Output};
 use std::alloc::Global;
 use std::marker::Model;
@@ -20,8 +21,7 @@ pub struct Sim<'a> {
     netlist: &'a Netlist,
     input: &'a Input,
     delays: &'a [u32],
-    // The places of the cells that compute, in an order in which operands come first.
-    order: Vec<usize>,
+    program: Program,
     state: State,
     cycle: u64,
     ended: Option<SimEnd>,
@@ -35,7 +35,7 @@ impl<'a> Model for Sim<'a> {
 
     ghost view = { λ m. record { setting = setting_of m.netlist.now m.input.now m.delays.now; cycle = m.cycle; ended = m.ended } };
 
-    ghost invariant = { λ m. IsSim (setting_of m.netlist.now m.input.now m.delays.now) m.order.items m.cycle m.state m.ended };
+    ghost invariant = { λ m. IsSim (setting_of m.netlist.now m.input.now m.delays.now) m.program m.cycle m.state m.ended };
 }
 
 /// What was found in a cycle, as the end of the run.
@@ -86,13 +86,13 @@ impl<'a> Sim<'a> {
     {
         quiet_run();
         let _cells = netlist.cells();
-        let order = evaluation_order(alloc, netlist)?;
+        let program = program_of(alloc, netlist)?;
         let state = first_state(alloc, netlist, input)?;
         Ok(Sim {
             netlist,
             input,
             delays,
-            order,
+            program,
             state,
             cycle: 0,
             ended: None,
@@ -121,7 +121,7 @@ impl Sim<'_> {
         }
         one_ending();
         quiet_run();
-        let found = turn(self.netlist, &self.order, self.delays, &mut self.state);
+        let found = turn(self.netlist, &self.program, self.delays, &mut self.state);
         let end = end_of(self.cycle, found);
         match end {
             None => self.cycle += 1,
@@ -154,7 +154,7 @@ impl Sim<'_> {
     {
         one_ending();
         quiet_run();
-        let found = look(self.netlist, &self.order, &mut self.state);
+        let found = look(self.netlist, &self.program, &mut self.state);
         let end = end_of(self.cycle, found);
         self.ended = end;
         end

@@ -4,7 +4,7 @@ ghost use Rattle.sp_netlist.specs.Rules.{is_dram, IsNetlist};
 ghost use Rattle.sp_netlist.specs.Signals.{Setting, Signals};
 ghost use Rattle.sp_netlist.specs.Quiet.{IsQuiet};
 ghost use Rattle.sp_sim.specs.Rows.{word_of};
-ghost use Rattle.sp_netlist.specs.Order.{IsOrder};
+ghost use Rattle.sp_sim.specs.Programs.{IsProgram};
 ghost use Rattle.sp_sim.specs.States.{IsState, StandsIn, LookedIn, TurnedIn, finding};
 
 use crate::conflict::conflict;
@@ -12,6 +12,7 @@ use crate::hold::hold;
 use crate::memory::Memory;
 use crate::over::is_over;
 use crate::phase::Phase;
+use crate::program::Program;
 use crate::row::Row;
 use crate::serve::serve;
 use crate::settle::settle;
@@ -53,9 +54,9 @@ fn found_by(clash: Option<(u64, Port)>, over: bool) -> Found
 }
 
 /// Gives each net its word in this cycle, and tells whether the run ends there.
-pub(crate) fn look(netlist: &Netlist, order: &[usize], state: &mut State) -> Found
+pub(crate) fn look(netlist: &Netlist, program: &Program, state: &mut State) -> Found
     requires netlist { IsNetlist netlist.now }
-    requires order { IsOrder netlist.now order.now }
+    requires program { IsProgram netlist.now program.now }
     requires state { IsState netlist.now state.old }
     ensures state { IsState netlist.now state.new }
     ensures looked { (args : List ℕ) (drams : List (List ℕ)) (delays : List ℕ) (s : Signals) (t : ℕ)
@@ -63,16 +64,22 @@ pub(crate) fn look(netlist: &Netlist, order: &[usize], state: &mut State) -> Fou
         → StandsIn (record { cells = netlist.now; args = args; drams = drams; delays = delays }) s t state.old
         → LookedIn (record { cells = netlist.now; args = args; drams = drams; delays = delays }) s t state.new result }
 {
-    settle(netlist, order, &mut state.row);
-    let cells = netlist.cells();
-    let clash = conflict(cells, &state.row, &mut state.reads, &mut state.writes);
-    let over = is_over(cells, &state.row);
+    settle(netlist, &program.computed, &mut state.row);
+    let clash = conflict(
+        &program.reads,
+        &program.writes,
+        &state.row,
+        &mut state.reads,
+        &mut state.writes,
+    );
+    let over = is_over(&program.dones, &state.row);
     found_by(clash, over)
 }
 
 /// Everything acts at once: the state goes to the next cycle.
-pub(crate) fn advance(netlist: &Netlist, delays: &[u32], state: &mut State)
+pub(crate) fn advance(netlist: &Netlist, program: &Program, delays: &[u32], state: &mut State)
     requires netlist { IsNetlist netlist.now }
+    requires program { IsProgram netlist.now program.now }
     requires state { IsState netlist.now state.old }
     ensures state { IsState netlist.now state.new }
     ensures stands { (args : List ℕ) (drams : List (List ℕ)) (s : Signals) (t : ℕ)
@@ -82,25 +89,31 @@ pub(crate) fn advance(netlist: &Netlist, delays: &[u32], state: &mut State)
         → word_of state.old.row ≡ s.net t
         → StandsIn (record { cells = netlist.now; args = args; drams = drams; delays = delays.now }) s (suc t) state.new }
 {
-    let cells = netlist.cells();
-    state.taken = serve(cells, &state.row, &mut state.phases, delays, state.taken);
+    let _cells = netlist.cells();
+    state.taken = serve(
+        &program.units,
+        &state.row,
+        &mut state.phases,
+        delays,
+        state.taken,
+    );
     hold(
-        cells,
+        &program.kept,
         &state.row,
         &state.banks,
         &state.drams,
         &state.phases,
         &mut state.next,
     );
-    write_banks(cells, &state.row, &mut state.banks);
-    write_drams(cells, &state.row, &mut state.drams);
+    write_banks(&program.writes, &state.row, &mut state.banks);
+    write_drams(&program.units, &state.row, &mut state.drams);
     std::mem::swap(&mut state.row, &mut state.next);
 }
 
 /// One cycle: the state goes to the next one, unless the run ends here.
-pub(crate) fn turn(netlist: &Netlist, order: &[usize], delays: &[u32], state: &mut State) -> Found
+pub(crate) fn turn(netlist: &Netlist, program: &Program, delays: &[u32], state: &mut State) -> Found
     requires netlist { IsNetlist netlist.now }
-    requires order { IsOrder netlist.now order.now }
+    requires program { IsProgram netlist.now program.now }
     requires state { IsState netlist.now state.old }
     ensures state { IsState netlist.now state.new }
     ensures turned { (args : List ℕ) (drams : List (List ℕ)) (s : Signals) (t : ℕ)
@@ -109,9 +122,9 @@ pub(crate) fn turn(netlist: &Netlist, order: &[usize], delays: &[u32], state: &m
         → StandsIn (record { cells = netlist.now; args = args; drams = drams; delays = delays.now }) s t state.old
         → TurnedIn (record { cells = netlist.now; args = args; drams = drams; delays = delays.now }) s t state.new result }
 {
-    let found = look(netlist, order, state);
+    let found = look(netlist, program, state);
     if let Found::Nothing = found {
-        advance(netlist, delays, state);
+        advance(netlist, program, delays, state);
     }
     found
 }

@@ -26,7 +26,7 @@ first_of args row cells = fold (first_one args) (record { row = row; seen = 0 })
 pub first_drams-requires : goal.first_drams-requires
 first_drams-requires c = λ k d l.
     let cells = plain_cells c.cells-cells.result.now in
-    subst (λ vs. HasContents (lists vs) (get_or cells k d)) (sym c.deref-2.ensures.value)
+    subst (λ vs. HasContents (lists vs) (get_or cells k d)) (sym c.deref-3.ensures.value)
     (has_contents c.args.netlist.now c.cells-cells.ensures.netlist c.args.input.now.args.items (lists c.args.input.now.drams.items) c.requires (get_or cells k d)
     (subst (λ xs. Contains xs (get_or cells k d)) c.cells-cells.ensures.cells (Contains-get_or cells k d l)))
 
@@ -38,15 +38,16 @@ returns c =
     let row = c.in_ok-row.ensures in
     let next = c.in_ok-next.ensures in
     let words = c.first_words-seen.ensures ∙ ap (λ xs. first_of xs c.in_ok-row.row plain) c.deref.ensures.value ∙ ap (first_of args c.in_ok-row.row) cells ∙ ap (λ r. first_of args r c.args.netlist.now) row.1 in
+    let next_words = c.first_words-seen-2.ensures ∙ ap (λ xs. first_of xs c.in_ok-next.next plain) c.deref-2.ensures.value ∙ ap (first_of args c.in_ok-next.next) cells ∙ ap (λ r. first_of args r c.args.netlist.now) next.1 in
     record {
       row_nets = row.0;
       row_same = subst (λ xs. AreNets xs row.0) cells row.2;
       row = ap (λ f. f.row) words;
       next_nets = next.0;
       next_same = subst (λ xs. AreNets xs next.0) cells next.2;
-      next = next.1;
+      next = ap (λ f. f.row) next_words;
       banks = c.in_ok-banks.ensures ∙ ap (flat_map fresh_bank) cells;
-      drams = c.in_ok-drams.ensures ∙ ap (λ vs. flat_map (fresh_dram (lists vs)) plain) c.deref-2.ensures.value ∙ ap (flat_map (fresh_dram (lists c.args.input.now.drams.items))) cells;
+      drams = c.in_ok-drams.ensures ∙ ap (λ vs. flat_map (fresh_dram (lists vs)) plain) c.deref-3.ensures.value ∙ ap (flat_map (fresh_dram (lists c.args.input.now.drams.items))) cells;
       phases = c.in_ok-phases.ensures ∙ ap (λ xs. replicate (count_by is_unit xs) idle) cells;
       taken = refl;
       reads = c.in_ok-reads.ensures ∙ c.len.ensures ∙ c.in_ok-banks.banks.ok.0;

@@ -9,4 +9,4 @@ returns-clause-tells c =
     let m = c.self.inside in
     let g : Setting = setting_of m.netlist.now m.input.now m.delays.now in
     subst (λ p. IfSome m.ended (λ end. Tells p.setting p.cycle end × IsEndIn p.cycle end)) c.self.view_is
-    (if_ended c.one_ending.ensures c.quiet_run.ensures g m.order.items m.cycle m.state m.ended c.self.invariant)
+    (if_ended c.one_ending.ensures c.quiet_run.ensures g m.program m.cycle m.state m.ended c.self.invariant)

@@ -10,9 +10,9 @@ invariant_of-self c =
     let m = c.self.inside in
     let g : Setting = setting_of m.netlist.now m.input.now m.delays.now in
     let none = ap (λ (p : Progress). p.ended) c.self.view_is ∙ c.requires in
-    let sim = subst (IsSim g m.order.items m.cycle m.state) none c.self.invariant in
-    subst (IsSim g m.order.items m.cycle c.look-found.new.state) (sym c.end_of-end.ensures)
-    (ended_sim g m.order.items m.cycle m.state c.look-found.new.state sim c.look-found.ensures.state c.look-found.result
+    let sim = subst (IsSim g m.program m.cycle m.state) none c.self.invariant in
+    subst (IsSim g m.program m.cycle c.look-found.new.state) (sym c.end_of-end.ensures)
+    (ended_sim g m.program m.cycle m.state c.look-found.new.state sim c.look-found.ensures.state c.look-found.result
     (λ s q. c.look-found.ensures.looked g.args g.drams g.delays s m.cycle q (sim.stands s q)))
 
 pub returns : goal.returns
@@ -20,8 +20,8 @@ returns c =
     let m = c.self.inside in
     let g : Setting = setting_of m.netlist.now m.input.now m.delays.now in
     let none = ap (λ (p : Progress). p.ended) c.self.view_is ∙ c.requires in
-    let sim = subst (IsSim g m.order.items m.cycle m.state) none c.self.invariant in
-    let told = peeks c.one_ending.ensures c.quiet_run.ensures g m.order.items m.cycle m.state c.look-found.new.state sim c.look-found.result
+    let sim = subst (IsSim g m.program m.cycle m.state) none c.self.invariant in
+    let told = peeks c.one_ending.ensures c.quiet_run.ensures g m.program m.cycle m.state c.look-found.new.state sim c.look-found.result
     (λ s q. c.look-found.ensures.looked g.args g.drams g.delays s m.cycle q (sim.stands s q)) in
     let same = ap (progress g m.cycle) (sym none) ∙ c.self.view_is in
     subst (λ old. PeeksAt old c.end_of-end.result (progress g m.cycle c.end_of-end.result)) same

@@ -1,0 +1,141 @@
+//! The cells of a netlist by what they do in a cycle.
+ghost use Rattle.std.specs.Prelude.{◌≡◌, ◌<◌, ◌++◌, ◌∷◌, [], map, filter, length, All, IfOk, OnOk};
+ghost use Rattle.sp_netlist.specs.Cells.{plain_cell, plain_cells};
+ghost use Rattle.sp_sim.specs.Settling.{cell_at};
+ghost use Rattle.sp_sim.specs.Programs.{in_part, IsProgram};
+
+use crate::NoMemory;
+use sp_netlist::{Cell, Netlist, evaluation_order};
+use std::alloc::Global;
+
+/// What some cells do in a cycle.
+#[derive(Clone, Copy)]
+pub(crate) enum Part {
+    /// Read taps.
+    Reads,
+    /// Write taps.
+    Writes,
+    /// They keep a word that may change: registers, read taps, loads and stores.
+    Kept,
+    /// Loads and stores.
+    Units,
+    /// The done.
+    Dones,
+}
+
+/// Copies of a netlist's cells, part by part, so that a cycle goes once through each part and looks at no cell that
+/// has nothing to do. Those that compute stand in an order in which operands come first.
+#[derive(Drop)]
+pub(crate) struct Program {
+    pub(crate) computed: Vec<Cell>,
+    pub(crate) reads: Vec<Cell>,
+    pub(crate) writes: Vec<Cell>,
+    pub(crate) kept: Vec<Cell>,
+    pub(crate) units: Vec<Cell>,
+    pub(crate) dones: Vec<Cell>,
+}
+
+fn is_in_part(part: Part, cell: &Cell) -> bool
+    ensures { result ≡ in_part part (plain_cell cell.now) }
+{
+    match part {
+        Part::Reads => matches!(cell, Cell::ReadTap(_, _, _, _)),
+        Part::Writes => matches!(cell, Cell::WriteTap(_, _, _, _)),
+        Part::Kept => is_kept(cell),
+        Part::Units => is_unit(cell),
+        Part::Dones => matches!(cell, Cell::Done(_)),
+    }
+}
+
+fn is_unit(cell: &Cell) -> bool
+    ensures { result ≡ in_part Part.Units (plain_cell cell.now) }
+{
+    matches!(
+        cell,
+        Cell::LoadUnit(_, _, _, _, _, _, _) | Cell::StoreUnit(_, _, _, _, _, _, _)
+    )
+}
+
+fn is_kept(cell: &Cell) -> bool
+    ensures { result ≡ in_part Part.Kept (plain_cell cell.now) }
+{
+    matches!(
+        cell,
+        Cell::Hold(_, _, _, _, _)
+            | Cell::ReadTap(_, _, _, _)
+            | Cell::LoadUnit(_, _, _, _, _, _, _)
+            | Cell::StoreUnit(_, _, _, _, _, _, _)
+    )
+}
+
+/// A copy of a cell.
+fn copy_of(cell: &Cell) -> Result<Cell, NoMemory>
+    ensures { IfOk result (λ copy. plain_cell copy ≡ plain_cell cell.now) }
+{
+    cell.clone()
+}
+
+/// Adds a copy of the cell, if it is of the part.
+fn push_cell(found: &mut Vec<Cell>, part: Part, cell: &Cell) -> Result<(), NoMemory>
+    ensures { OnOk result (plain_cells found.new.items ≡ plain_cells found.old.items ++ filter (in_part part) (plain_cell cell.now ∷ [])) }
+{
+    if is_in_part(part, cell) {
+        found.push(copy_of(cell)?)?;
+    }
+    Ok(())
+}
+
+/// The cells of a part.
+fn cells_in(alloc: Global, cells: &[Cell], part: Part) -> Result<Vec<Cell>, NoMemory>
+    ensures { IfOk result (λ found. plain_cells found.items ≡ filter (in_part part) (plain_cells cells.now)) }
+{
+    let mut found = Vec::new(alloc);
+    for cell in cells {
+        push_cell(&mut found, part, cell)?;
+    }
+    Ok(found)
+}
+
+/// A copy of the cell at a place.
+fn copy_at(cells: &[Cell], at: usize) -> Result<Cell, NoMemory>
+    requires { at < length cells.now }
+    ensures { IfOk result (λ copy. plain_cell copy ≡ cell_at (plain_cells cells.now) at) }
+{
+    let cell = &cells[at];
+    copy_of(cell)
+}
+
+/// The cells at these places.
+fn cells_at(alloc: Global, cells: &[Cell], places: &[usize]) -> Result<Vec<Cell>, NoMemory>
+    requires { All (λ at. at < length cells.now) places.now }
+    ensures { IfOk result (λ found. plain_cells found.items ≡ map (cell_at (plain_cells cells.now)) places.now) }
+{
+    let mut found = Vec::with_capacity(alloc, places.len())?;
+    for at in places {
+        let copy = copy_at(cells, *at)?;
+        found.push(copy)?;
+    }
+    Ok(found)
+}
+
+/// The netlist's cells, part by part.
+pub(crate) fn program_of(alloc: Global, netlist: &Netlist) -> Result<Program, NoMemory>
+    ensures { IfOk result (IsProgram netlist.now) }
+{
+    let order = evaluation_order(alloc, netlist)?;
+    let cells = netlist.cells();
+    let computed = cells_at(alloc, cells, &order)?;
+    let reads = cells_in(alloc, cells, Part::Reads)?;
+    let writes = cells_in(alloc, cells, Part::Writes)?;
+    let kept = cells_in(alloc, cells, Part::Kept)?;
+    let units = cells_in(alloc, cells, Part::Units)?;
+    let dones = cells_in(alloc, cells, Part::Dones)?;
+    Ok(Program {
+        computed,
+        reads,
+        writes,
+        kept,
+        units,
+        dones,
+    })
+}
