@@ -1,0 +1,48 @@
+//! Worked cores. Each function does nothing: what it ensures are the ends of cores, which were worked out by other means.
+
+ghost use Rattle.std.specs.Prelude.{◌≡◌, [], ◌∷◌, replicate, Some};
+ghost use Rattle.sp_core.specs.Elements.{numbers_below};
+ghost use Rattle.sp_core.specs.ExampleForms.{input, results};
+ghost use Rattle.sp_core.specs.ExampleLanes.{squares_in_lanes, dot_product_in_lanes, stores_in_lanes};
+ghost use Rattle.sp_core.specs.ExampleLoops.{sum_core, counting_down, register_between, fresh_registers, queued, memory_reduced, streamed};
+ghost use Rattle.sp_core.specs.ExampleTransfers.{dot_product, wide_dot_product, squares, histogram, line_filter, copied, overlapping_stores, gathered};
+ghost use Rattle.sp_core.specs.Meaning.{meaning, failed, unfinished};
+ghost use Rattle.sp_core.specs.Scope.{plainly, in_lanes};
+
+/// Cores of loops, registers and queues, as `desugar` gives them: the words of the outputs and of the DRAMs.
+pub fn worked_loops()
+    ensures sum { results (meaning plainly 0 sum_core (input (4 ∷ []) [])) ≡ Some ((7 ∷ []), []) }
+    ensures no_turn_of_an_fsm { results (meaning plainly 0 counting_down (input (0 ∷ []) [])) ≡ Some ((0 ∷ []), []) }
+    ensures five_turns_of_an_fsm { results (meaning plainly 5 counting_down (input (5 ∷ []) [])) ≡ Some ((15 ∷ []), []) }
+    ensures too_few_turns { meaning plainly 4 counting_down (input (5 ∷ []) []) ≡ unfinished }
+    ensures register_between { results (meaning plainly 0 register_between (input [] (replicate 4 0 ∷ []))) ≡ Some ([], ((10 ∷ 11 ∷ 12 ∷ 13 ∷ []) ∷ [])) }
+    ensures fresh_registers { results (meaning plainly 0 fresh_registers (input [] [])) ≡ Some ((19 ∷ []), []) }
+    ensures four_of_four { results (meaning plainly 0 (queued 4) (input [] (replicate 4 0 ∷ []))) ≡ Some ([], ((0 ∷ 1 ∷ 4 ∷ 9 ∷ []) ∷ [])) }
+    ensures five_of_four { meaning plainly 0 (queued 5) (input [] (replicate 4 0 ∷ [])) ≡ failed }
+    ensures memory_reduced { results (meaning plainly 0 memory_reduced (input [] ((0 ∷ 0 ∷ []) ∷ []))) ≡ Some ([], ((30 ∷ 33 ∷ []) ∷ [])) }
+    ensures streamed { results (meaning plainly 0 (streamed 2 8) (input [] [])) ≡ Some ((56 ∷ []), []) }
+    ensures two_left { results (meaning plainly 0 (streamed 2 6) (input [] [])) ≡ Some ((30 ∷ []), []) }
+    ensures three_left { meaning plainly 0 (streamed 2 5) (input [] []) ≡ failed }
+{}
+
+/// Cores of DRAMs, slices and line buffers.
+pub fn worked_transfers()
+    ensures dot_product { results (meaning plainly 0 dot_product (input [] (numbers_below 64 ∷ replicate 64 1 ∷ []))) ≡ Some ((2016 ∷ []), (numbers_below 64 ∷ replicate 64 1 ∷ [])) }
+    ensures wide_dot_product { results (meaning plainly 0 wide_dot_product (input [] (numbers_below 64 ∷ replicate 64 1 ∷ []))) ≡ Some ((2016 ∷ []), (numbers_below 64 ∷ replicate 64 1 ∷ [])) }
+    ensures squares { results (meaning plainly 0 squares (input [] (replicate 10 0 ∷ []))) ≡ Some ([], ((0 ∷ 1 ∷ 4 ∷ 9 ∷ 16 ∷ 25 ∷ 36 ∷ 49 ∷ 64 ∷ 81 ∷ []) ∷ [])) }
+    ensures histogram { results (meaning plainly 0 histogram (input [] ((0 ∷ 1 ∷ 1 ∷ 3 ∷ 1 ∷ 0 ∷ 2 ∷ 1 ∷ []) ∷ replicate 4 0 ∷ []))) ≡ Some ([], ((0 ∷ 1 ∷ 1 ∷ 3 ∷ 1 ∷ 0 ∷ 2 ∷ 1 ∷ []) ∷ (2 ∷ 4 ∷ 1 ∷ 1 ∷ []) ∷ [])) }
+    ensures line_filter { results (meaning plainly 0 (line_filter 5) (input [] (numbers_below 20 ∷ replicate 6 0 ∷ []))) ≡ Some ([], (numbers_below 20 ∷ (54 ∷ 63 ∷ 72 ∷ 99 ∷ 108 ∷ 117 ∷ []) ∷ [])) }
+    ensures narrow_line_filter { meaning plainly 0 (line_filter 4) (input [] (numbers_below 20 ∷ replicate 6 0 ∷ [])) ≡ failed }
+    ensures copied { results (meaning plainly 0 (copied 8 4) (input [] ((1 ∷ 2 ∷ 3 ∷ 4 ∷ 5 ∷ 6 ∷ 7 ∷ 8 ∷ []) ∷ replicate 8 0 ∷ []))) ≡ Some ([], ((1 ∷ 2 ∷ 3 ∷ 4 ∷ 5 ∷ 6 ∷ 7 ∷ 8 ∷ []) ∷ (1 ∷ 2 ∷ 3 ∷ 4 ∷ 5 ∷ 6 ∷ 7 ∷ 8 ∷ []) ∷ [])) }
+    ensures overlapping_stores { results (meaning plainly 0 overlapping_stores (input [] (replicate 5 0 ∷ []))) ≡ Some ([], ((0 ∷ 1 ∷ 2 ∷ 3 ∷ 3 ∷ []) ∷ [])) }
+    ensures gathered { results (meaning plainly 0 gathered (input [] ((10 ∷ 20 ∷ 30 ∷ 40 ∷ 50 ∷ 60 ∷ 70 ∷ 80 ∷ []) ∷ (3 ∷ 0 ∷ 7 ∷ 7 ∷ []) ∷ replicate 8 0 ∷ []))) ≡ Some ([], ((10 ∷ 20 ∷ 30 ∷ 40 ∷ 50 ∷ 60 ∷ 70 ∷ 80 ∷ []) ∷ (3 ∷ 0 ∷ 7 ∷ 7 ∷ []) ∷ (10 ∷ 0 ∷ 0 ∷ 40 ∷ 0 ∷ 0 ∷ 0 ∷ 80 ∷ []) ∷ [])) }
+    ensures gathered_outside { meaning plainly 0 gathered (input [] ((10 ∷ 20 ∷ 30 ∷ 40 ∷ 50 ∷ 60 ∷ 70 ∷ 80 ∷ []) ∷ (3 ∷ 0 ∷ 8 ∷ 7 ∷ []) ∷ replicate 8 0 ∷ [])) ≡ failed }
+{}
+
+/// The same in lanes, as `unroll` gives them. The last group of the squares has two lanes, that of three stores one.
+pub fn worked_lanes()
+    ensures squares { results (meaning in_lanes 0 squares_in_lanes (input [] (replicate 10 0 ∷ []))) ≡ Some ([], ((0 ∷ 1 ∷ 4 ∷ 9 ∷ 16 ∷ 25 ∷ 36 ∷ 49 ∷ 64 ∷ 81 ∷ []) ∷ [])) }
+    ensures dot_product { results (meaning in_lanes 0 dot_product_in_lanes (input [] (numbers_below 64 ∷ replicate 64 1 ∷ []))) ≡ Some ((2016 ∷ []), (numbers_below 64 ∷ replicate 64 1 ∷ [])) }
+    ensures stores { results (meaning in_lanes 0 (stores_in_lanes 4) (input [] (replicate 5 9 ∷ []))) ≡ Some ([], ((0 ∷ 1 ∷ 2 ∷ 3 ∷ 3 ∷ []) ∷ [])) }
+    ensures three_stores { results (meaning in_lanes 0 (stores_in_lanes 3) (input [] (replicate 5 9 ∷ []))) ≡ Some ([], ((0 ∷ 1 ∷ 2 ∷ 2 ∷ 9 ∷ []) ∷ [])) }
+{}
