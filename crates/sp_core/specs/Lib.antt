@@ -1,12 +1,20 @@
 pub mod Accesses
+pub mod Around
+pub mod CoreParts
 pub mod Declarations
 pub mod Elements
+pub mod ExampleBroken
 pub mod ExampleForms
 pub mod ExampleLanes
 pub mod ExampleLoops
 pub mod ExampleTransfers
 pub mod History
+pub mod Invariant
 pub mod Meaning
+pub mod MemoryRules
+pub mod NodeRules
+pub mod Numbering
+pub mod OperationRules
 pub mod Operations
 pub mod Operators
 pub mod Plain
@@ -16,3 +24,4 @@ pub mod Sequential
 pub mod Step
 pub mod Store
 pub mod Transfers
+pub mod Typed

@@ -1,11 +1,13 @@
 //! Worked cores. Each function does nothing: what it ensures are the ends of cores, which were worked out by other means.
 
-ghost use Rattle.std.specs.Prelude.{◌≡◌, [], ◌∷◌, replicate, Some};
+ghost use Rattle.std.specs.Prelude.{◌≡◌, [], ◌∷◌, replicate, Some, None};
 ghost use Rattle.sp_core.specs.Elements.{numbers_below};
+ghost use Rattle.sp_core.specs.ExampleBroken.{later_argument, use_outside, owned_twice, counter_of_another_loop, lanes_out_of_order, memory_without_owner};
 ghost use Rattle.sp_core.specs.ExampleForms.{input, results};
 ghost use Rattle.sp_core.specs.ExampleLanes.{squares_in_lanes, dot_product_in_lanes, stores_in_lanes};
 ghost use Rattle.sp_core.specs.ExampleLoops.{sum_core, counting_down, register_between, fresh_registers, queued, memory_reduced, streamed};
 ghost use Rattle.sp_core.specs.ExampleTransfers.{dot_product, wide_dot_product, squares, histogram, line_filter, copied, overlapping_stores, gathered};
+ghost use Rattle.sp_core.specs.Invariant.{wrong_place};
 ghost use Rattle.sp_core.specs.Meaning.{meaning, failed, unfinished};
 ghost use Rattle.sp_core.specs.Scope.{plainly, in_lanes};
 
@@ -45,4 +47,28 @@ pub fn worked_lanes()
     ensures dot_product { results (meaning in_lanes 0 dot_product_in_lanes (input [] (numbers_below 64 ∷ replicate 64 1 ∷ []))) ≡ Some ((2016 ∷ []), (numbers_below 64 ∷ replicate 64 1 ∷ [])) }
     ensures stores { results (meaning in_lanes 0 (stores_in_lanes 4) (input [] (replicate 5 9 ∷ []))) ≡ Some ([], ((0 ∷ 1 ∷ 2 ∷ 3 ∷ 3 ∷ []) ∷ [])) }
     ensures three_stores { results (meaning in_lanes 0 (stores_in_lanes 3) (input [] (replicate 5 9 ∷ []))) ≡ Some ([], ((0 ∷ 1 ∷ 2 ∷ 2 ∷ 9 ∷ []) ∷ [])) }
+{}
+
+/// Worked cores keep the rules of cores: no node shows that one is broken. Where one is broken, the first node shows it.
+pub fn worked_cores_are_right()
+    ensures sum { wrong_place sum_core ≡ None }
+    ensures counting_down { wrong_place counting_down ≡ None }
+    ensures register_between { wrong_place register_between ≡ None }
+    ensures fresh_registers { wrong_place fresh_registers ≡ None }
+    ensures queued { wrong_place (queued 4) ≡ None }
+    ensures memory_reduced { wrong_place memory_reduced ≡ None }
+    ensures streamed { wrong_place (streamed 2 8) ≡ None }
+    ensures dot_product { wrong_place dot_product ≡ None }
+    ensures wide_dot_product { wrong_place wide_dot_product ≡ None }
+    ensures line_filter { wrong_place (line_filter 5) ≡ None }
+    ensures gathered { wrong_place gathered ≡ None }
+    ensures squares_in_lanes { wrong_place squares_in_lanes ≡ None }
+    ensures dot_product_in_lanes { wrong_place dot_product_in_lanes ≡ None }
+    ensures stores_in_lanes { wrong_place (stores_in_lanes 4) ≡ None }
+    ensures later_argument { wrong_place later_argument ≡ Some 0 }
+    ensures use_outside { wrong_place use_outside ≡ Some 2 }
+    ensures owned_twice { wrong_place owned_twice ≡ Some 3 }
+    ensures counter_of_another_loop { wrong_place counter_of_another_loop ≡ Some 2 }
+    ensures lanes_out_of_order { wrong_place lanes_out_of_order ≡ Some 1 }
+    ensures memory_without_owner { wrong_place memory_without_owner ≡ Some 0 }
 {}

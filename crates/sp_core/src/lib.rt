@@ -2,13 +2,17 @@
 #![tactic(auto)]
 
 mod access;
+mod core_tree;
 mod examples;
+mod laws;
 mod memory;
 mod node;
 mod operation;
 
 pub use access::{AccessForms, Meet, Meets};
-pub use examples::{worked_lanes, worked_loops, worked_transfers};
+pub use core_tree::Core;
+pub use examples::{worked_cores_are_right, worked_lanes, worked_loops, worked_transfers};
+pub use laws::wrong_cores_are_shown;
 pub use memory::CoreMem;
 pub use node::{CoreCounter, CoreSpan, Node, SparseKind, Stage};
 pub use operation::{Op, OpKind};
