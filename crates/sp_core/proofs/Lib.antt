@@ -1,1 +1,4 @@
+pub mod Closure
+pub mod Footprints
 pub mod ShownLemmas
+pub mod Turns

@@ -46,8 +46,8 @@ mutual
     branch_ran : (test : List Entry) → (taken : Bool) → History → History
     -- the words of a slice, the last range fastest
     moved : List Taken → (words : List ℕ) → History
-    -- the words that a gather or scatter moved, and where each stood in the DRAM
-    picked : (count : List Entry) → (places words : List ℕ) → History
+    -- the words that a gather or scatter moved, each with the word that is its place in the DRAM
+    picked : (count : List Entry) → List (ℕ × ℕ) → History
 
   pub data Groups : Type 0 where
     no_group : Groups

@@ -3,13 +3,16 @@ pub mod Around
 pub mod CoreParts
 pub mod Declarations
 pub mod Elements
+pub mod Events
 pub mod ExampleBroken
 pub mod ExampleForms
 pub mod ExampleLanes
 pub mod ExampleLoops
 pub mod ExampleTransfers
+pub mod Footprint
 pub mod History
 pub mod Invariant
+pub mod Laws
 pub mod Meaning
 pub mod MemoryRules
 pub mod NodeRules
@@ -19,6 +22,7 @@ pub mod Operations
 pub mod Operators
 pub mod Plain
 pub mod PlainCore
+pub mod Replay
 pub mod Scope
 pub mod Sequential
 pub mod Step

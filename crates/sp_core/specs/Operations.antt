@@ -1,12 +1,11 @@
 -- What a list of operations means: one after the other, each by the words of earlier ones.
 use Rattle.std.specs.Prelude.{ℕ, ◌-◌, ◌==◌, Bool, true, false, List, [], ◌∷◌, ◌++◌, length, map, take, slice_index, Option, Some, None}
 use Rattle.sp_words.specs.declared.types.Ty.{Ty}
-use Rattle.sp_words.specs.Memory.{fresh_of}
 use Rattle.sp_words.specs.Words.{word_cast}
 use Rattle.sp_core.specs.declared.operation.OpKind.{OpKind}
 use Rattle.sp_core.specs.declared.operation.OpKind.TheVariants.{Word, Count, Live, Read, Write, Enq, Deq, Reset, One, Two, Shift, Mux, Cast}
-use Rattle.sp_core.specs.Accesses.{hold_now, dequeue, enqueue, read_at, write_at}
-use Rattle.sp_core.specs.Declarations.{mem, room}
+use Rattle.sp_core.specs.Accesses.{hold_now, read_at, write_at, enqueue, dequeue}
+use Rattle.sp_core.specs.Declarations.{fresh}
 use Rattle.sp_core.specs.History.{Entry, left_out, gave, touched, word_at}
 use Rattle.sp_core.specs.Operators.{bit, one_word, two_word, shifted, chosen}
 use Rattle.sp_core.specs.PlainCore.{PlainOp, PlainCore}
@@ -19,18 +18,18 @@ is_masked None done = false
 is_masked (Some m) done = word_at done m == 0
 
 module _ (core : PlainCore) (scope : Scope) where
-  -- an access to a memory, by the words of its operands
+  -- an access to a memory, by the words of its operands: the indices, and then the word that is written or put
   abbrev pub access : OpKind → ℕ → List ℕ → Step Entry
-  access Read m args = read_at (mem core m).kind m (mem core m).dims args
-  access Write m args = write_at (mem core m).kind m (mem core m).dims (take (length args - 1) args) (slice_index args (length args - 1))
+  access Read m args = read_at core m args
+  access Write m args = write_at core m (take (length args - 1) args) (slice_index args (length args - 1))
   access Enq m args = do
-    enqueue m (room core m) (slice_index args 0)
+    enqueue core m (slice_index args 0)
     pure (touched [] (slice_index args 0))
   access Deq m args = do
-    w ← dequeue m
+    w ← dequeue core m
     pure (touched [] w)
   access Reset m args = do
-    hold_now m (fresh_of (mem core m).kind (mem core m).dims (mem core m).start [])
+    hold_now m (fresh core m)
     pure (touched [] 0)
   access _ m args = stop
 

@@ -1,14 +1,14 @@
 -- What a core means: one node at a time, in the order of the tree, by cases on what it is. Lanes are groups of
 -- iterations that stand one after the other, so nothing is said of what is done at once.
-use Rattle.std.specs.Prelude.{ℕ, ◌==◌, nat_le, Bool, true, false, List, [], ◌∷◌, map, length, Option, Some}
+use Rattle.std.specs.Prelude.{ℕ, ◌==◌, nat_le, Bool, true, false, List, [], ◌∷◌, length, Option, Some}
 use Rattle.sp_words.specs.declared.kind.Kind.{Kind}
 use Rattle.sp_words.specs.declared.kind.Kind.TheVariants.{Reg, Fifo}
 use Rattle.sp_words.specs.declared.kind.Style.{Style}
 use Rattle.sp_words.specs.declared.kind.Style.TheVariants.{Stream}
-use Rattle.sp_words.specs.Memory.{cells, fresh_of}
+use Rattle.sp_words.specs.Memory.{cells}
 use Rattle.sp_core.specs.declared.node.SparseKind.TheVariants.{Gather, Scatter, WideStore}
 use Rattle.sp_core.specs.Accesses.{hold_now}
-use Rattle.sp_core.specs.Declarations.{mem, depth}
+use Rattle.sp_core.specs.Declarations.{mem, depth, fresh}
 use Rattle.sp_core.specs.Elements.{index_value, natural, numbers_below}
 use Rattle.sp_core.specs.History.{Entry, Bounds, Taken, one, both, last_word, History, Runs, inner_ran, outer_ran, fsm_ran, branch_ran, picked, no_run, masked_run, more_run, groups_of, turns_of}
 use Rattle.sp_core.specs.Operations.{operations}
@@ -27,7 +27,7 @@ has_reset _ _ = false
 module _ (core : PlainCore) (reading : Reading) (most : ℕ) where
   -- an owner makes its memory fresh
   abbrev pub renew : ℕ → Step (Unit {0})
-  renew m = hold_now m (fresh_of (mem core m).kind (mem core m).dims (mem core m).start [])
+  renew m = hold_now m (fresh core m)
 
   -- an inner body leaves those to their reset operations that have one
   abbrev pub renew_in_body : ℕ → Step (Unit {0})
@@ -102,11 +102,11 @@ module _ (core : PlainCore) (reading : Reading) (most : ℕ) where
     run (sparse Gather r m (Some p) spans count par) scope = do
       es ← operations core scope count
       ws ← in_order (gather_word core r m p) (numbers_below (natural (index_value (last_word es))))
-      pure (picked es (map (λ w. w.0) ws) (map (λ w. w.1) ws))
+      pure (picked es ws)
     run (sparse Scatter r m (Some p) spans count par) scope = do
       es ← operations core scope count
       ws ← in_order (scatter_word core r m p) (numbers_below (natural (index_value (last_word es))))
-      pure (picked es (map (λ w. w.0) ws) (map (λ w. w.1) ws))
+      pure (picked es ws)
     run (sparse WideStore r m index spans count par) scope = do
       ts ← in_order (taken scope) spans
       store_slice core r m ts

@@ -2,9 +2,9 @@
 use Rattle.std.specs.Prelude.{ℕ, ◌+◌, ◌-◌, ◌==◌, nat_le, Bool, true, false, ◌&&◌, ◌||◌, ℤ, pos, int_le, List, [], ◌∷◌, drop, map, slice_index}
 use Rattle.sp_words.specs.declared.kind.Kind.{Kind}
 use Rattle.sp_words.specs.declared.kind.Kind.TheVariants.{LineBuf}
-use Rattle.sp_core.specs.Accesses.{read_cell, write_cell, write_line, turn_rows, read_word, write_word}
-use Rattle.sp_core.specs.Declarations.{mem, dram, dram_number}
-use Rattle.sp_core.specs.Elements.{index_value, natural, is_below, row_major, numbers_below, tuples, length_between}
+use Rattle.sp_core.specs.Accesses.{read_in, write_in, turn_rows}
+use Rattle.sp_core.specs.Declarations.{kind_of, dims, dram_number}
+use Rattle.sp_core.specs.Elements.{index_value, natural, is_below, are_inside, numbers_below, tuples, length_between}
 use Rattle.sp_core.specs.History.{History, Taken, one, both, last_word, moved}
 use Rattle.sp_core.specs.PlainCore.{PlainCore}
 use Rattle.sp_core.specs.Step.{Step, pure, ◌>>=◌, ◌>>◌, ensure, in_order}
@@ -60,37 +60,28 @@ range_limits LineBuf dims = drop 1 dims
 range_limits _ dims = dims
 
 module _ (core : PlainCore) where
-  abbrev pub mem_dims : ℕ → List ℕ
-  mem_dims m = (mem core m).dims
-
-  -- a word of the DRAM at these places, and of an SRAM or a line buffer, whose newest row it is, at these offsets
-  abbrev pub dram_word : ℕ → (places : List ℕ) → Step ℕ
-  dram_word r places = read_word (dram_number core r) (row_major (dram core r).dims places)
-
-  abbrev pub set_dram_word : ℕ → (places : List ℕ) → ℕ → Step (Unit {0})
-  set_dram_word r places w = write_word (dram_number core r) (row_major (dram core r).dims places) w
-
-  abbrev pub set_word : Kind → ℕ → (offsets : List ℕ) → ℕ → Step (Unit {0})
-  set_word LineBuf m offsets w = write_line m (slice_index (mem_dims m) 0 - 1) (slice_index offsets 0) w
-  set_word kind m offsets w = write_cell m (row_major (mem_dims m) offsets) w
+  -- where a word goes that is so far into each range: into an SRAM there, into a line buffer's newest row
+  abbrev pub loaded_at : Kind → ℕ → (offsets : List ℕ) → List ℕ
+  loaded_at LineBuf m offsets = (slice_index (dims core m) 0 - 1) ∷ slice_index offsets 0 ∷ []
+  loaded_at kind m offsets = offsets
 
   -- the rows of a line buffer turn before its first word
   abbrev pub make_room : Kind → ℕ → Step (Unit {0})
-  make_room LineBuf m = turn_rows m (slice_index (mem_dims m) 1)
+  make_room LineBuf m = turn_rows core m
   make_room kind m = pure tt
 
   abbrev pub load_words : (dram mem : ℕ) → List Part → Step (List ℕ)
   load_words r m parts = do
-    make_room (mem core m).kind m
+    make_room (kind_of core m) m
     in_order (λ offsets. do
-      w ← dram_word r (places_of parts offsets)
-      set_word (mem core m).kind m offsets w
+      w ← read_in core (dram_number core r) (places_of parts offsets)
+      write_in core m (loaded_at (kind_of core m) m offsets) w
       pure w) (all_offsets parts)
 
   abbrev pub store_words : (dram mem : ℕ) → List Part → Step (List ℕ)
   store_words r m parts = in_order (λ offsets. do
-    w ← read_cell m (row_major (mem_dims m) offsets)
-    set_dram_word r (places_of parts offsets) w
+    w ← read_in core m offsets
+    write_in core (dram_number core r) (places_of parts offsets) w
     pure w) (all_offsets parts)
 
   -- a transfer of a slice: nothing where a range is empty; else the slice is inside of the DRAM, and its ranges are no
@@ -99,8 +90,8 @@ module _ (core : PlainCore) where
   transfer r m taken move = elim (has_none (lengths (map part_of taken))) [
     | true ↦ pure (moved taken [])
     | false ↦ do
-      ensure (are_parts_inside (dram core r).dims (map part_of taken))
-      ensure (do_fit (range_limits (mem core m).kind (mem_dims m)) (lengths (map part_of taken)))
+      ensure (are_parts_inside (dims core (dram_number core r)) (map part_of taken))
+      ensure (do_fit (range_limits (kind_of core m) (dims core m)) (lengths (map part_of taken)))
       ws ← move
       pure (moved taken ws)
   ]
@@ -111,27 +102,31 @@ module _ (core : PlainCore) where
   abbrev pub store_slice : (dram mem : ℕ) → List Taken → Step History
   store_slice r m taken = transfer r m taken (store_words r m (map part_of taken))
 
-  -- the place in the DRAM that stands at k in an SRAM, which it is inside of
+  -- a memory has a place k
+  abbrev pub has_place : (mem k : ℕ) → Step (Unit {0})
+  has_place m k = ensure (are_inside (dims core m) (pos k ∷ []))
+
+  -- the place in the DRAM that stands at k in an SRAM
   abbrev pub place_at : (dram places k : ℕ) → Step ℕ
   place_at r p k = do
-    ensure (is_below (pos k) (slice_index (mem_dims p) 0))
-    i ← read_cell p k
-    ensure (is_below (index_value i) (slice_index (dram core r).dims 0))
-    pure (natural (index_value i))
+    has_place p k
+    i ← read_in core p (k ∷ [])
+    ensure (are_inside (dims core (dram_number core r)) (index_value i ∷ []))
+    pure i
 
-  -- word k of a gather, and of a scatter, with its place in the DRAM
+  -- word k of a gather, and of a scatter, with the word that is its place in the DRAM
   abbrev pub gather_word : (dram mem places k : ℕ) → Step (ℕ × ℕ)
   gather_word r m p k = do
-    at ← place_at r p k
-    w ← dram_word r (at ∷ [])
-    ensure (is_below (pos k) (slice_index (mem_dims m) 0))
-    write_cell m k w
-    pure (at, w)
+    i ← place_at r p k
+    w ← read_in core (dram_number core r) (natural (index_value i) ∷ [])
+    has_place m k
+    write_in core m (k ∷ []) w
+    pure (i, w)
 
   abbrev pub scatter_word : (dram mem places k : ℕ) → Step (ℕ × ℕ)
   scatter_word r m p k = do
-    at ← place_at r p k
-    ensure (is_below (pos k) (slice_index (mem_dims m) 0))
-    w ← read_cell m k
-    set_dram_word r (at ∷ []) w
-    pure (at, w)
+    i ← place_at r p k
+    has_place m k
+    w ← read_in core m (k ∷ [])
+    write_in core (dram_number core r) (natural (index_value i) ∷ []) w
+    pure (i, w)
