@@ -85,13 +85,13 @@ abbrev pub event_of : (number : ℕ) → Standing → Option ℕ → (indices : 
 event_of n st (Some m) is (Some act) = touches (record { number = n; standing = st; mem = m; indices = is; act = act }) ∷ []
 event_of n st _ is _ = []
 
-abbrev pub operation_moments : (number : ℕ) → Standing → PlainOp → Entry → List Moment
-operation_moments n st op (touched is w) = event_of n st op.mem is (act_of op.kind w)
-operation_moments n st op _ = []
+abbrev pub entry_moments : (number : ℕ) → Standing → OpKind → Option ℕ → Entry → List Moment
+entry_moments n st kind m (touched is w) = event_of n st m is (act_of kind w)
+entry_moments n st kind m _ = []
 
 -- those of a list, by the number of its first operation
 abbrev pub list_moments : (number : ℕ) → Standing → List PlainOp → List Entry → List Moment
-list_moments n st (op ∷ ops) (e ∷ entries) = operation_moments n st op e ++ list_moments (suc n) st ops entries
+list_moments n st (op ∷ ops) (e ∷ entries) = entry_moments n st op.kind op.mem e ++ list_moments (suc n) st ops entries
 list_moments n st _ _ = []
 
 abbrev pub bounds_moments : (number : ℕ) → Standing → List PlainCounter → List Bounds → List Moment

@@ -3,7 +3,7 @@
 ghost use Rattle.std.specs.Prelude.{ℕ, Bool};
 ghost use Rattle.sp_core.specs.Footprint.{NodeNames};
 ghost use Rattle.sp_core.specs.Invariant.{IsShown};
-ghost use Rattle.sp_core.specs.Laws.{TurnsSuffice, IsWithin};
+ghost use Rattle.sp_core.specs.Laws.{TurnsSuffice, IsWithin, IsReplayed};
 ghost use Rattle.sp_core.specs.PlainCore.{PlainNode, PlainCore};
 ghost use Rattle.sp_core.specs.Scope.{Reading, Scope};
 ghost use Rattle.sp_core.specs.Sequential.{run};
@@ -23,4 +23,11 @@ pub fn turns_suffice()
 /// pass.
 pub fn runs_are_footprints()
     ensures { (is : ℕ → Bool) (core : PlainCore) (reading : Reading) (turns : ℕ) (node : PlainNode) (scope : Scope) → NodeNames core is node → IsWithin is (run core reading turns node scope) }
+{}
+
+/// What happens in a run that ends, taken from its history alone and done one after the other from the store in which the
+/// run begins: each read finds its word, each word that is taken is the oldest, each word that is put finds room; and it
+/// leaves what the run leaves.
+pub fn runs_are_replayed()
+    ensures { (core : PlainCore) (reading : Reading) (node : PlainNode) → IsReplayed core reading node }
 {}
