@@ -1,5 +1,5 @@
 -- Short forms of the parts of the worked cores. Words are of type `Int` but where `Bit` is given.
-use Rattle.std.specs.Prelude.{ℕ, true, false, List, [], ◌∷◌, map, filter, Option, Some, None}
+use Rattle.std.specs.Prelude.{ℕ, true, false, List, [], ◌∷◌, map, filter, Option, Some, None, slice_index_or}
 use Rattle.sp_words.specs.declared.kind.BinOp.{BinOp}
 use Rattle.sp_words.specs.declared.kind.Kind.{Kind}
 use Rattle.sp_words.specs.declared.kind.Kind.TheVariants.{Reg}
@@ -9,7 +9,9 @@ use Rattle.sp_words.specs.Ports.{PlainPort, PlainInput}
 use Rattle.sp_words.specs.Types.{int_type}
 use Rattle.sp_core.specs.declared.operation.OpKind.{OpKind}
 use Rattle.sp_core.specs.declared.operation.OpKind.TheVariants.{Word, Count, Live, Read, Write, Enq, Deq, Reset, Two, Mux}
+use Rattle.sp_core.specs.Cost.{Timing, Timings, no_timing, core_cost}
 use Rattle.sp_core.specs.Meaning.{is_arg, is_out, Outcome, ended}
+use Rattle.sp_core.specs.Shape.{Shape, shape_of}
 use Rattle.sp_core.specs.PlainCore.{PlainOp, PlainCounter, PlainNode, PlainStages, no_stage, more_stage, PlainMem, PlainCore}
 
 abbrev pub op_at : Ty → OpKind → List ℕ → PlainOp
@@ -111,3 +113,16 @@ input args drams = record { args = args; drams = drams }
 abbrev pub results : Outcome → Option (List ℕ × List (List ℕ))
 results (ended outs drams h) = Some (outs, drams)
 results _ = None
+
+-- the numbers of a plan, node by node
+abbrev pub timed : List Timing → Timings
+timed timings k = slice_index_or timings k no_timing
+
+-- the shape of a run, and what it costs, if it ended
+abbrev pub shape_in : PlainCore → Outcome → Option Shape
+shape_in core (ended outs drams h) = Some (shape_of core.root h)
+shape_in core _ = None
+
+abbrev pub cost_in : PlainCore → List Timing → (delay : ℕ) → Outcome → Option ℕ
+cost_in core timings delay (ended outs drams h) = Some (core_cost core (timed timings) delay (shape_of core.root h))
+cost_in core timings delay _ = None

@@ -1,6 +1,7 @@
 pub mod Accesses
 pub mod Around
 pub mod CoreParts
+pub mod Cost
 pub mod Declarations
 pub mod Elements
 pub mod Events
@@ -12,6 +13,7 @@ pub mod ExampleTransfers
 pub mod Footprint
 pub mod History
 pub mod Invariant
+pub mod Latency
 pub mod Laws
 pub mod Meaning
 pub mod MemoryRules
@@ -25,6 +27,7 @@ pub mod PlainCore
 pub mod Replay
 pub mod Scope
 pub mod Sequential
+pub mod Shape
 pub mod Step
 pub mod Store
 pub mod Transfers
