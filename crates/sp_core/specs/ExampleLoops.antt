@@ -94,3 +94,10 @@ running_sum = core (mem_of (codes "y") ArgOut int_type [] None ∷ mem_of (codes
     inner (below 0 5 1 1 ∷ []) [] (read 1 [] ∷ count 0 0 ∷ two Add 0 1 ∷ write 1 (2 ∷ []) ∷ []) None ∷
     inner [] [] (read 1 [] ∷ write 0 (0 ∷ []) ∷ []) None ∷
     [])))
+
+-- `s(i + r) = 1`
+unfoldable pub shifted : PlainCore
+shifted = core (mem_of (codes "r") Reg int_type [] (Some 2) ∷ mem_of (codes "s") Sram int_type (8 ∷ []) None ∷ []) []
+    (outer [] Pipe (0 ∷ 1 ∷ []) (stages (
+    inner (below 0 3 1 1 ∷ []) [] (count 0 0 ∷ read 0 [] ∷ two Add 0 1 ∷ lit 1 ∷ write 1 (2 ∷ 3 ∷ []) ∷ []) None ∷
+    [])))

@@ -1,13 +1,15 @@
 //! Worked cores. Each function does nothing: what it ensures are the ends of cores, which were worked out by other means.
 
-ghost use Rattle.std.specs.Prelude.{◌≡◌, [], ◌∷◌, replicate, true, false, Some, None};
+ghost use Rattle.std.specs.Prelude.{◌≡◌, [], ◌∷◌, replicate, true, false, pos, Some, None};
 ghost use Rattle.sp_core.specs.declared.node.SparseKind.TheVariants.{WideLoad};
 ghost use Rattle.sp_core.specs.Cost.{inner_timing, outer_timing, wide_timing, no_timing, sparse_cost};
 ghost use Rattle.sp_core.specs.Elements.{numbers_below};
+ghost use Rattle.sp_core.specs.Events.{reads, writes};
 ghost use Rattle.sp_core.specs.ExampleBroken.{later_argument, use_outside, owned_twice, counter_of_another_loop, lanes_out_of_order, memory_without_owner};
-ghost use Rattle.sp_core.specs.ExampleForms.{input, results, timed, shape_in, cost_in};
+ghost use Rattle.sp_core.specs.ExampleForms.{input, results, timed, shape_in, cost_in, met_in, held_in, acts_in};
 ghost use Rattle.sp_core.specs.ExampleLanes.{squares_in_lanes, dot_product_in_lanes, stores_in_lanes};
-ghost use Rattle.sp_core.specs.ExampleLoops.{sum_core, counting_down, register_between, fresh_registers, queued, memory_reduced, streamed, two_loops, two_statements, running_sum};
+ghost use Rattle.sp_core.specs.ExampleLoops.{sum_core, counting_down, register_between, fresh_registers, queued, memory_reduced, streamed, two_loops, two_statements, running_sum, shifted};
+ghost use Rattle.sp_core.specs.ExampleMeets.{histogram_forms, histogram_meets, squares_forms, squares_meets, stores_meets, shifted_forms};
 ghost use Rattle.sp_core.specs.ExampleTransfers.{dot_product, wide_dot_product, squares, histogram, line_filter, copied, copied_at_once, overlapping_stores, gathered};
 ghost use Rattle.sp_core.specs.Invariant.{wrong_place};
 ghost use Rattle.sp_core.specs.Latency.{weight, limit};
@@ -115,4 +117,28 @@ pub fn worked_costs()
     ensures masked_lanes { cost_in (stores_in_lanes 3) (outer_timing (0 ∷ []) (0 ∷ []) ∷ outer_timing (0 ∷ 1 ∷ 0 ∷ 1 ∷ []) (0 ∷ 0 ∷ 1 ∷ 0 ∷ []) ∷ inner_timing 1 1 ∷ no_timing ∷ inner_timing 1 1 ∷ []) 0 (meaning in_lanes 0 (stores_in_lanes 3) (input [] (replicate 5 9 ∷ []))) ≡ Some 31 }
     ensures wide_at_once { sparse_cost sum_core (timed []) 3 WideLoad (wide_timing true) (lanes_shape (20 ∷ 4 ∷ [])) ≡ 32 }
     ensures wide_in_a_chain { sparse_cost sum_core (timed []) 3 WideLoad (wide_timing false) (lanes_shape (20 ∷ 4 ∷ [])) ≡ 43 }
+{}
+
+/// What happens in two runs, in the order of the text: the number of the operation or transfer, the memory, the indices and
+/// the act.
+pub fn worked_events()
+    ensures sum { acts_in sum_core (meaning in_lanes 0 sum_core (input (4 ∷ []) [])) ≡ Some ((0, 0, [], reads 4) ∷ (3, 1, [], writes 7) ∷ []) }
+    ensures copied { acts_in (copied 2 1) (meaning in_lanes 0 (copied 2 1) (input [] ((5 ∷ 6 ∷ []) ∷ (0 ∷ 0 ∷ []) ∷ []))) ≡ Some (
+        (6, 1, 0 ∷ [], reads 5) ∷ (6, 0, 0 ∷ [], writes 5) ∷ (11, 0, 0 ∷ [], reads 5) ∷ (11, 2, 0 ∷ [], writes 5) ∷
+        (6, 1, 1 ∷ [], reads 6) ∷ (6, 0, 0 ∷ [], writes 6) ∷ (11, 0, 0 ∷ [], reads 6) ∷ (11, 2, 1 ∷ [], writes 6) ∷ []) }
+{}
+
+/// Forms and meets that hold in runs, and others that don't.
+pub fn worked_meets()
+    ensures histogram_forms { held_in histogram (histogram_forms (pos 1)) (input [] ((0 ∷ 1 ∷ 1 ∷ 3 ∷ 1 ∷ 0 ∷ 2 ∷ 1 ∷ []) ∷ replicate 4 0 ∷ [])) (meaning in_lanes 0 histogram (input [] ((0 ∷ 1 ∷ 1 ∷ 3 ∷ 1 ∷ 0 ∷ 2 ∷ 1 ∷ []) ∷ replicate 4 0 ∷ []))) ≡ Some true }
+    ensures wrong_coefficient { held_in histogram (histogram_forms (pos 2)) (input [] ((0 ∷ 1 ∷ 1 ∷ 3 ∷ 1 ∷ 0 ∷ 2 ∷ 1 ∷ []) ∷ replicate 4 0 ∷ [])) (meaning in_lanes 0 histogram (input [] ((0 ∷ 1 ∷ 1 ∷ 3 ∷ 1 ∷ 0 ∷ 2 ∷ 1 ∷ []) ∷ replicate 4 0 ∷ []))) ≡ Some false }
+    ensures squares_forms { held_in squares_in_lanes (squares_forms (pos 3)) (input [] (replicate 10 0 ∷ [])) (meaning in_lanes 0 squares_in_lanes (input [] (replicate 10 0 ∷ []))) ≡ Some true }
+    ensures wrong_lane { held_in squares_in_lanes (squares_forms (pos 4)) (input [] (replicate 10 0 ∷ [])) (meaning in_lanes 0 squares_in_lanes (input [] (replicate 10 0 ∷ []))) ≡ Some false }
+    ensures symbol { held_in shifted (shifted_forms (Some 0)) (input [] []) (meaning in_lanes 0 shifted (input [] [])) ≡ Some true }
+    ensures no_symbol { held_in shifted (shifted_forms None) (input [] []) (meaning in_lanes 0 shifted (input [] [])) ≡ Some false }
+    ensures histogram_meets { met_in histogram (histogram_meets 1) (meaning in_lanes 0 histogram (input [] ((0 ∷ 1 ∷ 1 ∷ 3 ∷ 1 ∷ 0 ∷ 2 ∷ 1 ∷ []) ∷ replicate 4 0 ∷ []))) ≡ Some true }
+    ensures too_far { met_in histogram (histogram_meets 2) (meaning in_lanes 0 histogram (input [] ((0 ∷ 1 ∷ 1 ∷ 3 ∷ 1 ∷ 0 ∷ 2 ∷ 1 ∷ []) ∷ replicate 4 0 ∷ []))) ≡ Some false }
+    ensures squares_meets { met_in squares_in_lanes squares_meets (meaning in_lanes 0 squares_in_lanes (input [] (replicate 10 0 ∷ []))) ≡ Some true }
+    ensures stores_meets { met_in (stores_in_lanes 4) (stores_meets 1) (meaning in_lanes 0 (stores_in_lanes 4) (input [] (replicate 5 9 ∷ []))) ≡ Some true }
+    ensures stores_too_far { met_in (stores_in_lanes 4) (stores_meets 2) (meaning in_lanes 0 (stores_in_lanes 4) (input [] (replicate 5 9 ∷ []))) ≡ Some false }
 {}
