@@ -1,5 +1,5 @@
 -- Short forms of the parts of the worked cores. Words are of type `Int` but where `Bit` is given.
-use Rattle.std.specs.Prelude.{ℕ, true, false, List, [], ◌∷◌, map, filter, Option, Some, None}
+use Rattle.std.specs.Prelude.{Bool, ℕ, true, false, List, [], ◌∷◌, map, filter, Option, Some, None, slice_index_or, ℤ}
 use Rattle.sp_words.specs.declared.kind.BinOp.{BinOp}
 use Rattle.sp_words.specs.declared.kind.Kind.{Kind}
 use Rattle.sp_words.specs.declared.kind.Kind.TheVariants.{Reg}
@@ -9,7 +9,15 @@ use Rattle.sp_words.specs.Ports.{PlainPort, PlainInput}
 use Rattle.sp_words.specs.Types.{int_type}
 use Rattle.sp_core.specs.declared.operation.OpKind.{OpKind}
 use Rattle.sp_core.specs.declared.operation.OpKind.TheVariants.{Word, Count, Live, Read, Write, Enq, Deq, Reset, Two, Mux}
-use Rattle.sp_core.specs.Meaning.{is_arg, is_out, Outcome, ended}
+use Rattle.sp_affine.specs.Affine.{Affine}
+use Rattle.sp_core.specs.declared.access.Meet.{Meet}
+use Rattle.sp_core.specs.Events.{Act, Event, events_of, core_moments}
+use Rattle.sp_core.specs.Forms.{PlainForms, hold_in}
+use Rattle.sp_core.specs.Meeting.{are_met}
+use Rattle.sp_core.specs.Scope.{in_lanes}
+use Rattle.sp_core.specs.Cost.{Timing, Timings, no_timing, core_cost}
+use Rattle.sp_core.specs.Meaning.{is_arg, is_out, Outcome, ended, first_store}
+use Rattle.sp_core.specs.Shape.{Shape, shape_of}
 use Rattle.sp_core.specs.PlainCore.{PlainOp, PlainCounter, PlainNode, PlainStages, no_stage, more_stage, PlainMem, PlainCore}
 
 abbrev pub op_at : Ty → OpKind → List ℕ → PlainOp
@@ -111,3 +119,36 @@ input args drams = record { args = args; drams = drams }
 abbrev pub results : Outcome → Option (List ℕ × List (List ℕ))
 results (ended outs drams h) = Some (outs, drams)
 results _ = None
+
+-- the numbers of a plan, node by node
+abbrev pub timed : List Timing → Timings
+timed timings k = slice_index_or timings k no_timing
+
+-- the shape of a run, and what it costs, if it ended
+abbrev pub shape_in : PlainCore → Outcome → Option Shape
+shape_in core (ended outs drams h) = Some (shape_of core.root h)
+shape_in core _ = None
+
+abbrev pub cost_in : PlainCore → List Timing → (delay : ℕ) → Outcome → Option ℕ
+cost_in core timings delay (ended outs drams h) = Some (core_cost core (timed timings) delay (shape_of core.root h))
+cost_in core timings delay _ = None
+
+-- whether meets and forms hold in a run, if it ended
+abbrev pub met_in : PlainCore → List Meet → Outcome → Option Bool
+met_in core meets (ended outs drams h) = Some (are_met core meets (events_of (core_moments core in_lanes h)))
+met_in core meets _ = None
+
+abbrev pub held_in : PlainCore → PlainForms → PlainInput → Outcome → Option Bool
+held_in core forms given (ended outs drams h) = Some (hold_in core forms (first_store core given) (core_moments core in_lanes h))
+held_in core forms given _ = None
+
+abbrev pub meet : (first second least : ℕ) → Meet
+meet a b k = record { first = a; second = b; least = k }
+
+abbrev pub form : List ℤ → ℤ → Option ℕ → Affine
+form coefs constant symbol = record { coefs = coefs; constant = constant; symbol = symbol }
+
+-- the numbers, memories, indices and acts of the events of a run, if it ended
+abbrev pub acts_in : PlainCore → Outcome → Option (List (ℕ × ℕ × List ℕ × Act))
+acts_in core (ended outs drams h) = Some (map (λ (e : Event). (e.number, e.mem, e.indices, e.act)) (events_of (core_moments core in_lanes h)))
+acts_in core _ = None

@@ -81,3 +81,23 @@ two_loops = core (mem_of (codes "y") ArgOut int_type [] None ∷ mem_of (codes "
     inner (below 1 100 1 1 ∷ []) [] (count 1 0 ∷ count 1 0 ∷ read 1 (1 ∷ []) ∷ lit 1 ∷ two Add 2 3 ∷ write 2 (0 ∷ 4 ∷ []) ∷ []) None ∷
     inner [] [] (lit 99 ∷ read 2 (0 ∷ []) ∷ write 0 (1 ∷ []) ∷ []) None ∷
     [])))
+
+-- `y := x + 3` and `y := x * x`
+unfoldable pub two_statements : PlainCore
+two_statements = core (mem_of (codes "x") ArgIn int_type [] None ∷ mem_of (codes "y") ArgOut int_type [] None ∷ []) []
+    (inner [] [] (read 0 [] ∷ lit 3 ∷ two Add 0 1 ∷ write 1 (2 ∷ []) ∷ read 0 [] ∷ read 0 [] ∷ two Mul 4 5 ∷ write 1 (6 ∷ []) ∷ []) None)
+
+-- the sum of 0 to 4 in a register
+unfoldable pub running_sum : PlainCore
+running_sum = core (mem_of (codes "y") ArgOut int_type [] None ∷ mem_of (codes "r") Reg int_type [] (Some 0) ∷ []) []
+    (outer [] Pipe (1 ∷ []) (stages (
+    inner (below 0 5 1 1 ∷ []) [] (read 1 [] ∷ count 0 0 ∷ two Add 0 1 ∷ write 1 (2 ∷ []) ∷ []) None ∷
+    inner [] [] (read 1 [] ∷ write 0 (0 ∷ []) ∷ []) None ∷
+    [])))
+
+-- `s(i + r) = 1`
+unfoldable pub shifted : PlainCore
+shifted = core (mem_of (codes "r") Reg int_type [] (Some 2) ∷ mem_of (codes "s") Sram int_type (8 ∷ []) None ∷ []) []
+    (outer [] Pipe (0 ∷ 1 ∷ []) (stages (
+    inner (below 0 3 1 1 ∷ []) [] (count 0 0 ∷ read 0 [] ∷ two Add 0 1 ∷ lit 1 ∷ write 1 (2 ∷ 3 ∷ []) ∷ []) None ∷
+    [])))

@@ -1,6 +1,7 @@
 pub mod Accesses
 pub mod Around
 pub mod CoreParts
+pub mod Cost
 pub mod Declarations
 pub mod Elements
 pub mod Events
@@ -8,14 +9,20 @@ pub mod ExampleBroken
 pub mod ExampleForms
 pub mod ExampleLanes
 pub mod ExampleLoops
+pub mod ExampleMeets
 pub mod ExampleTransfers
 pub mod Footprint
+pub mod Forms
 pub mod History
+pub mod Inputs
 pub mod Invariant
+pub mod Latency
 pub mod Laws
 pub mod Meaning
+pub mod Meeting
 pub mod MemoryRules
 pub mod NodeRules
+pub mod Numbered
 pub mod Numbering
 pub mod OperationRules
 pub mod Operations
@@ -25,6 +32,7 @@ pub mod PlainCore
 pub mod Replay
 pub mod Scope
 pub mod Sequential
+pub mod Shape
 pub mod Step
 pub mod Store
 pub mod Transfers

@@ -11,7 +11,10 @@ mod operation;
 
 pub use access::{AccessForms, Meet, Meets};
 pub use core_tree::Core;
-pub use examples::{worked_cores_are_right, worked_lanes, worked_loops, worked_transfers};
+pub use examples::{
+    worked_cores_are_right, worked_costs, worked_events, worked_lanes, worked_limits, worked_loops,
+    worked_meets, worked_shapes, worked_transfers,
+};
 pub use laws::{runs_are_footprints, runs_are_replayed, turns_suffice, wrong_cores_are_shown};
 pub use memory::CoreMem;
 pub use node::{CoreCounter, CoreSpan, Node, SparseKind, Stage};
