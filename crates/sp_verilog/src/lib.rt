@@ -1,0 +1,15 @@
+//! The Verilog text of a netlist: one module, with a fixed pattern for each kind of cell.
+#![tactic(auto)]
+
+mod arithmetic;
+mod cells;
+mod computed;
+mod memories;
+mod module;
+mod nets;
+mod pieces;
+#[cfg(test)]
+mod tests;
+
+pub use module::verilog;
+pub use std::alloc::AllocError as NoMemory;
