@@ -1,8 +1,13 @@
 pub mod Closure
+pub mod CounterLemmas
 pub mod Footprints
+pub mod NameLemmas
 pub mod ReplayLists
 pub mod ReplayRuns
 pub mod ReplayTransfers
 pub mod Replays
 pub mod ShownLemmas
+pub mod SpanLemmas
+pub mod TreeLemmas
 pub mod Turns
+pub mod TypedLemmas

@@ -26,13 +26,13 @@ module _ (core : PlainCore) where
   mutual
     right : (around : Around) (earlier : List ℕ) (n : ℕ) (node : PlainNode) → wrong_node core around earlier n node ≡ None → IsRight core around earlier node
     right around earlier n (outer counters style owned stages) h =
-        let r = unless_none _ _ _ h in (r.0, rights (within around counters owned) (owned ++ earlier) (n + 1) stages r.1)
+        let r = unless_none _ _ _ h in (r.0, rights (within around counters owned) (earlier ++ owned) (n + 1) stages r.1)
     right around earlier n (fsm start state test body next) h =
-        let r = unless_none _ _ _ h in (r.0, right (with_state core around state) (state ∷ earlier) (n + 1) body r.1)
+        let r = unless_none _ _ _ h in (r.0, right (with_state core around state) (earlier ++ state ∷ []) (n + 1) body r.1)
     right around earlier n (branch test first second) h =
         let r = unless_none _ _ _ h in
         let s = or_else_none _ _ r.1 in
-        (r.0, right around earlier (n + 1) first s.0, right around (owned_in first ++ earlier) (n + 1 + node_count first) second s.1)
+        (r.0, right around earlier (n + 1) first s.0, right around (earlier ++ owned_in first) (n + 1 + node_count first) second s.1)
     right around earlier n (inner counters owned ops comb) h = (unless_none _ _ _ h).0
     right around earlier n (load r m spans) h = (unless_none _ _ _ h).0
     right around earlier n (store r m spans) h = (unless_none _ _ _ h).0
@@ -41,14 +41,14 @@ module _ (core : PlainCore) where
     rights : (around : Around) (earlier : List ℕ) (n : ℕ) (stages : PlainStages) → wrong_stage core around earlier n stages ≡ None → AreRight core around earlier stages
     rights around earlier n no_stage h = tt
     rights around earlier n (more_stage first last comb node rest) h =
-        let s = or_else_none _ _ h in (right around earlier n node s.0, rights around (owned_in node ++ earlier) (n + node_count node) rest s.1)
+        let s = or_else_none _ _ h in (right around earlier n node s.0, rights around (earlier ++ owned_in node) (n + node_count node) rest s.1)
 
   mutual
     none : (around : Around) (earlier : List ℕ) (n : ℕ) (node : PlainNode) → IsRight core around earlier node → wrong_node core around earlier n node ≡ None
-    none around earlier n (outer counters style owned stages) h = none_unless _ _ _ h.0 (nones (within around counters owned) (owned ++ earlier) (n + 1) stages h.1)
-    none around earlier n (fsm start state test body next) h = none_unless _ _ _ h.0 (none (with_state core around state) (state ∷ earlier) (n + 1) body h.1)
+    none around earlier n (outer counters style owned stages) h = none_unless _ _ _ h.0 (nones (within around counters owned) (earlier ++ owned) (n + 1) stages h.1)
+    none around earlier n (fsm start state test body next) h = none_unless _ _ _ h.0 (none (with_state core around state) (earlier ++ state ∷ []) (n + 1) body h.1)
     none around earlier n (branch test first second) h =
-        none_unless _ _ _ h.0 (none_or_else _ _ (none around earlier (n + 1) first h.1) (none around (owned_in first ++ earlier) (n + 1 + node_count first) second h.2))
+        none_unless _ _ _ h.0 (none_or_else _ _ (none around earlier (n + 1) first h.1) (none around (earlier ++ owned_in first) (n + 1 + node_count first) second h.2))
     none around earlier n (inner counters owned ops comb) h = none_unless _ _ _ h refl
     none around earlier n (load r m spans) h = none_unless _ _ _ h refl
     none around earlier n (store r m spans) h = none_unless _ _ _ h refl
@@ -56,7 +56,7 @@ module _ (core : PlainCore) where
 
     nones : (around : Around) (earlier : List ℕ) (n : ℕ) (stages : PlainStages) → AreRight core around earlier stages → wrong_stage core around earlier n stages ≡ None
     nones around earlier n no_stage h = refl
-    nones around earlier n (more_stage first last comb node rest) h = none_or_else _ _ (none around earlier n node h.0) (nones around (owned_in node ++ earlier) (n + node_count node) rest h.1)
+    nones around earlier n (more_stage first last comb node rest) h = none_or_else _ _ (none around earlier n node h.0) (nones around (earlier ++ owned_in node) (n + node_count node) rest h.1)
 
 four : (a b c d : Bool) → IsTrue ((a && b) && (c && d)) → IsTrue a × IsTrue b × IsTrue c × IsTrue d
 four true true true true h = (refl, refl, refl, refl)

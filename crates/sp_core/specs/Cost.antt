@@ -123,11 +123,11 @@ module _ (core : PlainCore) (timings : Timings) (delay : ℕ) where
   wide_cost false lanes = 2 + sum_of (map lane_cost lanes)
 
   abbrev pub sparse_cost : SparseKind → Timing → Shape → ℕ
-  sparse_cost Gather timing (words_shape w) = picked_cost w
-  sparse_cost Scatter timing (words_shape w) = picked_cost w
-  sparse_cost WideLoad timing (lanes_shape ws) = wide_cost (is_together timing) ws
-  sparse_cost WideStore timing (lanes_shape ws) = wide_cost (is_together timing) ws
-  sparse_cost _ timing _ = 0
+  sparse_cost Gather t (words_shape w) = picked_cost w
+  sparse_cost Scatter t (words_shape w) = picked_cost w
+  sparse_cost WideLoad t (lanes_shape ws) = wide_cost (is_together t) ws
+  sparse_cost WideStore t (lanes_shape ws) = wide_cost (is_together t) ws
+  sparse_cost _ t _ = 0
 
   -- the stages of a `Stream` block work at once, and one of them always goes on
   abbrev pub stream_cost : List (List ℕ) → ℕ
@@ -135,8 +135,8 @@ module _ (core : PlainCore) (timings : Timings) (delay : ℕ) where
   stream_cost (costs ∷ rest) = sum_of (map (λ c. 1 + c) costs) + stream_cost rest
 
   abbrev pub outer_cost : Style → Timing → List (List ℕ) → ℕ
-  outer_cost Stream timing costs = stream_cost costs
-  outer_cost _ timing costs = beats_cost (slots_of timing) (chains_of timing) costs
+  outer_cost Stream t costs = stream_cost costs
+  outer_cost _ t costs = beats_cost (slots_of t) (chains_of t) costs
 
   unfoldable mutual
     -- by the number of the node

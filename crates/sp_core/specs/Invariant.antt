@@ -31,16 +31,16 @@ module _ (core : PlainCore) where
   abbrev mutual
     pub IsRight : Around → (earlier : List ℕ) → PlainNode → Type 0
     IsRight around earlier (outer counters style owned stages) =
-        IsTrue (is_right_here around earlier (outer counters style owned stages)) × AreRight (within around counters owned) (owned ++ earlier) stages
+        IsTrue (is_right_here around earlier (outer counters style owned stages)) × AreRight (within around counters owned) (earlier ++ owned) stages
     IsRight around earlier (fsm start state test body next) =
-        IsTrue (is_right_here around earlier (fsm start state test body next)) × IsRight (with_state core around state) (state ∷ earlier) body
+        IsTrue (is_right_here around earlier (fsm start state test body next)) × IsRight (with_state core around state) (earlier ++ state ∷ []) body
     IsRight around earlier (branch test first second) =
-        IsTrue (is_right_here around earlier (branch test first second)) × IsRight around earlier first × IsRight around (owned_in first ++ earlier) second
+        IsTrue (is_right_here around earlier (branch test first second)) × IsRight around earlier first × IsRight around (earlier ++ owned_in first) second
     IsRight around earlier node = IsTrue (is_right_here around earlier node)
 
     pub AreRight : Around → (earlier : List ℕ) → PlainStages → Type 0
     AreRight around earlier no_stage = Unit {0}
-    AreRight around earlier (more_stage first last comb node rest) = IsRight around earlier node × AreRight around (owned_in node ++ earlier) rest
+    AreRight around earlier (more_stage first last comb node rest) = IsRight around earlier node × AreRight around (earlier ++ owned_in node) rest
 
 -- each memory but arguments and outputs has an owner
 abbrev pub has_owner : PlainCore → ℕ → Bool
@@ -75,18 +75,18 @@ module _ (core : PlainCore) where
   abbrev mutual
     pub wrong_node : Around → (earlier : List ℕ) → (number : ℕ) → PlainNode → Option ℕ
     wrong_node around earlier n (outer counters style owned stages) =
-        unless (is_right_here core around earlier (outer counters style owned stages)) n (wrong_stage (within around counters owned) (owned ++ earlier) (n + 1) stages)
+        unless (is_right_here core around earlier (outer counters style owned stages)) n (wrong_stage (within around counters owned) (earlier ++ owned) (n + 1) stages)
     wrong_node around earlier n (fsm start state test body next) =
-        unless (is_right_here core around earlier (fsm start state test body next)) n (wrong_node (with_state core around state) (state ∷ earlier) (n + 1) body)
+        unless (is_right_here core around earlier (fsm start state test body next)) n (wrong_node (with_state core around state) (earlier ++ state ∷ []) (n + 1) body)
     wrong_node around earlier n (branch test first second) =
         unless (is_right_here core around earlier (branch test first second)) n
-        (or_else (wrong_node around earlier (n + 1) first) (wrong_node around (owned_in first ++ earlier) (n + 1 + node_count first) second))
+        (or_else (wrong_node around earlier (n + 1) first) (wrong_node around (earlier ++ owned_in first) (n + 1 + node_count first) second))
     wrong_node around earlier n node = unless (is_right_here core around earlier node) n None
 
     pub wrong_stage : Around → (earlier : List ℕ) → (number : ℕ) → PlainStages → Option ℕ
     wrong_stage around earlier n no_stage = None
     wrong_stage around earlier n (more_stage first last comb node rest) =
-        or_else (wrong_node around earlier n node) (wrong_stage around (owned_in node ++ earlier) (n + node_count node) rest)
+        or_else (wrong_node around earlier n node) (wrong_stage around (earlier ++ owned_in node) (n + node_count node) rest)
 
 -- the first node that shows that a core isn't right: the root where the memories, the ports or the size are wrong by
 -- themselves

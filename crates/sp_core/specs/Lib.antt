@@ -27,6 +27,7 @@ pub mod Numbering
 pub mod OperationRules
 pub mod Operations
 pub mod Operators
+pub mod PartsPlain
 pub mod Plain
 pub mod PlainCore
 pub mod Replay

@@ -1,5 +1,5 @@
 -- What every node of a core keeps, beside what the nodes in it do.
-use Rattle.std.specs.Prelude.{ℕ, ◌+◌, ◌-◌, ◌/◌, ◌%◌, ◌==◌, Bool, true, false, ◌&&◌, ◌||◌, not, nat_le, nat_lt, List, [], ◌∷◌, length, Option, Some, None}
+use Rattle.std.specs.Prelude.{ℕ, ◌+◌, ◌-◌, ◌/◌, ◌%◌, ◌==◌, Bool, true, false, ◌&&◌, ◌||◌, not, nat_le, nat_lt, List, [], ◌∷◌, ◌++◌, length, Option, Some, None}
 use Rattle.std.specs.List.{list_all}
 use Rattle.sp_words.specs.declared.kind.Kind.{Kind}
 use Rattle.sp_words.specs.declared.kind.Kind.TheVariants.{Reg, Sram, LineBuf}
@@ -133,7 +133,7 @@ module _ (core : PlainCore) where
   -- memories that are owned exist, have an owner, and none of them has another one
   abbrev pub is_owned_once : (earlier : List ℕ) → List ℕ → Bool
   is_owned_once earlier [] = true
-  is_owned_once earlier (m ∷ rest) = ((nat_lt m (length core.mems) && not (is_port_kind (mem core m).kind)) && not (is_among m earlier)) && is_owned_once (m ∷ earlier) rest
+  is_owned_once earlier (m ∷ rest) = ((nat_lt m (length core.mems) && not (is_port_kind (mem core m).kind)) && not (is_among m earlier)) && is_owned_once (earlier ++ m ∷ []) rest
 
   -- what a node itself owns
   abbrev pub owned_by : PlainNode → List ℕ

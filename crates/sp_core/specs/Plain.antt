@@ -1,10 +1,11 @@
 -- The plain value of each part of a core as it is declared.
-use Rattle.std.specs.Prelude.{List, map, string_bytes}
+use Rattle.std.specs.Prelude.{List, [], ◌∷◌, map, string_bytes}
 use Rattle.sp_core.specs.declared.memory.CoreMem.{CoreMem}
 use Rattle.sp_core.specs.declared.node.CoreCounter.{CoreCounter}
 use Rattle.sp_core.specs.declared.node.CoreSpan.{CoreSpan}
 use Rattle.sp_core.specs.declared.node.CoreSpan.TheVariants.{One, Range}
 use Rattle.sp_core.specs.declared.node.Node.{Node, Inner, Outer', Fsm', Branch', Load, Store, Sparse, Row_of-Stage, end_of-Stage, more_of-Stage}
+use Rattle.sp_core.specs.declared.node.Stage.{Stage}
 use Rattle.sp_core.specs.declared.operation.Op.{Op}
 use Rattle.sp_core.specs.PlainCore.{PlainOp, PlainCounter, PlainSpan, single, range, PlainNode, PlainStages, inner, outer, fsm, branch, load, store, sparse, no_stage, more_stage, PlainMem}
 
@@ -37,3 +38,8 @@ abbrev mutual
 
 abbrev pub plain_mem : CoreMem → PlainMem
 plain_mem m = record { name = string_bytes m.name; kind = m.kind; ty = m.ty; dims = m.dims.items; start = m.start; written = m.written }
+
+-- stages that stand in a list
+abbrev pub plain_stage_list : List Stage → PlainStages
+plain_stage_list [] = no_stage
+plain_stage_list (s ∷ rest) = more_stage s.first s.last s.comb (plain_node s.node) (plain_stage_list rest)

@@ -1,12 +1,16 @@
-ghost use Rattle.std.specs.Prelude.{◌≡◌, map};
+ghost use Rattle.std.specs.Prelude.{◌≡◌, ℕ, map, Some, IfOk, OnOk};
 ghost use Rattle.sp_words.specs.Ports.{plain_ports};
 ghost use Rattle.sp_core.specs.CoreParts.{plain_core};
-ghost use Rattle.sp_core.specs.Invariant.{IsCore};
+ghost use Rattle.sp_core.specs.Invariant.{IsCore, wrong_place};
 ghost use Rattle.sp_core.specs.Plain.{plain_mem};
 
+use crate::error::CoreError;
 use crate::memory::CoreMem;
 use crate::node::Node;
+use crate::parts::Parts;
+use crate::shown::wrong_place;
 use sp_words::Ports;
+use std::alloc::Global;
 use std::marker::Model;
 
 /// A core: its memories, arguments and outputs among them, by number; its arguments, outputs and DRAMs; and its tree.
@@ -36,6 +40,29 @@ impl Model for Core {
 }
 
 impl Core {
+    /// The core of these memories, ports and tree. `Shape` names the first node in preorder that breaks a rule of cores; 0
+    /// where the memories, the ports or the size do by themselves.
+    pub fn new(
+        alloc: Global,
+        mems: Vec<CoreMem>,
+        ports: Ports,
+        root: Node,
+    ) -> Result<Core, CoreError>
+        ensures core { IfOk result (λ core. core ≡ record { mems = map plain_mem mems.items; ports = plain_ports ports; root = root }) }
+        ensures right { OnOk result (IsCore (plain_core (record { mems = map plain_mem mems.items; ports = plain_ports ports; root = root }))) }
+        ensures shape { (node : ℕ) → result ≡ Err (CoreError.Shape node) → wrong_place (plain_core (record { mems = map plain_mem mems.items; ports = plain_ports ports; root = root })) ≡ Some node }
+    {
+        let parts = Parts { mems, ports, root };
+        match wrong_place(alloc, &parts)? {
+            Some(node) => Err(CoreError::Shape { node: node as u32 }),
+            None => Ok(Core {
+                mems: parts.mems,
+                ports: parts.ports,
+                root: parts.root,
+            }),
+        }
+    }
+
     /// Its tree.
     pub fn root(&self) -> &Node
         ensures root { result.now ≡ self.now.root }

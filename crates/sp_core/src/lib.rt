@@ -3,14 +3,24 @@
 
 mod access;
 mod core_tree;
+mod error;
 mod examples;
+mod lanes;
 mod laws;
 mod memory;
+mod memory_rules;
 mod node;
+mod node_rules;
 mod operation;
+mod operation_rules;
+mod parts;
+mod shown;
+mod size;
+mod typed;
 
 pub use access::{AccessForms, Meet, Meets};
 pub use core_tree::Core;
+pub use error::CoreError;
 pub use examples::{
     worked_cores_are_right, worked_costs, worked_events, worked_lanes, worked_limits, worked_loops,
     worked_meets, worked_shapes, worked_transfers,
