@@ -1,16 +1,16 @@
 -- The DRAMs, one after another, and what is told of their files.
-use Rattle.std.proofs.Common.{◌≡◌, ℕ, ◌+◌, ◌<◌, List, [], ◌∷◌, ◌++◌, map, take, drop, length, get_or, Option, Some, None, refl, sym, subst, ap, ◌∙◌, append_assoc, append-nil, option_to_list, Ok, Err}
+use Rattle.std.proofs.Common.{◌≡◌, ℕ, ◌+◌, ◌<◌, List, [], ◌∷◌, ◌++◌, map, take, drop, length, get_or, Option, Some, None, refl, sym, subst, ap, ◌∙◌, append_assoc, append-nil, option_to_list}
 use Rattle.std.proofs.lemmas.List.{map-append, take_more, take-append-drop}
 use Rattle.std.specs.Global.{Vec}
 use Rattle.toml.specs.Data.{Members}
 use Rattle.sp_edges.specs.Standing.{Standing}
-use Rattle.sp_edges.specs.Calls.{Call, given, AreUnfaulted, WantsMemory}
-use Rattle.sp_edges.specs.declared.input.InputFault.TheVariants as fault
+use Rattle.sp_edges.specs.Calls.{Call, given, AreUnfaulted}
 use Rattle.sp_words.specs.declared.interface.PortDecl.{PortDecl}
 use Rattle.sp_words.specs.Ports.{PlainPort, plain_port}
 use Rattle.sp_setup.proofs.Turns.{drop-turn}
 use Rattle.sp_setup.specs.declared.error.SetupEnd.{SetupEnd}
 use Rattle.sp_setup.specs.declared.error.SetupEnd.TheVariants.{Refused, ReadFault, TooLong, Memory}
+use Rattle.sp_setup.specs.Laws.{NamedEnds-wide, AreUnfaulted-given, AreUnfaulted-more, files_of-append, WantsMemory-at}
 use Rattle.sp_setup.specs.Drams.{NamedGives, DramGives, AllGive, NamedEnds, DramEnds, DramsEnd, file_of, files_of}
 
 -- what is told of a file stays
@@ -20,54 +20,10 @@ DramGives-told now before None port words same gives = gives
 DramGives-told now before (Some name) port words same gives =
     let P : Standing → Type 0 = λ standing. NamedGives standing port words in subst P (same name) gives
 
-WantsMemory-wide : (now then : List Call → Type 0) (names : List (List ℕ)) → ((calls : List Call) → now calls → then calls) → WantsMemory now names → WantsMemory then names
-WantsMemory-wide now then names wide wants = (wants.0, wants.1, wide wants.0 wants.2)
-
--- what may have failed, and which calls were made, by a longer time
-NamedEnds-wide : (standing : Standing) (now before : Type 0) (asked_now asked : List Call → Type 0) (name : List ℕ) (port : PlainPort) (end : SetupEnd) → (now → before)
-    → ((calls : List Call) → asked_now calls → asked calls)
-    → NamedEnds standing now asked_now name port end → NamedEnds standing before asked name port end
-NamedEnds-wide standing now before asked_now asked name port (Refused e) wide more ends = (more _ ends.0, ends.1)
-NamedEnds-wide standing now before asked_now asked name port ReadFault wide more ends = (more _ ends.0, wide ends.1)
-NamedEnds-wide standing now before asked_now asked name port (TooLong text) wide more ends = (more _ ends.0, ends.1, ends.2)
-NamedEnds-wide standing now before asked_now asked name port Memory wide more ends = WantsMemory-wide asked_now asked _ more ends
-
 NamedEnds-told : (now before : Standing) (failed : Type 0) (asked : List Call → Type 0) (name : List ℕ) (port : PlainPort) (end : SetupEnd) → now ≡ before
     → NamedEnds now failed asked name port end → NamedEnds before failed asked name port end
 NamedEnds-told now before failed asked name port end same ends =
     let P : Standing → Type 0 = λ standing. NamedEnds standing failed asked name port end in subst P same ends
-
--- calls after others that gave
-AreUnfaulted-given : (before names : List (List ℕ)) (calls : List Call) → AreUnfaulted names calls → AreUnfaulted (before ++ names) (map given before ++ calls)
-AreUnfaulted-given [] names calls some = some
-AreUnfaulted-given (b ∷ []) names [] some = (refl, λ (same : Ok tt ≡ Err fault.Failed). cc)
-AreUnfaulted-given (b ∷ []) names (call ∷ calls) some = (refl, some)
-AreUnfaulted-given (b ∷ (next ∷ before)) names calls some = (refl, AreUnfaulted-given (next ∷ before) names calls some)
-
-AreUnfaulted-more : (names more : List (List ℕ)) (calls : List Call) → AreUnfaulted names calls → AreUnfaulted (names ++ more) calls
-AreUnfaulted-more names more [] some = tt
-AreUnfaulted-more [] more (call ∷ calls) some = absurd some
-AreUnfaulted-more (name ∷ names) more (call ∷ []) some = some
-AreUnfaulted-more (name ∷ names) more (call ∷ (next ∷ calls)) some = (some.0, AreUnfaulted-more names more (next ∷ calls) some.1)
-
--- the files of the DRAMs before a place, the one there and those after it
-pub files_of-append : (files : Members) (before after : List PlainPort) → files_of files (before ++ after) ≡ files_of files before ++ files_of files after
-files_of-append files [] after = refl
-files_of-append files (port ∷ before) after =
-    ap (λ names. option_to_list (file_of files port) ++ names) (files_of-append files before after) ∙ sym (append_assoc (option_to_list (file_of files port)) (files_of files before) (files_of files after))
-
--- want of memory at a DRAM, after those before it
-WantsMemory-at : (asked_now asked : List Call → Type 0) (files : Members) (before after : List PlainPort) (port : PlainPort) (file : Option (List ℕ)) → file ≡ file_of files port
-    → ((calls : List Call) → asked_now calls → asked (map given (files_of files before) ++ calls))
-    → WantsMemory asked_now (option_to_list file) → WantsMemory asked (files_of files (before ++ (port ∷ after)))
-WantsMemory-at asked_now asked files before after port file is more wants =
-    let names : List (List ℕ) = option_to_list (file_of files port) in
-    let calls : List Call = map given (files_of files before) ++ wants.0 in
-    let here : AreUnfaulted names wants.0 = let P : Option (List ℕ) → Type 0 = λ f. AreUnfaulted (option_to_list f) wants.0 in subst P is wants.1 in
-    let some : AreUnfaulted (files_of files before ++ (names ++ files_of files after)) calls =
-    AreUnfaulted-given (files_of files before) (names ++ files_of files after) wants.0 (AreUnfaulted-more names (files_of files after) wants.0 here) in
-    let P : List (List ℕ) → Type 0 = λ all. AreUnfaulted all calls in
-    (calls, subst P (sym (files_of-append files before (port ∷ after))) some, more wants.0 wants.2)
 
 -- one more DRAM gives its words
 pub AllGive-push : (told : List ℕ → Standing) (files : Members) (ports : List PlainPort) (port : PlainPort) (drams : List (List ℕ)) (words : List ℕ)

@@ -10,3 +10,4 @@ pub mod Settings
 pub mod Cells
 pub mod Drams
 pub mod Setup
+pub mod Laws

@@ -1,12 +1,12 @@
 -- A program of the form under a sure name isn't refused.
-use Rattle.std.proofs.Common.{◌≡◌, ◌∙◌, ap, subst, ℕ, ◌+◌, ◌≤◌, List, length, take, arith}
+use Rattle.std.proofs.Common.{◌≡◌, ap, subst, ℕ, ◌+◌, ◌≤◌, List, length, take, arith}
 use Rattle.std.proofs.lemmas.List.{length-take}
 use Rattle.sp_edges.specs.Standing.{Standing, Holds, IsAllOf, BeginsWith}
 use Rattle.sp_top.specs.Form.{Line, IsStraight, BreaksAt}
-use Rattle.sp_top.specs.Status.{PlainStatus, done, words, read_fault, write_fault, memory, too_long, unbuilt}
+use Rattle.sp_top.specs.Status.{PlainStatus, done, words, setup_refused, read_fault, write_fault, memory, listing_refused, conflict, cycles_spent, too_long, unbuilt}
 use Rattle.sp_edges.specs.Calls.{Call}
-use Rattle.sp_top.specs.Compile.{longest_program}
-use Rattle.sp_top.specs.Commands.{Command, compile, IsCommand, MayRefuse, MayEnd, NotRefused}
+use Rattle.sp_top.specs.Compile.{longest_program, CompileRefuses}
+use Rattle.sp_top.specs.Commands.{Command, compile, simulate, IsCommand, MayRefuse, Refuses, MayEnd, NotRefused}
 use Rattle.sp_top.specs.Record.{SinkChange, Records}
 use Rattle.sp_top.proofs.LawLemmas.{breaks_or_reads}
 
@@ -26,36 +26,46 @@ past standing bytes told small long =
 same_bytes : (standing : Standing) (bytes others : List ℕ) → standing ≡ Holds bytes → IsAllOf standing others → others ≡ bytes
 same_bytes standing bytes others told all = subst (λ (s : Standing). IsAllOf s others) told all
 
-not_too_long : (said : List (List ℕ)) (told : List ℕ → Standing) (failed : List ℕ → Type 0) (asked : List Call → Type 0) (program bytes name : List ℕ) (command : Command)
-    → IsCommand said (compile program) → told program ≡ Holds bytes → length bytes ≤ longest_program
-    → IsCommand said command → MayRefuse told failed asked command (too_long name) → ⊥
-not_too_long said told failed asked program bytes name (compile other) is holds small also refuses =
-    past (told other) bytes (ap told (one_program said other program also is) ∙ holds) small refuses.2
+-- words that are that command refuse as it does
+only_compile : (said : List (List ℕ)) (told : List ℕ → Standing) (failed : List ℕ → Type 0) (asked : List Call → Type 0) (program : List ℕ) (status : PlainStatus) (command : Command)
+    → IsCommand said (compile program) → IsCommand said command → MayRefuse told failed asked command status → CompileRefuses told failed asked program status
+only_compile said told failed asked program status (compile other) is also refuses =
+    let P : List ℕ → Type 0 = λ p. CompileRefuses told failed asked p status in subst P (one_program said other program also is) refuses
+only_compile said told failed asked program status (simulate listing setup) is also refuses = let a = is.0 in let b = also.0 in absurd (cc)
 
-not_unbuilt : (said : List (List ℕ)) (told : List ℕ → Standing) (failed : List ℕ → Type 0) (asked : List Call → Type 0) (program bytes : List ℕ) (lines : List Line) (line : ℕ) (command : Command)
-    → IsCommand said (compile program) → told program ≡ Holds bytes → IsStraight bytes lines
-    → IsCommand said command → MayRefuse told failed asked command (unbuilt line) → ⊥
-not_unbuilt said told failed asked program bytes lines line (compile other) is holds straight also refuses =
-    let same : refuses.bytes ≡ bytes = same_bytes (told other) bytes refuses.bytes (ap told (one_program said other program also is) ∙ holds) refuses.gives.all in
-    breaks_or_reads bytes line lines (subst (λ (b : List ℕ). BreaksAt b line) same refuses.breaks) straight
+module _ (told : List ℕ → Standing) (failed : List ℕ → Type 0) (asked : List Call → Type 0) (program bytes : List ℕ) (lines : List Line) where
+  -- a program of the form under a sure name isn't refused
+  compiles : (status : PlainStatus) → (failed program → ⊥) → told program ≡ Holds bytes → length bytes ≤ longest_program → IsStraight bytes lines
+      → CompileRefuses told failed asked program status → NotRefused status
+  compiles done read holds small straight refuses = tt
+  compiles words read holds small straight refuses = absurd refuses
+  compiles (setup_refused refusal) read holds small straight refuses = absurd refuses
+  compiles read_fault read holds small straight refuses = absurd (read refuses.1)
+  compiles (write_fault which) read holds small straight refuses = tt
+  compiles memory read holds small straight refuses = tt
+  compiles (listing_refused error) read holds small straight refuses = absurd refuses
+  compiles (conflict cycle bank port) read holds small straight refuses = absurd refuses
+  compiles (cycles_spent cycles) read holds small straight refuses = absurd refuses
+  compiles (too_long name) read holds small straight refuses = absurd (past (told program) bytes holds small refuses.2)
+  compiles (unbuilt line) read holds small straight refuses =
+      let same : refuses.bytes ≡ bytes = same_bytes (told program) bytes refuses.bytes holds refuses.gives.all in
+      absurd (breaks_or_reads bytes line lines (subst (λ (b : List ℕ). BreaksAt b line) same refuses.breaks) straight)
 
--- a fault of reading is one of a name that is asked for
-unread : (said : List (List ℕ)) (told : List ℕ → Standing) (failed : List ℕ → Type 0) (asked : List Call → Type 0) (program : List ℕ) (command : Command)
-    → IsCommand said (compile program) → (failed program → ⊥) → IsCommand said command → MayRefuse told failed asked command read_fault → ⊥
-unread said told failed asked program (compile other) is read also refuses =
-    read (subst failed (one_program said other program also is) refuses.1)
+  refused_so : (said : List (List ℕ)) (status : PlainStatus) → IsCommand said (compile program) → (failed program → ⊥) → told program ≡ Holds bytes → length bytes ≤ longest_program
+      → IsStraight bytes lines → Refuses said told failed asked status → NotRefused status
+  refused_so said status is read holds small straight m = compiles status read holds small straight (only_compile said told failed asked program status m.0 is m.1 m.2)
 
-pub complete : (said : List (List ℕ)) (told : List ℕ → Standing) (failed : List ℕ → Type 0) (asked : List Call → Type 0) (out aside : SinkChange) (result : PlainStatus)
-    (program bytes : List ℕ) (lines : List Line) → Records (MayEnd said told failed asked) out aside result
-    → IsCommand said (compile program) → (failed program → ⊥) → told program ≡ Holds bytes → length bytes ≤ longest_program → IsStraight bytes lines
-    → NotRefused result
-complete said told failed asked out aside done program bytes lines records is read holds small straight = tt
-complete said told failed asked out aside memory program bytes lines records is read holds small straight = tt
-complete said told failed asked out aside (write_fault which) program bytes lines records is read holds small straight = tt
-complete said told failed asked out aside words program bytes lines records is read holds small straight = records.2.0 (compile program) is
-complete said told failed asked out aside read_fault program bytes lines records is read holds small straight =
-    let m = records.2.0 in unread said told failed asked program m.0 is read m.1 m.2
-complete said told failed asked out aside (too_long name) program bytes lines records is read holds small straight =
-    let m = records.2.0 in not_too_long said told failed asked program bytes name m.0 is holds small m.1 m.2
-complete said told failed asked out aside (unbuilt line) program bytes lines records is read holds small straight =
-    let m = records.2.0 in not_unbuilt said told failed asked program bytes lines line m.0 is holds straight m.1 m.2
+  pub complete : (said : List (List ℕ)) (out aside : SinkChange) (result : PlainStatus) → Records (MayEnd said told failed asked) out aside result
+      → IsCommand said (compile program) → (failed program → ⊥) → told program ≡ Holds bytes → length bytes ≤ longest_program → IsStraight bytes lines
+      → NotRefused result
+  complete said out aside done records is read holds small straight = tt
+  complete said out aside memory records is read holds small straight = tt
+  complete said out aside (write_fault which) records is read holds small straight = tt
+  complete said out aside words records is read holds small straight = records.2.0 (compile program) is
+  complete said out aside (setup_refused refusal) records is read holds small straight = refused_so said (setup_refused refusal) is read holds small straight records.2.0
+  complete said out aside read_fault records is read holds small straight = refused_so said read_fault is read holds small straight records.2.0
+  complete said out aside (listing_refused error) records is read holds small straight = refused_so said (listing_refused error) is read holds small straight records.2.0
+  complete said out aside (conflict cycle bank port) records is read holds small straight = refused_so said (conflict cycle bank port) is read holds small straight records.2.0
+  complete said out aside (cycles_spent cycles) records is read holds small straight = refused_so said (cycles_spent cycles) is read holds small straight records.2.0
+  complete said out aside (too_long name) records is read holds small straight = refused_so said (too_long name) is read holds small straight records.2.0
+  complete said out aside (unbuilt line) records is read holds small straight = refused_so said (unbuilt line) is read holds small straight records.2.0

@@ -19,3 +19,6 @@ pub mod Loops
 pub mod EndLoops
 pub mod Ends
 pub mod CompleteLemmas
+pub mod ResultLemmas
+pub mod SimulateLemmas
+pub mod RefusalLemmas

@@ -4,7 +4,10 @@ pub mod Meaning
 pub mod Carries
 pub mod Status
 pub mod Reads
+pub mod ResultText
 pub mod Compile
+pub mod Simulate
+pub mod Simulated
 pub mod Commands
 pub mod Said
 pub mod Record

@@ -1,6 +1,7 @@
 //! What some definitions come to. A law is a function whose contract is the law, and whose body is empty.
 ghost use Rattle.std.specs.Prelude.{◌≡◌, ℕ, List, [], ◌∷◌, codes};
-ghost use Rattle.sp_top.specs.Status.{words, read_fault, too_long, unbuilt};
+ghost use Rattle.sp_top.specs.Status.{words, setup_refused, read_fault, listing_refused, conflict, cycles_spent, too_long, unbuilt};
+ghost use Rattle.sp_setup.specs.Refusal.{Refusal};
 ghost use Rattle.sp_top.specs.Commands.{NotRefused};
 ghost use Rattle.sp_top.specs.Carries.{limit};
 ghost use Rattle.sp_top.specs.declared.straight.program.Operator.TheVariants.{Add};
@@ -12,6 +13,10 @@ pub fn refusals_refuse()
     ensures words { NotRefused words → ⊥ }
     ensures read_fault { NotRefused read_fault → ⊥ }
     ensures too_long { (name : List ℕ) → NotRefused (too_long name) → ⊥ }
+    ensures setup_refused { (refusal : Refusal) → NotRefused (setup_refused refusal) → ⊥ }
+    ensures listing_refused { (error : _) → NotRefused (listing_refused error) → ⊥ }
+    ensures conflict { (cycle bank : ℕ) (port : _) → NotRefused (conflict cycle bank port) → ⊥ }
+    ensures cycles_spent { (cycles : ℕ) → NotRefused (cycles_spent cycles) → ⊥ }
     ensures unbuilt { (line : ℕ) → NotRefused (unbuilt line) → ⊥ }
 {}
 

@@ -4,7 +4,10 @@
 mod command;
 mod compile;
 mod laws;
+mod lines;
 mod reads;
+mod result_text;
+mod simulate;
 mod sinks;
 mod status;
 mod straight;

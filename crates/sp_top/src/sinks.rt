@@ -1,10 +1,11 @@
 //! How texts and refusals are put on the sinks.
-ghost use Rattle.std.specs.Prelude.{◌≡◌, ◌≢◌, ◌<◌, IfOk, MatchOption, length, string_bytes};
-ghost use Rattle.sp_top.specs.Status.{plain_status, line_of, done, write_fault, HasParts};
+ghost use Rattle.std.specs.Prelude.{◌≡◌, ◌≢◌, ◌<◌, length, string_bytes};
+ghost use Rattle.sp_top.specs.Status.{plain_status, line_of, done, write_fault};
 ghost use Rattle.sp_top.specs.Record.{Puts, Refuses, Delivers};
 
+use crate::lines::{built_line, constant_line};
 use crate::status::{SinkName, Status};
-use sp_edges::{NoMemory, Sink, put_text};
+use sp_edges::{Sink, put_text};
 use std::alloc::Global;
 
 /// The texts that a command puts on the two sinks.
@@ -31,31 +32,6 @@ pub fn deliver<K: Sink, A: Sink>(texts: &Texts, out: &mut K, aside: &mut A) -> S
         };
     }
     Status::Done
-}
-
-// The line of a status, where it is a constant.
-fn constant_line(status: &Status) -> Option<&'static str>
-    ensures { MatchOption result (HasParts (plain_status status.now)) (λ line. line.now ≡ line_of (plain_status status.now)) }
-{
-    match status {
-        Status::Done | Status::WriteFault { which: _ } => Some(""),
-        Status::Words => Some("words: not in the command table\n"),
-        Status::ReadFault => Some("read fault\n"),
-        Status::Memory => Some("memory\n"),
-        Status::TooLong { name: _ } | Status::Unbuilt { line: _ } => None,
-    }
-}
-
-// The line of a status with a name or a number in it.
-fn built_line(alloc: Global, status: &Status) -> Result<String, NoMemory>
-    requires { HasParts (plain_status status.now) }
-    ensures { IfOk result (λ line. string_bytes line ≡ line_of (plain_status status.now)) }
-{
-    match status {
-        Status::TooLong { name } => format!(in alloc; "too long: {name}\n"),
-        Status::Unbuilt { line } => format!(in alloc; "unbuilt at line {line}\n"),
-        _ => Ok(String::new(alloc)),
-    }
 }
 
 // Puts a line as one piece.

@@ -1,5 +1,9 @@
 //! How a call ends.
 
+use sp_listing::ListError;
+use sp_netlist::Port;
+use sp_setup::SetupError;
+
 /// One of the two sinks.
 #[derive(Clone, Copy, Debug, PartialEq, Eq)]
 pub enum SinkName {
@@ -15,12 +19,20 @@ pub enum Status {
     Done,
     /// The words are in no row of the command table.
     Words,
+    /// The setup gives no input.
+    Setup(SetupError),
     /// A name could not be read.
     ReadFault,
     /// The sink did not take the text that was put to it.
     WriteFault { which: SinkName },
     /// Memory ran out.
     Memory,
+    /// The listing is none of a netlist. The error is never want of memory.
+    Listing(ListError),
+    /// In this cycle two enabled taps stand on the port of the bank.
+    Conflict { cycle: u64, bank: u64, port: Port },
+    /// The setup's cycles passed without an end.
+    CyclesSpent { cycles: u64 },
     /// What stands under the name is longer than is read.
     TooLong { name: String },
     /// The program is not of the straight form, first at this line, counted from 1.
@@ -38,9 +50,17 @@ impl Status {
         match self {
             Status::Done => 0,
             Status::Words => 2,
+            Status::Setup(_) => 5,
             Status::ReadFault => 8,
             Status::WriteFault { which: _ } => 9,
             Status::Memory => 10,
+            Status::Listing(_) => 11,
+            Status::Conflict {
+                cycle: _,
+                bank: _,
+                port: _,
+            } => 12,
+            Status::CyclesSpent { cycles: _ } => 13,
             Status::TooLong { name: _ } => 14,
             Status::Unbuilt { line: _ } => 15,
         }

@@ -12,6 +12,7 @@ ghost use Rattle.sp_top.specs.Record.{Records};
 
 use crate::command::{Command, command_of};
 use crate::compile::compile;
+use crate::simulate::simulate;
 use crate::sinks::{Texts, deliver, refuse};
 use crate::status::Status;
 use sp_edges::{Inputs, Sink};
@@ -25,6 +26,7 @@ fn texts_of<I: Inputs>(alloc: Global, command: Command<'_>, inputs: &mut I) -> R
 {
     match command {
         Command::Compile { program } => compile(alloc, program, inputs),
+        Command::Simulate { listing, setup } => simulate(alloc, listing, setup, inputs),
     }
 }
 

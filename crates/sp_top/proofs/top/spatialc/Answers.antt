@@ -11,4 +11,4 @@ returns-clause-complete g c = λ program bytes lines is sure holds small straigh
     λ name. Rose (g.I.Inputs.faults c.args.inputs.now) (g.I.Inputs.faults c.answer.new.inputs) × (g.I.Inputs.sure c.args.inputs.now name → ⊥) in
     let read : failed program → ⊥ = λ f. f.1 sure in
     let asked : List Call → Type 0 = λ calls. g.I.Inputs.asked c.args.inputs.now calls c.answer.new.inputs in
-    complete _ _ failed asked _ _ _ program bytes lines c.answer.ensures is read holds small straight
+    complete _ failed asked program bytes lines _ _ _ _ c.answer.ensures is read holds small straight

@@ -1,0 +1,76 @@
+//! The lines of refusals.
+ghost use Rattle.std.specs.Prelude.{◌≡◌, IfOk, MatchOption, string_bytes};
+ghost use Rattle.sp_setup.specs.Refusal.{plain_error};
+ghost use Rattle.sp_top.specs.Status.{plain_status, line_of, HasParts, listing_refused, conflict, setup_refused};
+
+use crate::status::Status;
+use sp_listing::ListError;
+use sp_netlist::{NetError, Port};
+use sp_setup::SetupError;
+use std::alloc::{AllocError, Global};
+
+/// The line of a status, where it is a constant.
+pub fn constant_line(status: &Status) -> Option<&'static str>
+    ensures { MatchOption result (HasParts (plain_status status.now)) (λ line. line.now ≡ line_of (plain_status status.now)) }
+{
+    match status {
+        Status::Done | Status::WriteFault { which: _ } => Some(""),
+        Status::Words => Some("words: not in the command table\n"),
+        Status::ReadFault => Some("read fault\n"),
+        Status::Memory => Some("memory\n"),
+        _ => None,
+    }
+}
+
+fn setup_line(alloc: Global, error: &SetupError) -> Result<String, AllocError>
+    ensures { IfOk result (λ line. string_bytes line ≡ line_of (setup_refused (plain_error error.now))) }
+{
+    format!(in alloc; "setup: {error}\n")
+}
+
+fn net_line(alloc: Global, error: NetError) -> Result<String, AllocError>
+    ensures { IfOk result (λ line. string_bytes line ≡ line_of (listing_refused (ListError.Net error))) }
+{
+    match error {
+        NetError::Driven { net } => format!(in alloc; "listing: net {net} is not driven once\n"),
+        NetError::Width { net } => format!(in alloc; "listing: width of net {net}\n"),
+        NetError::Loop { net } => format!(in alloc; "listing: loop through net {net}\n"),
+        NetError::NetLimit { count } => format!(in alloc; "listing: limit {count}\n"),
+        NetError::Memory => String::from_str(alloc, "listing: out of memory\n"),
+    }
+}
+
+fn listing_line(alloc: Global, error: ListError) -> Result<String, AllocError>
+    ensures { IfOk result (λ line. string_bytes line ≡ line_of (listing_refused error)) }
+{
+    match error {
+        ListError::NoListing { line } => format!(in alloc; "listing: no listing at line {line}\n"),
+        ListError::Net(error) => net_line(alloc, error),
+        ListError::Memory => String::from_str(alloc, "listing: out of memory\n"),
+    }
+}
+
+fn conflict_line(alloc: Global, cycle: u64, bank: u64, port: Port) -> Result<String, AllocError>
+    ensures { IfOk result (λ line. string_bytes line ≡ line_of (conflict cycle bank port)) }
+{
+    match port {
+        Port::Read => format!(in alloc; "conflict: cycle {cycle}, bank {bank}, read port\n"),
+        Port::Write => format!(in alloc; "conflict: cycle {cycle}, bank {bank}, write port\n"),
+    }
+}
+
+/// The line of a status with a name or a number in it.
+pub fn built_line(alloc: Global, status: &Status) -> Result<String, AllocError>
+    requires { HasParts (plain_status status.now) }
+    ensures { IfOk result (λ line. string_bytes line ≡ line_of (plain_status status.now)) }
+{
+    match status {
+        Status::Setup(error) => setup_line(alloc, error),
+        Status::Listing(error) => listing_line(alloc, *error),
+        Status::Conflict { cycle, bank, port } => conflict_line(alloc, *cycle, *bank, *port),
+        Status::CyclesSpent { cycles } => format!(in alloc; "cycles spent: {cycles}\n"),
+        Status::TooLong { name } => format!(in alloc; "too long: {name}\n"),
+        Status::Unbuilt { line } => format!(in alloc; "unbuilt at line {line}\n"),
+        _ => Ok(String::new(alloc)),
+    }
+}
