@@ -1,5 +1,5 @@
 -- Reading a declaration.
-use Rattle.std.proofs.Common.{◌≡◌, ◌≢◌, ℕ, List, [], ◌∷◌, ◌++◌, Contains, IsTrue, Result, Ok, Err, MatchResult, IfOk, codes, refl, sym, ◌∙◌, subst, inl, inr, lit<, lit≤}
+use Rattle.std.proofs.Common.{◌≡◌, ◌≢◌, ℕ, List, [], ◌∷◌, ◌++◌, Contains, Result, Ok, Err, MatchResult, IfOk, codes, refl, sym, ◌∙◌, subst, inl, inr, lit<, lit≤}
 use Rattle.sp_words.specs.Names.{IsName}
 use Rattle.sp_top.specs.declared.straight.lines.Side.{Side}
 use Rattle.sp_top.specs.declared.straight.lines.Side.TheVariants.{Arg, Out}

@@ -1,5 +1,5 @@
 -- Declarations and statements, as they are written.
-use Rattle.std.proofs.Common.{◌≡◌, ◌≢◌, ℕ, List, ◌∷◌, ◌++◌, Contains, IsTrue, codes, sym, ◌∙◌, lit<}
+use Rattle.std.proofs.Common.{◌≡◌, ◌≢◌, ℕ, List, ◌∷◌, ◌++◌, Contains, codes, sym, ◌∙◌, lit<}
 use Rattle.std.proofs.lemmas.List.{append_cancel_left}
 use Rattle.std.proofs.lemmas.List.Elements.{All-contains}
 use Rattle.sp_words.specs.Names.{IsName}

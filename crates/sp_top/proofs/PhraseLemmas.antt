@@ -1,5 +1,5 @@
 -- Words and phrases, as they are written.
-use Rattle.std.proofs.Common.{◌≡◌, ◌≢◌, ℕ, ◌<◌, ◌^◌, List, ◌∷◌, ◌++◌, All, Contains, IsTrue, codes, refl, sym, ◌∙◌, ap, arith, decimal, Some}
+use Rattle.std.proofs.Common.{◌≡◌, ◌≢◌, ℕ, ◌<◌, ◌^◌, List, ◌∷◌, ◌++◌, All, Contains, codes, refl, sym, ◌∙◌, ap, arith, decimal, Some}
 use Rattle.std.proofs.lemmas.List.Elements.{All-contains}
 use Rattle.sp_words.specs.Names.{IsName}
 use Rattle.sp_top.specs.declared.straight.program.Operator.{Operator}

@@ -1,5 +1,5 @@
 -- What a reader of the straight form knows of the lines that it has read.
-use Rattle.std.proofs.Common.{◌≡◌, ◌≢◌, ◌⊎◌, ℕ, suc, List, [], ◌∷◌, ◌++◌, All, Contains, IsTrue, Option, Some, None, refl, sym, ◌∙◌, ap, arith, subst, inl, inr, filter_map, take, drop, take-append-drop, drop-cons}
+use Rattle.std.proofs.Common.{◌≡◌, ◌≢◌, ◌⊎◌, ℕ, suc, List, [], ◌∷◌, ◌++◌, All, Contains, Option, Some, None, refl, sym, ◌∙◌, ap, arith, subst, inl, inr, filter_map, take, drop, take-append-drop, drop-cons}
 use Rattle.std.specs.List.{cons_option}
 use Rattle.std.proofs.lemmas.List.Elements.{All-weaker, All-contains_itself, filter_map-append, Contains-append_right}
 use Rattle.sp_words.specs.Names.{IsName}

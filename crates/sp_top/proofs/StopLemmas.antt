@@ -1,5 +1,5 @@
 -- Where a reader stops, and which lines fit at a stage.
-use Rattle.std.proofs.Common.{◌≡◌, ◌≢◌, ◌⊎◌, ℕ, ◌+◌, ◌<◌, ◌≤◌, true, List, [], ◌∷◌, ◌++◌, All, Contains, IsTrue, codes, nat_le, nat_lt, ◌&&◌, refl, sym, ◌∙◌, ap, arith, inl, inr, append_assoc}
+use Rattle.std.proofs.Common.{◌≡◌, ◌≢◌, ◌⊎◌, ℕ, ◌+◌, ◌<◌, ◌≤◌, true, List, [], ◌∷◌, ◌++◌, All, Contains, codes, nat_le, nat_lt, ◌&&◌, refl, sym, ◌∙◌, ap, arith, inl, inr, append_assoc}
 use Rattle.std.specs.List.{list_all}
 use Rattle.std.proofs.lemmas.List.{append-nil}
 use Rattle.std.proofs.lemmas.Bool.Decides.{nat_tests}

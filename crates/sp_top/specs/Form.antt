@@ -1,5 +1,5 @@
 -- The straight form of a text: its lines, and the first line that breaks it.
-use Rattle.std.specs.Prelude.{◌≡◌, ℕ, ◌+◌, ◌<◌, ◌≤◌, ◌^◌, List, [], ◌∷◌, ◌++◌, IsTrue, length, codes, decimal, flat_map, filter_map, Contains, Option, Some, None, ◌⊎◌}
+use Rattle.std.specs.Prelude.{◌≡◌, ℕ, ◌+◌, ◌<◌, ◌≤◌, ◌^◌, List, [], ◌∷◌, ◌++◌, length, codes, decimal, flat_map, filter_map, Contains, Option, Some, None, ◌⊎◌}
 use Rattle.sp_top.specs.declared.straight.program.Atom.{Atom}
 use Rattle.sp_top.specs.declared.straight.program.Atom.TheVariants.{Arg, Literal}
 use Rattle.sp_top.specs.declared.straight.program.Value.{Value}

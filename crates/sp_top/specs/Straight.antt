@@ -1,5 +1,5 @@
 -- A straight-line program without where its names lie in memory.
-use Rattle.std.specs.Prelude.{◌≡◌, ◌≤◌, ◌+◌, ◌∷◌, ◌++◌, ◌<◌, ◌^◌, length, All, Contains, IsTrue, ℕ, List, map, string_bytes}
+use Rattle.std.specs.Prelude.{◌≡◌, ◌≤◌, ◌+◌, ◌∷◌, ◌++◌, ◌<◌, ◌^◌, length, All, Contains, ℕ, List, map, string_bytes}
 use Rattle.sp_words.specs.Names.{IsName}
 use Rattle.sp_top.specs.declared.straight.program.Atom.{Atom}
 use Rattle.sp_top.specs.declared.straight.program.Atom.TheVariants.{Arg, Literal}

@@ -1,6 +1,7 @@
 use crate::{Status, spatialc};
 use sp_edges::{MemFile, MemInputs, MemSink, SinkStop};
 use std::alloc::{AllocError, Global};
+use std::process::Abort;
 use std::test::Fail;
 
 const SUM: &str = "val x = ArgIn[Int]\nval y = ArgOut[Int]\nAccel {\n  y := x + 3\n}\n";
@@ -57,39 +58,106 @@ fn a_sum_compiles_to_its_listing(rt: HostRuntime) -> Result<(), Fail> {
     Ok(())
 }
 
-// Each row: the words, the text under P, the status, and the line on `out`.
+// Rows: words; what stands under `F`, `S` and `a`, where `-` is nothing; the status; and what `out` takes. A `;` ends
+// a line.
+const ROWS: &str = "\
+|val x = ArgIn[Int];val y = ArgOut[Int];Accel {;  y := x + 3;};|-|-|2|words: not in the command table;\n\
+check|val x = ArgIn[Int];val y = ArgOut[Int];Accel {;  y := x + 3;};|-|-|2|words: not in the command table;\n\
+--help|val x = ArgIn[Int];val y = ArgOut[Int];Accel {;  y := x + 3;};|-|-|2|words: not in the command table;\n\
+compile|val x = ArgIn[Int];val y = ArgOut[Int];Accel {;  y := x + 3;};|-|-|2|words: not in the command table;\n\
+compile |val x = ArgIn[Int];val y = ArgOut[Int];Accel {;  y := x + 3;};|-|-|2|words: not in the command table;\n\
+compile -F|val x = ArgIn[Int];val y = ArgOut[Int];Accel {;  y := x + 3;};|-|-|2|words: not in the command table;\n\
+compile F S|val x = ArgIn[Int];val y = ArgOut[Int];Accel {;  y := x + 3;};||-|2|words: not in the command table;\n\
+simulate F|netlist 1;in x 0 s32.0;const 1 32 3;op 2 s32.0 add 0 1;reg 3 32 0 2 4;const 4 1 1;reg 5 1 0 4 4;out y 3 s32.0;done 5;||-|2|words: not in the command table;\n\
+simulate F -S|netlist 1;in x 0 s32.0;const 1 32 3;op 2 s32.0 add 0 1;reg 3 32 0 2 4;const 4 1 1;reg 5 1 0 4 4;out y 3 s32.0;done 5;||-|2|words: not in the command table;\n\
+simulate F S S|netlist 1;in x 0 s32.0;const 1 32 3;op 2 s32.0 add 0 1;reg 3 32 0 2 4;const 4 1 1;reg 5 1 0 4 4;out y 3 s32.0;done 5;||-|2|words: not in the command table;\n\
+compile Q|val x = ArgIn[Int];val y = ArgOut[Int];Accel {;  y := x + 3;};|-|-|8|read fault;\n\
+compile F||-|-|15|unbuilt at line 1;\n\
+compile F|val x = ArgIn[Int];val y = ArgOut[Int];Accel {;  y := x + 3;|-|-|15|unbuilt at line 5;\n\
+compile F|val x = ArgIn[Int];val y = ArgOut[Int];Accel {;  y := x / 3;};|-|-|15|unbuilt at line 4;\n\
+simulate F S|netlist 1;in x 0 s32.0;const 1 32 3;op 2 s32.0 add 0 1;reg 3 32 0 2 4;const 4 1 1;reg 5 1 0 4 4;out y 3 s32.0;done 5;|[args];x = 4;|-|0|out y 7;cycles 1;\n\
+simulate F S|netlist 1;in x 0 s32.0;const 1 32 3;op 2 s32.0 add 0 1;reg 3 32 0 2 4;const 4 1 1;reg 5 1 0 4 4;out y 3 s32.0;done 5;|cycles = 1;[args];x = 4;|-|0|out y 7;cycles 1;\n\
+simulate F S|netlist 1;in x 0 s32.0;const 1 32 3;op 2 s32.0 add 0 1;reg 3 32 0 2 4;const 4 1 1;reg 5 1 0 4 4;done 5;|[args];x = 4;|-|0|cycles 1;\n\
+simulate F S|in x 0 s32.0;const 1 32 3;op 2 s32.0 add 0 1;reg 3 32 0 2 4;const 4 1 1;reg 5 1 0 4 4;out y 3 s32.0;done 5;|[args];x = 4;|-|11|listing: no listing at line 1;\n\
+simulate F S|netlist 1;in x 0 s32.0;const 1 32 3;op 2 s32.0 add 0 1;reg 3 32 0 2 4;const 4 1 1;reg 5 1 0 4 4;out y 3 s32.0;|[args];x = 4;|-|11|listing: no listing at line 9;\n\
+simulate F S|netlist 1;const 1 32 3;op 2 s32.0 add 0 1;reg 3 32 0 2 4;const 4 1 1;reg 5 1 0 4 4;out y 3 s32.0;done 5;||-|11|listing: net 0 is not driven once;\n\
+simulate F S|netlist 1;in x 0 s32.0;const 1 32 3;op 2 s32.0 add 0 1;reg 3 32 0 2 4;const 4 1 1;out y 3 s32.0;done 5;||-|11|listing: net 5 is not driven once;\n\
+simulate F S|netlist 2;||-|11|listing: no listing at line 1;\n\
+simulate F S|netlist 1;not 0 u1.0 0;done 0;||-|11|listing: loop through net 0;\n\
+simulate F S|netlist 1;in x 0 s32.0;const 1 32 3;op 2 s32.0 add 0 1;reg 3 32 0 2 4;const 4 1 1;reg 5 2 0 4 4;out y 3 s32.0;done 5;||-|11|listing: width of net 4;\n\
+simulate F S|netlist 1;dram 0 a u8.0 67108865;const 0 1 1;done 0;||-|11|listing: limit 67108865;\n\
+simulate F S|netlist 1;const 0 1 1;const 1 32 0;reg 2 1 0 0 0;bank 0 8 4;read 3 0 2 1;read 4 0 2 1;const 4 1 0;done 4;||-|11|listing: net 4 is not driven once;\n\
+simulate F S|netlist 1;const 0 1 1;const 1 32 0;reg 2 1 0 0 0;bank 0 8 4;read 3 0 2 1;read 4 0 2 1;const 5 1 0;done 5;||-|12|conflict: cycle 1, bank 0, read port;\n\
+simulate F S|netlist 1;const 0 1 1;const 1 32 0;reg 2 1 0 0 0;bank 0 8 4;read 3 0 2 1;const 5 1 0;done 5;|cycles = 10;|-|13|cycles spent: 10;\n\
+simulate F S|netlist 1;in x 0 s32.0;const 1 32 3;op 2 s32.0 add 0 1;reg 3 32 0 2 4;const 4 1 1;reg 5 1 0 4 4;out y 3 s32.0;done 5;||-|5|setup: missing args.x;\n\
+simulate F S|netlist 1;in x 0 s32.0;const 1 32 3;op 2 s32.0 add 0 1;reg 3 32 0 2 4;const 4 1 1;reg 5 1 0 4 4;out y 3 s32.0;done 5;|[args];x = 2147483648;|-|5|setup: range args.x at 0;\n\
+simulate F S|netlist 1;in x 0 s32.0;const 1 32 3;op 2 s32.0 add 0 1;reg 3 32 0 2 4;const 4 1 1;reg 5 1 0 4 4;out y 3 s32.0;done 5;|[args];x = 4;z = 1;|-|5|setup: key args.z;\n\
+simulate F S|netlist 1;in x 0 s32.0;const 1 32 3;op 2 s32.0 add 0 1;reg 3 32 0 2 4;const 4 1 1;reg 5 1 0 4 4;out y 3 s32.0;done 5;|[args];x = = 1;|-|5|setup: no toml;\n\
+simulate Q S|netlist 1;in x 0 s32.0;const 1 32 3;op 2 s32.0 add 0 1;reg 3 32 0 2 4;const 4 1 1;reg 5 1 0 4 4;out y 3 s32.0;done 5;|[args];x = 4;|-|8|read fault;\n\
+simulate F Q|netlist 1;in x 0 s32.0;const 1 32 3;op 2 s32.0 add 0 1;reg 3 32 0 2 4;const 4 1 1;reg 5 1 0 4 4;out y 3 s32.0;done 5;|-|-|8|read fault;\n\
+simulate F S|netlist 1;dram 0 a s32.0 2;const 0 1 1;const 1 32 1;const 2 32 1;op 4 s32.0 add 3 1;reg 3 32 0 4 5;load 0 0 5 6 0 7 3;op 7 s32.0 eq 3 2;op 8 bit and 5 7;reg 9 1 0 8 0;out y 6 s32.0;done 9;|[dram];a = 'q';|-|8|read fault;\n\
+simulate F S|netlist 1;dram 0 a s32.0 2;const 0 1 1;const 1 32 1;const 2 32 1;op 4 s32.0 add 3 1;reg 3 32 0 4 5;load 0 0 5 6 0 7 3;op 7 s32.0 eq 3 2;op 8 bit and 5 7;reg 9 1 0 8 0;out y 6 s32.0;done 9;|[dram];a = 'a';|1,2,3;|5|setup: size dram.a, want 2, got 3;\n\
+simulate F S|netlist 1;dram 0 a s32.0 2;const 0 1 1;const 1 32 1;const 2 32 1;op 4 s32.0 add 3 1;reg 3 32 0 4 5;load 0 0 5 6 0 7 3;op 7 s32.0 eq 3 2;op 8 bit and 5 7;reg 9 1 0 8 0;out y 6 s32.0;done 9;|[dram];a = 'a';|1;x;|5|setup: csv dram.a row 2;\n\
+simulate F S|netlist 1;dram 0 a s32.0 20;const 0 1 1;const 1 32 1;const 2 32 19;op 4 s32.0 add 3 1;reg 3 32 0 4 5;load 0 0 5 6 0 7 3;op 7 s32.0 eq 3 2;op 8 bit and 5 7;reg 9 1 0 8 0;out y 6 s32.0;done 9;||-|0|out y 0;dram a 0 0 0 0 0 0 0 0 0 0 0 0 0 0 0 0 0 0 0 0;cycles 21;\n\
+simulate F S|netlist 1;dram 0 a s32.0 20;const 0 1 1;const 1 32 1;const 2 32 19;op 4 s32.0 add 3 1;reg 3 32 0 4 5;load 0 0 5 6 0 7 3;op 7 s32.0 eq 3 2;op 8 bit and 5 7;reg 9 1 0 8 0;out y 6 s32.0;done 9;|delays = [3];|-|0|out y 0;dram a 0 0 0 0 0 0 0 0 0 0 0 0 0 0 0 0 0 0 0 0;cycles 24;\n\
+simulate F S|netlist 1;dram 0 a s32.0 20;const 0 1 1;const 1 32 1;const 2 32 19;op 4 s32.0 add 3 1;reg 3 32 0 4 5;load 0 0 5 6 0 7 3;op 7 s32.0 eq 3 2;op 8 bit and 5 7;reg 9 1 0 8 0;out y 6 s32.0;done 9;|delays = [3, 2];|-|0|out y 0;dram a 0 0 0 0 0 0 0 0 0 0 0 0 0 0 0 0 0 0 0 0;cycles 26;\n\
+simulate F S|netlist 1;dram 0 a s32.0 2;const 0 1 1;const 1 32 1;const 2 32 1;op 4 s32.0 add 3 1;reg 3 32 0 4 5;load 0 0 5 6 0 7 3;op 7 s32.0 eq 3 2;op 8 bit and 5 7;reg 9 1 0 8 0;out y 6 s32.0;done 9;|[dram];a = 'a';|7,-8;|0|out y -8;dram a 7 -8;cycles 3;\n";
+
+fn field<'a>(rt: &impl Abort, found: Option<&'a str>) -> &'a str {
+    found.expect(rt, "a field")
+}
+
+// A text whose lines end with `;`.
+fn lines_of(alloc: Global, text: &str) -> Result<String, AllocError> {
+    let mut lines = String::new(alloc);
+    for part in text.split(";") {
+        if lines.len() > 0 {
+            lines.push('\n')?;
+        }
+        lines.push_str(part)?;
+    }
+    Ok(lines)
+}
+
+fn add_file(
+    alloc: Global,
+    files: &mut Vec<MemFile>,
+    name: &str,
+    text: &str,
+) -> Result<(), AllocError> {
+    if text == "-" {
+        return Ok(());
+    }
+    let text = lines_of(alloc, text)?;
+    files.push(MemFile {
+        name: String::from_str(alloc, name)?,
+        bytes: Vec::from_slice(alloc, text.as_bytes())?,
+    })?;
+    Ok(())
+}
+
 #[test]
-fn refusals_have_their_status_and_line(rt: HostRuntime) -> Result<(), Fail> {
+fn calls_end_with_their_status_and_text(rt: HostRuntime) -> Result<(), Fail> {
     let alloc = rt.alloc();
-    let unknown = "words: not in the command table\n";
-    let rows: [(&[&str], &str, u8, &str); 11] = [
-        (&[], SUM, 2, unknown),
-        (&["check"], SUM, 2, unknown),
-        (&["--help"], SUM, 2, unknown),
-        (&["compile"], SUM, 2, unknown),
-        (&["compile", ""], SUM, 2, unknown),
-        (&["compile", "-P"], SUM, 2, unknown),
-        (&["compile", "P", "S"], SUM, 2, unknown),
-        (&["compile", "Q"], SUM, 8, "read fault\n"),
-        (&["compile", "P"], "", 15, "unbuilt at line 1\n"),
-        (
-            &["compile", "P"],
-            "val x = ArgIn[Int]\nval y = ArgOut[Int]\nAccel {\n  y := x + 3\n",
-            15,
-            "unbuilt at line 5\n",
-        ),
-        (
-            &["compile", "P"],
-            "val x = ArgIn[Int]\nval y = ArgOut[Int]\nAccel {\n  y := x / 3\n}\n",
-            15,
-            "unbuilt at line 4\n",
-        ),
-    ];
-    for (words, text, number, line) in rows {
-        let answer = answer_to(alloc, words, text)?;
-        assert_eq!(rt; answer.status.number(), number);
-        assert_eq!(rt; answer.out.as_slice(), line.as_bytes());
-        assert_eq!(rt; answer.aside.len(), 0);
+    for row in ROWS.lines() {
+        let mut fields = row.split("|");
+        let mut words = Vec::new(alloc);
+        for word in field(&rt, fields.next()).split(" ") {
+            words.push(String::from_str(alloc, word)?)?;
+        }
+        let mut files = Vec::new(alloc);
+        for name in ["F", "S", "a"] {
+            add_file(alloc, &mut files, name, field(&rt, fields.next()))?;
+        }
+        let mut inputs = MemInputs::new(files, Vec::new(alloc));
+        let mut out = MemSink::new(alloc, 10_000, Vec::new(alloc))?;
+        let mut aside = MemSink::new(alloc, 10_000, Vec::new(alloc))?;
+        let status = spatialc(alloc, &words, &mut inputs, &mut out, &mut aside);
+        let number = format!(in alloc; "{}", status.number())?;
+        assert_eq!(rt; number.as_str(), field(&rt, fields.next()), "{row}");
+        let text = lines_of(alloc, field(&rt, fields.next()))?;
+        assert_eq!(rt; out.bytes(), text.as_bytes(), "{row}");
+        assert_eq!(rt; aside.bytes().len(), 0, "{row}");
     }
     Ok(())
 }
