@@ -5,6 +5,8 @@ mod command;
 mod compile;
 mod laws;
 mod reads;
+#[cfg(test)]
+mod simulation_tests;
 mod sinks;
 mod status;
 mod straight;
