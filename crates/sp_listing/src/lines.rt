@@ -158,16 +158,6 @@ fn push_line(text: &mut String, cell: &Cell) -> Result<(), NoMemory>
     }
 }
 
-/// The line of a cell by itself.
-#[cfg(test)]
-pub fn line_of(alloc: Global, cell: &Cell) -> Result<String, NoMemory>
-    ensures { IfOk result (λ line. string_bytes line ≡ cell_line (plain_cell cell.now)) }
-{
-    let mut line = String::new(alloc);
-    push_line(&mut line, cell)?;
-    Ok(line)
-}
-
 /// The listing of these cells.
 pub fn listing_of(alloc: Global, cells: &[Cell]) -> Result<String, NoMemory>
     ensures { IfOk result (λ text. string_bytes text ≡ listing_text (plain_cells cells.now)) }

@@ -8,6 +8,8 @@ mod lines;
 mod reads;
 mod result_text;
 mod simulate;
+#[cfg(test)]
+mod simulation_tests;
 mod sinks;
 mod status;
 mod straight;
