@@ -1,0 +1,30 @@
+use Rattle.std.proofs.Common.{rules, arith, length, []}
+use Rattle.std.proofs.lemmas.Grind.{common_steps}
+use Rattle.sp_reader.specs.Plain.{plain_exprs}
+use Rattle.sp_reader.specs.ExpressionRules.{exprs_from, expr}
+use Rattle.sp_reader.proofs.Turns.{one_more, no_more}
+use Rattle.sp_reader.proofs.grammar.expression.Operands.exprs.Goals as goal
+
+pub returns-in_err-next : goal.returns-in_err-next
+unfolding exprs_from
+returns-in_err-next g c =
+    let e = one_more (λ n. exprs_from (expr c.args.self.now.parser.source.now c.args.self.now.depth) n (plain_exprs c.loop-turn.found.items) c.loop-turn.rest.now) _ c.loop-turn._turn c.loop-turn-test.true c.loop-turn.invariant in
+    first_of (search rules, grind (arith, common_steps))
+
+pub returns-then-not-sees : goal.returns-then-not-sees
+unfolding exprs_from
+returns-then-not-sees g c =
+    let e = one_more (λ n. exprs_from (expr c.args.self.now.parser.source.now c.args.self.now.depth) n (plain_exprs c.loop-turn.found.items) c.loop-turn.rest.now) _ c.loop-turn._turn c.loop-turn-test.true c.loop-turn.invariant in
+    first_of (search rules, grind (arith, common_steps))
+
+pub loop-turn-preserved : goal.loop-turn-preserved
+unfolding exprs_from
+loop-turn-preserved g c =
+    let e = one_more (λ n. exprs_from (expr c.args.self.now.parser.source.now c.args.self.now.depth) n (plain_exprs c.loop-turn.found.items) c.loop-turn.rest.now) _ c.loop-turn._turn c.loop-turn-test.true c.loop-turn.invariant in
+    first_of (search rules, grind (arith, common_steps))
+
+pub returns : goal.returns
+unfolding exprs_from
+returns g c =
+    let e = no_more (λ n. exprs_from (expr c.args.self.now.parser.source.now c.args.self.now.depth) n (plain_exprs c.loop-turn.found.items) c.loop-turn.rest.now) _ c.loop-turn._turn c.loop-turn-test.false c.loop-turn.invariant in
+    first_of (search rules, grind (arith, common_steps))
