@@ -1,18 +1,38 @@
 -- A program of the form under a sure name isn't refused.
-use Rattle.std.proofs.Common.{◌≡◌, ap, subst, ℕ, ◌+◌, ◌≤◌, List, length, take, arith}
+use Rattle.std.proofs.Common.{◌≡◌, ◌⊎◌, inl, inr, ap, sym, ◌∙◌, subst, ℕ, [], ◌+◌, ◌≤◌, List, length, take, slice_index, slice_index_or, arith}
 use Rattle.std.proofs.lemmas.List.{length-take}
 use Rattle.sp_edges.specs.Standing.{Standing, Holds, IsAllOf, BeginsWith}
 use Rattle.sp_top.specs.Form.{Line, IsStraight, BreaksAt}
 use Rattle.sp_top.specs.Status.{PlainStatus, done, words, setup_refused, read_fault, write_fault, memory, listing_refused, conflict, cycles_spent, too_long, unbuilt}
 use Rattle.sp_edges.specs.Calls.{Call}
 use Rattle.sp_top.specs.Compile.{longest_program, CompileRefuses}
-use Rattle.sp_top.specs.Commands.{Command, compile, simulate, IsCommand, MayRefuse, Refuses, MayEnd, NotRefused}
+use Rattle.sp_top.specs.Commands.{Command, compile, verilog, simulate, IsCommand, MayRefuse, Refuses, MayEnd, NotRefused}
 use Rattle.sp_top.specs.Record.{SinkChange, Records}
 use Rattle.sp_top.proofs.LawLemmas.{breaks_or_reads}
 
 -- words are one command at most
 one_program : (said : List (List ℕ)) (p q : List ℕ) → IsCommand said (compile p) → IsCommand said (compile q) → p ≡ q
 one_program said p q first second = let a = first.0 in let b = second.0 in cc
+
+one_verilog : (said : List (List ℕ)) (p q : List ℕ) → IsCommand said (verilog p) → IsCommand said (verilog q) → p ≡ q
+one_verilog said p q first second = let a = first.0 in let b = second.0 in cc
+
+-- their first words begin with other letters
+abbrev first_letter : List (List ℕ) → ℕ
+first_letter said = slice_index (slice_index_or said 0 []) 0
+
+not_both : (said : List (List ℕ)) (p q : List ℕ) → IsCommand said (compile p) → IsCommand said (verilog q) → ⊥
+not_both said p q one other =
+    let letters : 99 ≡ 118 = sym (ap first_letter one.0) ∙ ap first_letter other.0 in
+    omega (arith, letters)
+
+-- one of the two commands
+abbrev pub IsTranslation : List (List ℕ) → (program : List ℕ) → Type 0
+IsTranslation said program = IsCommand said (compile program) ⊎ IsCommand said (verilog program)
+
+no_words : (said : List (List ℕ)) (program : List ℕ) → IsTranslation said program → ((command : Command) → IsCommand said command → ⊥) → ⊥
+no_words said program (inl is) none = none (compile program) is
+no_words said program (inr is) none = none (verilog program) is
 
 -- no more bytes than these stand there
 not_past : (bytes more : List ℕ) → length bytes ≤ longest_program → length more ≡ longest_program + 1 → more ≡ take (length more) bytes → ⊥
@@ -28,10 +48,15 @@ same_bytes standing bytes others told all = subst (λ (s : Standing). IsAllOf s 
 
 -- words that are that command refuse as it does
 only_compile : (said : List (List ℕ)) (told : List ℕ → Standing) (failed : List ℕ → Type 0) (asked : List Call → Type 0) (program : List ℕ) (status : PlainStatus) (command : Command)
-    → IsCommand said (compile program) → IsCommand said command → MayRefuse told failed asked command status → CompileRefuses told failed asked program status
-only_compile said told failed asked program status (compile other) is also refuses =
+    → IsTranslation said program → IsCommand said command → MayRefuse told failed asked command status → CompileRefuses told failed asked program status
+only_compile said told failed asked program status (compile other) (inl is) also refuses =
     let P : List ℕ → Type 0 = λ p. CompileRefuses told failed asked p status in subst P (one_program said other program also is) refuses
-only_compile said told failed asked program status (simulate listing setup) is also refuses = let a = is.0 in let b = also.0 in absurd (cc)
+only_compile said told failed asked program status (compile other) (inr is) also refuses = absurd (not_both said other program also is)
+only_compile said told failed asked program status (verilog other) (inl is) also refuses = absurd (not_both said program other is also)
+only_compile said told failed asked program status (verilog other) (inr is) also refuses =
+    let P : List ℕ → Type 0 = λ p. CompileRefuses told failed asked p status in subst P (one_verilog said other program also is) refuses
+only_compile said told failed asked program status (simulate listing setup) (inl is) also refuses = let a = is.0 in let b = also.0 in absurd (cc)
+only_compile said told failed asked program status (simulate listing setup) (inr is) also refuses = let a = is.0 in let b = also.0 in absurd (cc)
 
 module _ (told : List ℕ → Standing) (failed : List ℕ → Type 0) (asked : List Call → Type 0) (program bytes : List ℕ) (lines : List Line) where
   -- a program of the form under a sure name isn't refused
@@ -51,17 +76,17 @@ module _ (told : List ℕ → Standing) (failed : List ℕ → Type 0) (asked : 
       let same : refuses.bytes ≡ bytes = same_bytes (told program) bytes refuses.bytes holds refuses.gives.all in
       absurd (breaks_or_reads bytes line lines (subst (λ (b : List ℕ). BreaksAt b line) same refuses.breaks) straight)
 
-  refused_so : (said : List (List ℕ)) (status : PlainStatus) → IsCommand said (compile program) → (failed program → ⊥) → told program ≡ Holds bytes → length bytes ≤ longest_program
+  refused_so : (said : List (List ℕ)) (status : PlainStatus) → IsTranslation said program → (failed program → ⊥) → told program ≡ Holds bytes → length bytes ≤ longest_program
       → IsStraight bytes lines → Refuses said told failed asked status → NotRefused status
   refused_so said status is read holds small straight m = compiles status read holds small straight (only_compile said told failed asked program status m.0 is m.1 m.2)
 
   pub complete : (said : List (List ℕ)) (out aside : SinkChange) (result : PlainStatus) → Records (MayEnd said told failed asked) out aside result
-      → IsCommand said (compile program) → (failed program → ⊥) → told program ≡ Holds bytes → length bytes ≤ longest_program → IsStraight bytes lines
+      → IsTranslation said program → (failed program → ⊥) → told program ≡ Holds bytes → length bytes ≤ longest_program → IsStraight bytes lines
       → NotRefused result
   complete said out aside done records is read holds small straight = tt
   complete said out aside memory records is read holds small straight = tt
   complete said out aside (write_fault which) records is read holds small straight = tt
-  complete said out aside words records is read holds small straight = records.2.0 (compile program) is
+  complete said out aside words records is read holds small straight = no_words said program is records.2.0
   complete said out aside (setup_refused refusal) records is read holds small straight = refused_so said (setup_refused refusal) is read holds small straight records.2.0
   complete said out aside read_fault records is read holds small straight = refused_so said read_fault is read holds small straight records.2.0
   complete said out aside (listing_refused error) records is read holds small straight = refused_so said (listing_refused error) is read holds small straight records.2.0

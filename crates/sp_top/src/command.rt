@@ -8,6 +8,8 @@ ghost use Rattle.sp_top.specs.Said.{plain_command};
 pub enum Command<'a> {
     /// `compile P`: the listing of the netlist of program P.
     Compile { program: &'a str },
+    /// `verilog P`: the Verilog text of that netlist.
+    Verilog { program: &'a str },
     /// `simulate L S`: the result of the listing L under the setup S.
     Simulate { listing: &'a str, setup: &'a str },
 }
@@ -29,6 +31,9 @@ fn command_of_two<'a>(verb: &'a str, program: &'a str) -> Option<Command<'a>>
 {
     if verb == "compile" && is_file_word(program) {
         return Some(Command::Compile { program });
+    }
+    if verb == "verilog" && is_file_word(program) {
+        return Some(Command::Verilog { program });
     }
     None
 }

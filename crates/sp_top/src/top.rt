@@ -1,5 +1,5 @@
 //! The top call.
-ghost use Rattle.std.specs.Prelude.{◌≡◌, ◌≤◌, ℕ, List, length, map, string_bytes, IfOk, IfErr};
+ghost use Rattle.std.specs.Prelude.{◌≡◌, ◌⊎◌, ◌≤◌, ℕ, List, length, map, string_bytes, IfOk, IfErr};
 ghost use Rattle.sp_edges.specs.Counts.{Rose};
 ghost use Rattle.sp_top.specs.Status.{plain_status};
 ghost use Rattle.sp_edges.specs.Standing.{Holds};
@@ -11,7 +11,7 @@ ghost use Rattle.sp_top.specs.Said.{plain_command};
 ghost use Rattle.sp_top.specs.Record.{Records};
 
 use crate::command::{Command, command_of};
-use crate::compile::compile;
+use crate::compile::{compile, print_verilog};
 use crate::simulate::simulate;
 use crate::sinks::{Texts, deliver, refuse};
 use crate::status::Status;
@@ -26,6 +26,7 @@ fn texts_of<I: Inputs>(alloc: Global, command: Command<'_>, inputs: &mut I) -> R
 {
     match command {
         Command::Compile { program } => compile(alloc, program, inputs),
+        Command::Verilog { program } => print_verilog(alloc, program, inputs),
         Command::Simulate { listing, setup } => simulate(alloc, listing, setup, inputs),
     }
 }
@@ -67,7 +68,7 @@ pub fn spatialc<I: Inputs, K: Sink, A: Sink>(
         (record { before = A.taken aside.old; after = A.taken aside.new; faults_before = A.faults aside.old; faults_after = A.faults aside.new; room = A.sure_room aside.old; put = λ pieces. A.was_put aside.old pieces aside.new })
         (plain_status result) }
     // A program of the form under a sure name isn't refused.
-    ensures complete { (program bytes : List ℕ) (lines : List Line) → IsCommand (map string_bytes words.now) (commands.compile program) → I.sure inputs.old program
+    ensures complete { (program bytes : List ℕ) (lines : List Line) → IsCommand (map string_bytes words.now) (commands.compile program) ⊎ IsCommand (map string_bytes words.now) (commands.verilog program) → I.sure inputs.old program
         → I.told inputs.old program ≡ Holds bytes → length bytes ≤ longest_program → IsStraight bytes lines → NotRefused (plain_status result) }
 {
     answer(alloc, words, inputs, out, aside)
