@@ -58,6 +58,40 @@ fn a_sum_compiles_to_its_listing(rt: HostRuntime) -> Result<(), Fail> {
     Ok(())
 }
 
+#[test]
+fn a_sum_is_printed_as_the_netlist_that_it_compiles_to(rt: HostRuntime) -> Result<(), Fail> {
+    let answer = answer_to(rt.alloc(), &["verilog", "P"], SUM)?;
+    assert_eq!(rt; answer.status.number(), 0);
+    assert_eq!(rt; answer.out.as_slice(), SUM_VERILOG.as_bytes());
+    assert_eq!(rt; answer.aside.len(), 0);
+    Ok(())
+}
+
+// The Verilog text of the same program's netlist.
+const SUM_VERILOG: &str = "module spatial(
+  input wire clk,
+  input wire rst,
+  input wire [31:0] in_x,
+  output wire [31:0] out_y,
+  output wire [0:0] done
+);
+  wire [31:0] n0;
+  wire [31:0] n1;
+  wire [31:0] n2;
+  reg [31:0] n3;
+  wire [0:0] n4;
+  reg [0:0] n5;
+  assign n0 = in_x;
+  assign n1 = 32'd3;
+  assign n2 = n0 + n1;
+  always @(posedge clk) if (rst) n3 <= 32'd0; else if (n4) n3 <= n2;
+  assign n4 = 1'd1;
+  always @(posedge clk) if (rst) n5 <= 1'd0; else if (n4) n5 <= n4;
+  assign out_y = n3;
+  assign done = n5;
+endmodule
+";
+
 // Rows: words; what stands under `F`, `S` and `a`, where `-` is nothing; the status; and what `out` takes. A `;` ends
 // a line.
 const ROWS: &str = "\
@@ -75,6 +109,8 @@ compile Q|val x = ArgIn[Int];val y = ArgOut[Int];Accel {;  y := x + 3;};|-|-|8|r
 compile F||-|-|15|unbuilt at line 1;\n\
 compile F|val x = ArgIn[Int];val y = ArgOut[Int];Accel {;  y := x + 3;|-|-|15|unbuilt at line 5;\n\
 compile F|val x = ArgIn[Int];val y = ArgOut[Int];Accel {;  y := x / 3;};|-|-|15|unbuilt at line 4;\n\
+verilog F|val x = ArgIn[Int];val y = ArgOut[Int];Accel {;  y := x / 3;};|-|-|15|unbuilt at line 4;\n\
+verilog F S|val x = ArgIn[Int];val y = ArgOut[Int];Accel {;  y := x + 3;};||-|2|words: not in the command table;\n\
 simulate F S|netlist 1;in x 0 s32.0;const 1 32 3;op 2 s32.0 add 0 1;reg 3 32 0 2 4;const 4 1 1;reg 5 1 0 4 4;out y 3 s32.0;done 5;|[args];x = 4;|-|0|out y 7;cycles 1;\n\
 simulate F S|netlist 1;in x 0 s32.0;const 1 32 3;op 2 s32.0 add 0 1;reg 3 32 0 2 4;const 4 1 1;reg 5 1 0 4 4;out y 3 s32.0;done 5;|cycles = 1;[args];x = 4;|-|0|out y 7;cycles 1;\n\
 simulate F S|netlist 1;in x 0 s32.0;const 1 32 3;op 2 s32.0 add 0 1;reg 3 32 0 2 4;const 4 1 1;reg 5 1 0 4 4;done 5;|[args];x = 4;|-|0|cycles 1;\n\
