@@ -1,5 +1,5 @@
 -- The plain reader: expressions.
-use Rattle.std.specs.Prelude.{ℕ, zero, suc, ◌-◌, ◌&&◌, nat_le, Bool, true, false, if◌then◌else◌, List, [], ◌∷◌, ◌++◌, length, Option, Some, None, Result, Ok, Err}
+use Rattle.std.specs.Prelude.{ℕ, zero, suc, ◌-◌, ◌&&◌, nat_le, Bool, true, false, if◌then◌else◌, List, [], ◌∷◌, ◌++◌, length, option_and_then, Option, Some, None, Result, Ok, Err}
 use Rattle.std.specs.Option.{option_map_or}
 use Rattle.sp_words.specs.declared.kind.BinOp.{BinOp}
 use Rattle.sp_words.specs.declared.kind.BinOp.TheVariants as op
@@ -7,6 +7,7 @@ use Rattle.sp_reader.specs.declared.token.TokenKind.{TokenKind}
 use Rattle.sp_reader.specs.declared.token.TokenKind.TheVariants as k
 use Rattle.sp_reader.specs.declared.token.Token.{Token}
 use Rattle.sp_reader.specs.declared.grammar.expression.Infix.{Infix}
+use Rattle.sp_reader.specs.declared.grammar.expression.Sign.{Sign}
 use Rattle.sp_reader.specs.declared.grammar.expression.Infix.TheVariants.{Operation, Shift}
 use Rattle.sp_reader.specs.declared.syntax.expression.SynTy.{SynTy}
 use Rattle.sp_reader.specs.declared.syntax.expression.SynUn.{SynUn}
@@ -88,6 +89,24 @@ binds_tighter k.Percent = true
 binds_tighter k.Plus = true
 binds_tighter k.Minus = true
 binds_tighter _ = false
+
+-- ---- operators before an operand
+
+-- the one that comes next
+unfoldable pub sign_at : List Token → Option Sign
+sign_at ts = option_and_then (λ op. if is_minus op && sees k.Number (tail_of ts) then None else Some (record { at = place_of ts; op = op })) (prefix (kind_of ts))
+
+unfoldable pub signs_from : ℕ → List Sign → Rule (List Sign)
+signs_from zero found = pure found
+signs_from (suc n) found = λ ts. option_map_or (λ s. signs_from n (found ++ s ∷ []) (tail_of ts)) (sign_at ts) (Ok (found, ts))
+
+abbrev pub signs : Rule (List Sign)
+signs = λ ts. signs_from (length ts) [] ts
+
+-- what they make of their operand
+abbrev pub apply : List Sign → PlainExpr → PlainExpr
+apply [] operand = operand
+apply (s ∷ ss) operand = node s.at (one s.op (apply ss operand))
 
 -- ---- rules, by the rule of what stands inside at each level; the text first
 
@@ -185,15 +204,18 @@ primary_by source inner _ = named source inner
 unfoldable pub primary : Text → (ℕ → Rule PlainExpr) → Rule PlainExpr
 primary source inner = λ ts. primary_by source inner (kind_of ts) ts
 
--- what stands after an operator before an operand
-unfoldable pub signed : Text → (ℕ → Rule PlainExpr) → ℕ → SynUn → Rule PlainExpr
-signed source inner at op = λ ts.
-    if is_minus op && sees k.Number ts then (number source at true >>= λ d. casts source at (node at (a_number d))) ts
-    else (inner 0 >>= λ operand. pure (node at (one op operand))) ts
+-- an operand without the operators before it; a `-` right before a number belongs to the number
+unfoldable pub unsigned : Text → (ℕ → Rule PlainExpr) → Rule PlainExpr
+unsigned source inner = λ ts.
+    if sees k.Minus ts then (number source (place_of ts) true >>= λ d. casts source (place_of ts) (node (place_of ts) (a_number d))) (tail_of ts)
+    else (primary source inner >>= casts source (place_of ts)) ts
 
+-- an operand with the operators before it
 unfoldable pub prefixed : Text → (ℕ → Rule PlainExpr) → Rule PlainExpr
-prefixed source inner = λ ts.
-    option_map_or (λ op. signed source inner (place_of ts) op (tail_of ts)) (prefix (kind_of ts)) ((primary source inner >>= casts source (place_of ts)) ts)
+prefixed source inner = do
+  ss ← signs
+  e ← unsigned source inner
+  pure (apply ss e)
 
 unfoldable pub chain : Text → (ℕ → Rule PlainExpr) → ℕ → Rule PlainExpr
 chain source inner level = λ ts. and_then (prefixed source inner ts) (chain_from source inner level (length ts))

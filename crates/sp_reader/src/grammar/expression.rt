@@ -156,6 +156,55 @@ fn shift(alloc: Global, to_left: bool, left: SynExpr, by: u8) -> Result<SynExpr,
     Ok(SynExpr { at, kind })
 }
 
+/// An operator before an operand, and its place.
+#[derive(Clone, Copy, Debug)]
+pub struct Sign {
+    pub at: u32,
+    pub op: SynUn,
+}
+
+/// The operator before an operand that comes next.
+#[tactic(auto, unfolding(crate::specs::ExpressionRules::sign_at))]
+fn sign_at(tokens: &[Token]) -> Option<Sign>
+    ensures { result ≡ spec.sign_at tokens.now }
+{
+    let op = prefix(peek(tokens))?;
+    if is_minus(op) && sees(tail(tokens), TokenKind::Number) {
+        return None;
+    }
+    let at = place(tokens);
+    Some(Sign { at, op })
+}
+
+/// The operators before an operand.
+fn signs_of(alloc: Global, tokens: &[Token]) -> Result<(Vec<Sign>, &[Token]), Stop>
+    ensures { Gives (λ x. (x.0.items, x.1.now)) result (spec.signs tokens.now) }
+{
+    let mut found = Vec::new(alloc);
+    let mut rest = tokens;
+    for _turn in 0..tokens.len() {
+        let Some(sign) = sign_at(rest) else {
+            return Ok((found, rest));
+        };
+        found.push(sign)?;
+        rest = tail(rest);
+    }
+    Ok((found, rest))
+}
+
+/// What the operators make of their operand.
+#[tactic(auto, using(crate::proofs::Signs::apply_last))]
+fn apply(alloc: Global, signs: Vec<Sign>, operand: SynExpr) -> Result<SynExpr, AllocError>
+    ensures { IfOk result (λ e. plain_expr e ≡ spec.apply signs.items (plain_expr operand)) }
+{
+    let mut left = signs;
+    let mut whole = operand;
+    while let Some(sign) = left.pop() {
+        whole = one(alloc, sign.at, sign.op, whole)?;
+    }
+    Ok(whole)
+}
+
 impl Parser<'_> {
     /// The casts after an operand whose first token stands at `at`.
     pub fn casts<'t>(
@@ -271,34 +320,26 @@ impl<
         ensures { let source = self.now.parser.source.now in
             Gives (λ x. (plain_expr x.0, x.1.now)) result (spec.prefixed source (spec.expr source self.now.depth) tokens.now) }
     {
-        let at = place(tokens);
-        match prefix(peek(tokens)) {
-            Some(op) => self.signed(at, op, tail(tokens)),
-            None => {
-                let (operand, rest) = self.primary(tokens)?;
-                self.parser.casts(at, operand, rest)
-            }
-        }
+        let (signs, rest) = signs_of(self.parser.alloc, tokens)?;
+        let (operand, rest) = self.unsigned(rest)?;
+        let whole = apply(self.parser.alloc, signs, operand)?;
+        Ok((whole, rest))
     }
 
-    /// What stands after an operator before an operand. A `-` right before a number belongs to the number.
-    #[tactic(auto, unfolding(crate::specs::ExpressionRules::signed))]
-    fn signed<'t>(
-        &self,
-        at: u32,
-        op: SynUn,
-        tokens: &'t [Token],
-    ) -> Result<(SynExpr, &'t [Token]), Stop>
+    /// An operand without the operators before it. A `-` right before a number belongs to the number.
+    #[tactic(auto, unfolding(crate::specs::ExpressionRules::unsigned))]
+    fn unsigned<'t>(&self, tokens: &'t [Token]) -> Result<(SynExpr, &'t [Token]), Stop>
         requires { Nests self.now.depth (F.pre self.now.expr) (F.post self.now.expr) }
         ensures { let source = self.now.parser.source.now in
-            Gives (λ x. (plain_expr x.0, x.1.now)) result (spec.signed source (spec.expr source self.now.depth) at op tokens.now) }
+            Gives (λ x. (plain_expr x.0, x.1.now)) result (spec.unsigned source (spec.expr source self.now.depth) tokens.now) }
     {
-        if is_minus(op) && sees(tokens, TokenKind::Number) {
-            let (digits, rest) = self.parser.number(at, true, tokens)?;
+        let at = place(tokens);
+        if sees(tokens, TokenKind::Minus) {
+            let (digits, rest) = self.parser.number(at, true, tail(tokens))?;
             return self.parser.casts(at, literal(at, digits), rest);
         }
-        let (operand, rest) = self.inner(0, tokens)?;
-        Ok((one(self.parser.alloc, at, op, operand)?, rest))
+        let (operand, rest) = self.primary(tokens)?;
+        self.parser.casts(at, operand, rest)
     }
 
     #[tactic(auto, unfolding(crate::specs::ExpressionRules::enclosed))]
