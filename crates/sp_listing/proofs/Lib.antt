@@ -13,3 +13,4 @@ pub mod SameCell
 pub mod TextLemmas
 pub mod TypeLemmas
 pub mod WordLemmas
+pub mod ReadBack

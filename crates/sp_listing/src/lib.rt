@@ -19,7 +19,9 @@ mod tests;
 mod words;
 
 pub use error::ListError;
-pub use laws::{listing_breaks_nowhere, listing_has_one_reading, text_breaks_at_one_line};
+pub use laws::{
+    listing_breaks_nowhere, listing_has_one_reading, netlist_reads_back, text_breaks_at_one_line,
+};
 pub use lines::write;
 pub use reader::read;
 pub use std::alloc::AllocError as NoMemory;
