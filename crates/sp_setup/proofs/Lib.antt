@@ -4,6 +4,7 @@ pub mod TableLemmas
 pub mod Turns
 pub mod CellLemmas
 pub mod DramLemmas
+pub mod ExclusionLemmas
 pub mod FileLemmas
 pub mod FitLemmas
 pub mod SetupLemmas

@@ -1,7 +1,12 @@
-//! What the definition of a number text's parts has to do with texts.
-ghost use Rattle.std.specs.Prelude.{◌≡◌, ℕ, Bool, List, Some};
+//! Laws of number texts and of setups. A law is a function whose contract is the law, and whose body is empty.
+ghost use Rattle.std.specs.Prelude.{◌≡◌, ℕ, Bool, List, Some, ⊤};
 ghost use Rattle.sp_words.specs.Decimal.{digits_number};
 ghost use Rattle.sp_words.specs.NumberText.{IsNumberText};
+ghost use Rattle.sp_edges.specs.Standing.{Standing, Holds};
+ghost use Rattle.sp_words.specs.Ports.{PlainPorts};
+ghost use Rattle.sp_setup.specs.declared.error.SetupError.{SetupError};
+ghost use Rattle.sp_setup.specs.declared.error.SetupEnd.TheVariants.{Refused};
+ghost use Rattle.sp_setup.specs.Setup.{PlainSetup, IsSetup, SetupEnds};
 ghost use Rattle.sp_setup.specs.Number.{NumberParts, number_parts, HasParts};
 
 /// Bytes have parts exactly where they are a number text, and the parts are those of the text.
@@ -10,4 +15,11 @@ pub fn number_texts_have_parts()
         → IsNumberText bytes parts.negative (digits_number parts.whole) parts.fraction }
     ensures every { (bytes : List ℕ) (negative : Bool) (whole : ℕ) (fraction : List ℕ) → IsNumberText bytes negative whole fraction
         → HasParts bytes negative whole fraction }
+{}
+
+/// Where all files are told, bytes that give a setup aren't refused, whatever may have failed and was asked: a setup
+/// and each refusal exclude each other.
+pub fn setups_are_not_refused()
+    ensures { (told : List ℕ → Standing) (ports : PlainPorts) (bytes : List ℕ) (plain : PlainSetup) (e : SetupError) → ((name : List ℕ) → (held : List ℕ) × (told name ≡ Holds held))
+        → IsSetup told ports bytes plain → SetupEnds told (λ _. ⊤) (λ _. ⊤) ports bytes (Refused e) → ⊥ }
 {}
