@@ -1,10 +1,16 @@
-"""A test bench in Verilog for the module of a listing, and what it prints as a result text.
+#!/usr/bin/env python3
+"""Prints a test bench in Verilog for the module of a listing, driven as a setup says.
+
+    checks/bench.py LISTING SETUP
 
 The bench holds the reset for one cycle, drives the arguments and the channels, and ends in the first cycle in which
 `done` is 1. Channels are those of docs/netlists.md: a delay for each burst of 16 words, taken in the order of time and
-then of channels.
+then of channels. It prints the lines that `simulate` prints, with words as unsigned numbers.
 """
 
+import os
+import sys
+import tomllib
 from fractions import Fraction
 
 
@@ -36,6 +42,29 @@ class Listing:
                 self.banks.append((int(words[1]), int(words[3])))
             elif words[0] in ('load', 'store'):
                 self.units.append((int(words[1]), int(words[2]), words[0] == 'load'))
+
+
+def word(text, kind):
+    """The word of a number text, rounded down."""
+    _, width, frac = kind
+    value = Fraction('01'[text] if isinstance(text, bool) else str(text)) * (1 << frac)
+    return (value.numerator // value.denominator) % (1 << width)
+
+
+def stimuli(listing, setup):
+    """The words of the arguments and DRAMs, the delays and the cycles of the setup in a file."""
+    with open(setup, 'rb') as text:
+        table = tomllib.load(text)
+    args = [word(table['args'][arg], kind) for arg, kind in listing.args]
+    drams = []
+    for dram, kind, size in listing.drams:
+        file = table.get('dram', {}).get(dram)
+        if file is None:
+            drams.append([0] * size)
+        else:
+            with open(os.path.join(os.path.dirname(setup), file), encoding='ascii') as cells:
+                drams.append([word(cell.strip(), kind) for row in cells for cell in row.split(',')])
+    return args, drams, table.get('delays', []), table.get('cycles', 1_000_000)
 
 
 def port(name, width, kind):
@@ -147,3 +176,13 @@ def result_text(listing, printed):
             words[2:] = [value_text(int(w), kind) for w in words[2:]]
         lines.append(' '.join(words))
     return '\n'.join(lines) + '\n'
+
+
+def main():
+    with open(sys.argv[1], encoding='ascii') as text:
+        listing = Listing(text.read())
+    print(bench(listing, *stimuli(listing, sys.argv[2])), end='')
+
+
+if __name__ == '__main__':
+    main()

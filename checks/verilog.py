@@ -1,9 +1,10 @@
 #!/usr/bin/env python3
 """Runs the Verilog texts that verilog_runs prints in other tools, where these are installed.
 
-Icarus Verilog runs each text beside a bench and must print the results that the simulator printed, without a warning;
-Verilator must find nothing to warn of; Yosys must read it and elaborate it to registers and logic without a problem. The texts and the results are those of
-crates/verilog_runs/stdout, which the gate compares with what the program prints.
+Icarus Verilog runs each text beside a bench and must print the results that the simulator printed, without a warning
+(the text of a listing whose taps conflict is compiled alone); Verilator must find nothing to warn of; Yosys must read
+it and synthesise it to registers, memories, adders and the like without a problem. The texts and the results are those
+of crates/verilog_runs/stdout, which the gate compares with what the program prints.
 """
 
 import os
@@ -11,24 +12,33 @@ import shutil
 import subprocess
 import sys
 import tempfile
-import tomllib
-from fractions import Fraction
 
 import bench
 
 HERE = os.path.dirname(os.path.abspath(__file__))
 RUNS = os.path.join(HERE, '..', 'crates', 'verilog_runs')
 
-# a text stands in a file of another name than its module; a netlist may have nets that nothing reads, and compare a net
-# of one bit, or with a constant, in a way that has one answer
-WAIVED = ['-Wno-DECLFILENAME', '-Wno-UNUSEDSIGNAL', '-Wno-CMPCONST', '-Wno-UNSIGNED']
+# a text stands in a file of another name than its module; a netlist may have nets that nothing reads and banks that
+# nothing writes, and compare a net of one bit, or with a constant, in a way that has one answer
+WAIVED = ['-Wno-DECLFILENAME', '-Wno-UNUSEDSIGNAL', '-Wno-UNDRIVEN', '-Wno-CMPCONST', '-Wno-UNSIGNED']
 
 
-def word(text, kind):
-    """The word of a number text, rounded down."""
-    _, width, frac = kind
-    value = Fraction('01'[text] if isinstance(text, bool) else str(text)) * (1 << frac)
-    return (value.numerator // value.denominator) % (1 << width)
+# the listings and setups of examples/ among those that are run
+EXAMPLES = {'counter': 'counter/counter', 'conflict': 'conflict/conflict', 'delayed_sum': 'delays/sum', 'sum': 'sum'}
+
+
+def same_file(one, other):
+    with open(one, 'rb') as a, open(other, 'rb') as b:
+        return a.read() == b.read()
+
+
+def stale_examples():
+    """The files of examples/ that differ from the copies that are run."""
+    for name, path in EXAMPLES.items():
+        for end in ('.net', '.toml'):
+            example = os.path.join(HERE, '..', 'examples', path + end)
+            if os.path.exists(example) and not same_file(example, os.path.join(RUNS, 'data', name + end)):
+                yield example
 
 
 def sections():
@@ -40,22 +50,6 @@ def sections():
             yield name, result, 'module ' + text
 
 
-def stimuli(name, listing):
-    """The words of the arguments and DRAMs, the delays and the cycles of a setup."""
-    with open(os.path.join(RUNS, 'data', name + '.toml'), 'rb') as setup:
-        table = tomllib.load(setup)
-    args = [word(table['args'][arg], kind) for arg, kind in listing.args]
-    drams = []
-    for dram, kind, size in listing.drams:
-        file = table.get('dram', {}).get(dram)
-        if file is None:
-            drams.append([0] * size)
-        else:
-            with open(os.path.join(RUNS, 'data', file), encoding='ascii') as cells:
-                drams.append([word(cell, kind) for cell in cells.read().split()])
-    return args, drams, table.get('delays', []), table['cycles']
-
-
 def output_of(words, folder):
     done = subprocess.run(words, cwd=folder, capture_output=True, text=True, check=False)
     return done.stdout + done.stderr if done.returncode == 0 else f'status {done.returncode}\n' + done.stdout + done.stderr
@@ -64,8 +58,10 @@ def output_of(words, folder):
 def icarus(name, result, folder):
     with open(os.path.join(RUNS, 'data', name + '.net'), encoding='ascii') as text:
         listing = bench.Listing(text.read())
+    if result.startswith('conflict'):
+        return output_of(['iverilog', '-g2005', '-Wall', '-Wno-timescale', '-o', 'run', 'spatial.v'], folder)
     with open(os.path.join(folder, 'bench.v'), 'w', encoding='ascii') as out:
-        out.write(bench.bench(listing, *stimuli(name, listing)))
+        out.write(bench.bench(listing, *bench.stimuli(listing, os.path.join(RUNS, 'data', name + '.toml'))))
     said = output_of(['iverilog', '-g2005', '-Wall', '-Wno-timescale', '-o', 'run', 'bench.v', 'spatial.v'], folder)
     if said:
         return said
@@ -78,12 +74,16 @@ def verilator(folder):
 
 
 def yosys(folder):
-    return output_of(['yosys', '-q', '-p', 'read_verilog spatial.v; hierarchy -check -top spatial; proc; check -assert'], folder)
+    script = 'read_verilog spatial.v; hierarchy -check -top spatial; synth -run begin:fine; check -assert'
+    return output_of(['yosys', '-q', '-p', script], folder)
 
 
 def main():
     tools = [tool for tool in ('iverilog', 'verilator', 'yosys') if shutil.which(tool)]
     passed = failed = 0
+    for example in stale_examples():
+        failed += 1
+        print(f'{example} differs from its copy in crates/verilog_runs/data')
     for name, result, text in sections():
         with tempfile.TemporaryDirectory() as folder:
             with open(os.path.join(folder, 'spatial.v'), 'w', encoding='ascii') as out:
