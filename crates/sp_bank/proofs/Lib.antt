@@ -4,6 +4,7 @@ pub mod Distinct
 pub mod First
 pub mod Floor
 pub mod Gcd
+pub mod HingeLemmas
 pub mod Integers
 pub mod MemorySizes
 pub mod Order

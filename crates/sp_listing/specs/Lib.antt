@@ -5,3 +5,4 @@ pub mod Reading
 pub mod Refusal
 pub mod Standing
 pub mod Text
+pub mod Texts

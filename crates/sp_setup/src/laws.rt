@@ -1,12 +1,14 @@
 //! Laws of number texts and of setups. A law is a function whose contract is the law, and whose body is empty.
-ghost use Rattle.std.specs.Prelude.{◌≡◌, ℕ, Bool, List, Some, ⊤};
+ghost use Rattle.std.specs.Prelude.{◌≡◌, ℕ, Bool, List, Some, ⊤, codes};
+ghost use Rattle.toml.specs.Data.{Members};
 ghost use Rattle.sp_words.specs.Decimal.{digits_number};
 ghost use Rattle.sp_words.specs.NumberText.{IsNumberText};
 ghost use Rattle.sp_edges.specs.Standing.{Standing, Holds};
 ghost use Rattle.sp_words.specs.Ports.{PlainPorts};
 ghost use Rattle.sp_setup.specs.declared.error.SetupError.{SetupError};
 ghost use Rattle.sp_setup.specs.declared.error.SetupEnd.TheVariants.{Refused};
-ghost use Rattle.sp_setup.specs.Setup.{PlainSetup, IsSetup, SetupEnds};
+ghost use Rattle.sp_setup.specs.Checks.{count_of, integer_at};
+ghost use Rattle.sp_setup.specs.Setup.{PlainSetup, IsSetup, SetupEnds, IsDocument, IsNoDocument};
 ghost use Rattle.sp_setup.specs.Number.{NumberParts, number_parts, HasParts};
 
 /// Bytes have parts exactly where they are a number text, and the parts are those of the text.
@@ -22,4 +24,10 @@ pub fn number_texts_have_parts()
 pub fn setups_are_not_refused()
     ensures { (told : List ℕ → Standing) (ports : PlainPorts) (bytes : List ℕ) (plain : PlainSetup) (e : SetupError) → ((name : List ℕ) → (held : List ℕ) × (told name ≡ Holds held))
         → IsSetup told ports bytes plain → SetupEnds told (λ _. ⊤) (λ _. ⊤) ports bytes (Refused e) → ⊥ }
+{}
+
+/// A text with one count is a document in which the count is read; one whose count is missing is none.
+pub fn documents_are_told_apart()
+    ensures one { (top : Members) × IsDocument (codes "turns = 7") top × (count_of (integer_at (codes "turns") top) ≡ 7) }
+    ensures none { IsNoDocument (codes "turns = ") }
 {}
