@@ -24,7 +24,8 @@ WAIVED = ['-Wno-DECLFILENAME', '-Wno-UNUSEDSIGNAL', '-Wno-UNDRIVEN', '-Wno-CMPCO
 
 
 # the listings and setups of examples/ among those that are run
-EXAMPLES = {'counter': 'counter/counter', 'conflict': 'conflict/conflict', 'delayed_sum': 'delays/sum', 'sum': 'sum'}
+EXAMPLES = {'counter': 'counter/counter', 'conflict': 'conflict/conflict', 'delayed_sum': 'delays/sum',
+            'sum': 'sum', 'rectangle': 'rectangle', 'polynomial': 'polynomial'}
 
 
 def same_file(one, other):
