@@ -105,6 +105,9 @@ compile F S|val x = ArgIn[Int];val y = ArgOut[Int];Accel {;  y := x + 3;};||-|2|
 simulate F|netlist 1;in x 0 s32.0;const 1 32 3;op 2 s32.0 add 0 1;reg 3 32 0 2 4;const 4 1 1;reg 5 1 0 4 4;out y 3 s32.0;done 5;||-|2|words: not in the command table;\n\
 simulate F -S|netlist 1;in x 0 s32.0;const 1 32 3;op 2 s32.0 add 0 1;reg 3 32 0 2 4;const 4 1 1;reg 5 1 0 4 4;out y 3 s32.0;done 5;||-|2|words: not in the command table;\n\
 simulate F S S|netlist 1;in x 0 s32.0;const 1 32 3;op 2 s32.0 add 0 1;reg 3 32 0 2 4;const 4 1 1;reg 5 1 0 4 4;out y 3 s32.0;done 5;||-|2|words: not in the command table;\n\
+compile F|val x = ArgIn[Int];val y = ArgOut[Int];Accel {;};|-|-|0|netlist 1;in x 0 s32.0;reg 1 32 0 1 2;const 2 1 1;reg 3 1 0 2 2;out y 1 s32.0;done 3;\n\
+compile F|val x = ArgIn[Int];val y = ArgOut[Int];Accel {;  y := x + 3;};|-|-|0|netlist 1;in x 0 s32.0;const 1 32 3;op 2 s32.0 add 0 1;reg 3 32 0 2 4;const 4 1 1;reg 5 1 0 4 4;out y 3 s32.0;done 5;\n\
+compile F|val x = ArgIn[Int];val y = ArgOut[Int];Accel {;  y := x + 3;  y := x * x;};|-|-|0|netlist 1;in x 0 s32.0;const 1 32 3;op 2 s32.0 add 0 1;op 3 s32.0 mul 0 0;reg 4 32 0 3 5;const 5 1 1;reg 6 1 0 5 5;out y 4 s32.0;done 6;\n\
 compile Q|val x = ArgIn[Int];val y = ArgOut[Int];Accel {;  y := x + 3;};|-|-|8|read fault;\n\
 compile F||-|-|15|unbuilt at line 1;\n\
 compile F|val x = ArgIn[Int];val y = ArgOut[Int];Accel {;  y := x + 3;|-|-|15|unbuilt at line 5;\n\

@@ -17,9 +17,6 @@ use sp_netlist::{Builder, Cell, CellOp, NetId, Netlist, one_run};
 use sp_words::Ty;
 use std::alloc::{AllocError as NoMemory, Global};
 
-#[cfg(test)]
-mod tests;
-
 /// How many bits an `Int` has.
 const INT_WIDTH: u8 = 32;
 
