@@ -1,0 +1,12 @@
+pub mod Combination
+pub mod Core
+pub mod Early
+pub mod ExampleCores
+pub mod ExamplePrograms
+pub mod Numbers
+pub mod Operations
+pub mod Registers
+pub mod Runs
+pub mod Stages
+pub mod Uses
+pub mod Values

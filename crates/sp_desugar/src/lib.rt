@@ -1,0 +1,6 @@
+//! From typed programs to cores: the sugar is removed.
+#![tactic(auto)]
+
+mod examples;
+
+pub use examples::{worked_cores, worked_cores_are_right, worked_meanings};
