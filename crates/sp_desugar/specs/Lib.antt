@@ -1,8 +1,10 @@
+pub mod Agreement
 pub mod Combination
 pub mod Core
 pub mod Early
 pub mod ExampleCores
 pub mod ExamplePrograms
+pub mod Laws
 pub mod Numbers
 pub mod Operations
 pub mod Registers

@@ -2,5 +2,7 @@
 #![tactic(auto)]
 
 mod examples;
+mod laws;
 
 pub use examples::{worked_cores, worked_cores_are_right, worked_meanings};
+pub use laws::expressions_are_followed;

@@ -1,0 +1,6 @@
+pub mod Follows
+pub mod GoOnLemmas
+pub mod MemoryLemmas
+pub mod NumberLemmas
+pub mod StepLemmas
+pub mod TwinLemmas

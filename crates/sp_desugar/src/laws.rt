@@ -1,0 +1,11 @@
+//! Laws of desugaring. Each function does nothing: what it ensures is the law.
+
+ghost use Rattle.sp_tree.specs.PlainExpression.{PlainExpr};
+ghost use Rattle.sp_tree.specs.PlainProgram.{PlainProgram};
+ghost use Rattle.sp_core.specs.PlainCore.{PlainCore};
+ghost use Rattle.sp_desugar.specs.Laws.{IsFollowed};
+
+/// The operations of an expression give its word, and do to memories what the expression does.
+pub fn expressions_are_followed()
+    ensures { (p : PlainProgram) (core : PlainCore) (e : PlainExpr) → IsFollowed p core e }
+{}
