@@ -1,5 +1,5 @@
 -- Steps of a program that went on, taken apart; and steps of a core that go on, put together.
-use Rattle.std.proofs.Common.{◌≡◌, ℕ, refl, sym, ap, subst}
+use Rattle.std.proofs.Common.{◌≡◌, ℕ, zero, suc, refl, sym, ap, subst}
 use Rattle.sp_tree.specs.declared.statement.FaultKind.{FaultKind}
 use Rattle.sp_tree.specs.Step as program
 use Rattle.sp_tree.specs.Store as program_store
@@ -63,6 +63,12 @@ taken_apart {A = A} {B = B} step more left s b rest t e = go (step left s) refl 
     go (program.went a n u) h k = record { answer = a; between = n; store = u; first = h; second = k }
     go (program.faulted kind place) h k = not_faulted kind place b rest t k
     go program.more h k = not_more b rest t k
+
+-- a turn changes nothing
+pub turn_taken : (x : Unit {0}) (left rest : ℕ) (s t : program_store.Store) → program.turn left s ≡ program.went x rest t → t ≡ s
+unfolding program.turn
+turn_taken x zero rest s t e = not_more x rest t e
+turn_taken x (suc left) rest s t e = sym (same_store tt x left rest s t e)
 
 -- a step of a core that goes on, before another one
 pub then_on : {A B : Type 0} (step : core.Step A) (more : A → core.Step B) (s : core_store.Store) (a : A) (t : core_store.Store) → step s ≡ core.went a t → core.◌>>=◌ step more s ≡ more a t

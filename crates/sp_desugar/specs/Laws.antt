@@ -1,23 +1,36 @@
 -- Laws of desugaring, as statements.
-use Rattle.std.specs.Prelude.{◌≡◌, ℕ, List, [], ◌∷◌, length}
+use Rattle.std.specs.Prelude.{◌≡◌, ℕ, IsTrue, List, [], ◌∷◌, length}
 use Rattle.sp_tree.specs.Expressions.{word}
 use Rattle.sp_tree.specs.PlainExpression.{PlainExpr}
 use Rattle.sp_tree.specs.PlainProgram.{PlainProgram}
 use Rattle.sp_tree.specs.Step as program
 use Rattle.sp_tree.specs.Store as program_store
-use Rattle.sp_tree.specs.Typing.{Scope, Typed}
+use Rattle.sp_tree.specs.PlainStatement.{PlainStmts}
+use Rattle.sp_tree.specs.Sequential.{run_all}
+use Rattle.sp_tree.specs.Shape.{Shape}
+use Rattle.sp_tree.specs.Structure.{own_mems, is_inner}
+use Rattle.sp_tree.specs.Typing.{Typed, BodyTyped, after_all}
 use Rattle.sp_core.specs.History.{Entry}
 use Rattle.sp_core.specs.PlainCore.{PlainCore}
-use Rattle.sp_core.specs.Scope as counters
 use Rattle.sp_core.specs.Store as store
-use Rattle.sp_desugar.specs.Agreement.{HasMemories, Agree, GoOn}
+use Rattle.sp_desugar.specs.Agreement.{HasMemories, View, at_run, HaveRooms, Apart, Agree, GoOn}
 use Rattle.sp_desugar.specs.Operations.{code}
-use Rattle.sp_desugar.specs.Values.{Sources}
+use Rattle.sp_desugar.specs.Runs.{Run, inner_run}
 
 -- where a typed expression has a word, its operations go on to give that word, at the place that its code names; no turn is
 -- taken, and what is visible agrees before and after
 abbrev pub IsFollowed : PlainProgram → PlainCore → PlainExpr → Type 0
 IsFollowed p core e =
-    (scope : Scope) (sources : Sources) (around : counters.Scope) (done : List Entry) (s after : program_store.Store) (t : store.Store) (left rest w : ℕ)
-    → HasMemories p core → Typed p scope e → Agree p core scope sources around done s t → word p.mems e left s ≡ program.went w rest after
-    → (rest ≡ left) × GoOn p core scope sources around done (code p.mems sources (length done) e).ops t after ((code p.mems sources (length done) e).word ∷ []) (w ∷ [])
+    (view : View) (done : List Entry) (s after : program_store.Store) (t : store.Store) (left rest w : ℕ)
+    → HasMemories p core → Typed p view.scope e → Agree p core view done s t → word p.mems e left s ≡ program.went w rest after
+    → (rest ≡ left) × GoOn p core view done (code p.mems view.sources (length done) e).ops t after ((code p.mems view.sources (length done) e).word ∷ []) (w ∷ [])
+
+-- the same of the statements of an inner body, each of whose memories without a reset operation is fresh before: after what a
+-- run has, the operations of the run with these statements go on as the statements do, of which none is a controller or a
+-- transfer, so their shape is empty
+abbrev pub IsInnerRun : PlainProgram → (roomy : List ℕ) → PlainCore → PlainStmts → Type 0
+IsInnerRun p roomy core body =
+    (view : View) (run : Run) (s after : program_store.Store) (t : store.Store) (left rest : ℕ) (shapes : List Shape)
+    → HasMemories p core → HaveRooms p roomy core → IsTrue (is_inner body) → BodyTyped p view.scope body → Apart (own_mems body) → view.waiting ≡ own_mems body
+    → GoOn p core (at_run view run) [] run.ops t s [] [] → run_all p.mems roomy body left s ≡ program.went shapes rest after
+    → (shapes ≡ []) × GoOn p core (at_run (record view { scope = after_all view.scope body; waiting = [] }) (inner_run p.mems run body)) [] (inner_run p.mems run body).ops t after [] []

@@ -1,11 +1,18 @@
 //! Laws of desugaring. Each function does nothing: what it ensures is the law.
 
+ghost use Rattle.std.specs.Prelude.{ℕ, List};
 ghost use Rattle.sp_tree.specs.PlainExpression.{PlainExpr};
 ghost use Rattle.sp_tree.specs.PlainProgram.{PlainProgram};
+ghost use Rattle.sp_tree.specs.PlainStatement.{PlainStmts};
 ghost use Rattle.sp_core.specs.PlainCore.{PlainCore};
-ghost use Rattle.sp_desugar.specs.Laws.{IsFollowed};
+ghost use Rattle.sp_desugar.specs.Laws.{IsFollowed, IsInnerRun};
 
 /// The operations of an expression give its word, and do to memories what the expression does.
 pub fn expressions_are_followed()
     ensures { (p : PlainProgram) (core : PlainCore) (e : PlainExpr) → IsFollowed p core e }
+{}
+
+/// The operations of an inner body do to memories what its statements do.
+pub fn inner_runs_are_followed()
+    ensures { (p : PlainProgram) (roomy : List ℕ) (core : PlainCore) (body : PlainStmts) → IsInnerRun p roomy core body }
 {}
