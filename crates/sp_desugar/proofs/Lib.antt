@@ -1,6 +1,8 @@
 pub mod Follows
 pub mod GoOnLemmas
 pub mod InnerRuns
+pub mod KeepLemmas
+pub mod Keeps
 pub mod MemoryLemmas
 pub mod NumberLemmas
 pub mod StepLemmas

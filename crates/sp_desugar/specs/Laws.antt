@@ -1,7 +1,7 @@
 -- Laws of desugaring, as statements.
 use Rattle.std.specs.Prelude.{◌≡◌, ℕ, IsTrue, List, [], ◌∷◌, length}
 use Rattle.sp_tree.specs.Expressions.{word}
-use Rattle.sp_tree.specs.PlainExpression.{PlainExpr}
+use Rattle.sp_tree.specs.PlainExpression.{PlainExpr, type_of}
 use Rattle.sp_tree.specs.PlainProgram.{PlainProgram}
 use Rattle.sp_tree.specs.Step as program
 use Rattle.sp_tree.specs.Store as program_store
@@ -9,12 +9,16 @@ use Rattle.sp_tree.specs.PlainStatement.{PlainStmts}
 use Rattle.sp_tree.specs.Sequential.{run_all}
 use Rattle.sp_tree.specs.Shape.{Shape}
 use Rattle.sp_tree.specs.Structure.{own_mems, is_inner}
-use Rattle.sp_tree.specs.Typing.{Typed, BodyTyped, after_all}
+use Rattle.sp_tree.specs.Typing.{Scope, Typed, BodyTyped, after_all}
+use Rattle.sp_core.specs.Around.{Around}
 use Rattle.sp_core.specs.History.{Entry}
 use Rattle.sp_core.specs.PlainCore.{PlainCore}
 use Rattle.sp_core.specs.Store as store
+use Rattle.sp_core.specs.Typed.{Given}
 use Rattle.sp_desugar.specs.Agreement.{HasMemories, View, at_run, HaveRooms, Apart, Agree, GoOn}
 use Rattle.sp_desugar.specs.Operations.{code}
+use Rattle.sp_desugar.specs.Rules.{MayUse, Keep}
+use Rattle.sp_desugar.specs.Values.{Sources}
 use Rattle.sp_desugar.specs.Runs.{Run, inner_run}
 
 -- where a typed expression has a word, its operations go on to give that word, at the place that its code names; no turn is
@@ -34,3 +38,10 @@ IsInnerRun p roomy core body =
     → HasMemories p core → HaveRooms p roomy core → IsTrue (is_inner body) → BodyTyped p view.scope body → Apart (own_mems body) → view.waiting ≡ own_mems body
     → GoOn p core (at_run view run) [] run.ops t s [] [] → run_all p.mems roomy body left s ≡ program.went shapes rest after
     → (shapes ≡ []) × GoOn p core (at_run (record view { scope = after_all view.scope body; waiting = [] }) (inner_run p.mems run body)) [] (inner_run p.mems run body).ops t after [] []
+
+-- the operations of a typed expression keep the rules of cores, where what is visible may be used, and give a word of its type
+abbrev pub KeepsRules : PlainProgram → PlainCore → PlainExpr → Type 0
+KeepsRules p core e =
+    (around : Around) (scope : Scope) (sources : Sources) (earlier : Given)
+    → HasMemories p core → Typed p scope e → MayUse core around p scope sources earlier
+    → Keep core around earlier (code p.mems sources (length earlier) e).ops ((code p.mems sources (length earlier) e).word ∷ []) (type_of e ∷ [])

@@ -8,6 +8,7 @@ pub mod Laws
 pub mod Numbers
 pub mod Operations
 pub mod Registers
+pub mod Rules
 pub mod Runs
 pub mod Stages
 pub mod Uses

@@ -5,7 +5,7 @@ ghost use Rattle.sp_tree.specs.PlainExpression.{PlainExpr};
 ghost use Rattle.sp_tree.specs.PlainProgram.{PlainProgram};
 ghost use Rattle.sp_tree.specs.PlainStatement.{PlainStmts};
 ghost use Rattle.sp_core.specs.PlainCore.{PlainCore};
-ghost use Rattle.sp_desugar.specs.Laws.{IsFollowed, IsInnerRun};
+ghost use Rattle.sp_desugar.specs.Laws.{IsFollowed, IsInnerRun, KeepsRules};
 
 /// The operations of an expression give its word, and do to memories what the expression does.
 pub fn expressions_are_followed()
@@ -15,4 +15,9 @@ pub fn expressions_are_followed()
 /// The operations of an inner body do to memories what its statements do.
 pub fn inner_runs_are_followed()
     ensures { (p : PlainProgram) (roomy : List ℕ) (core : PlainCore) (body : PlainStmts) → IsInnerRun p roomy core body }
+{}
+
+/// The operations of a typed expression keep the rules of cores, and give a word of its type.
+pub fn expressions_keep_rules()
+    ensures { (p : PlainProgram) (core : PlainCore) (e : PlainExpr) → KeepsRules p core e }
 {}
