@@ -5,5 +5,8 @@ pub mod KeepLemmas
 pub mod Keeps
 pub mod MemoryLemmas
 pub mod NumberLemmas
+pub mod OwnerCounts
+pub mod Owners
+pub mod Registered
 pub mod StepLemmas
 pub mod TwinLemmas

@@ -9,16 +9,16 @@ use Rattle.sp_desugar.specs.Numbers.{is_off_dram, mem_number, written_mem, writt
 number_cons : (x : PlainMem) (xs : List PlainMem) (m : ℕ) → mem_number (x ∷ xs) (suc m) ≡ cond (is_off_dram x) 1 0 + mem_number xs m
 number_cons x xs m = sum_by-cons (λ y. cond (is_off_dram y) 1 0) x (take m xs)
 
-number_kept : (x : PlainMem) (xs : List PlainMem) (m : ℕ) → is_off_dram x ≡ true → mem_number (x ∷ xs) (suc m) ≡ suc (mem_number xs m)
+pub number_kept : (x : PlainMem) (xs : List PlainMem) (m : ℕ) → is_off_dram x ≡ true → mem_number (x ∷ xs) (suc m) ≡ suc (mem_number xs m)
 number_kept x xs m e = number_cons x xs m ∙ ap (λ b. cond b 1 0 + mem_number xs m) e ∙ omega arith
 
-number_skipped : (x : PlainMem) (xs : List PlainMem) (m : ℕ) → is_off_dram x ≡ false → mem_number (x ∷ xs) (suc m) ≡ mem_number xs m
+pub number_skipped : (x : PlainMem) (xs : List PlainMem) (m : ℕ) → is_off_dram x ≡ false → mem_number (x ∷ xs) (suc m) ≡ mem_number xs m
 number_skipped x xs m e = number_cons x xs m ∙ ap (λ b. cond b 1 0 + mem_number xs m) e ∙ omega arith
 
-written_kept : (x : PlainMem) (xs : List PlainMem) → is_off_dram x ≡ true → written_mems (x ∷ xs) ≡ written_mem x ∷ written_mems xs
+pub written_kept : (x : PlainMem) (xs : List PlainMem) → is_off_dram x ≡ true → written_mems (x ∷ xs) ≡ written_mem x ∷ written_mems xs
 written_kept x xs e = ap (λ b. map written_mem (cond b (x ∷ filter is_off_dram xs) (filter is_off_dram xs))) e
 
-written_skipped : (x : PlainMem) (xs : List PlainMem) → is_off_dram x ≡ false → written_mems (x ∷ xs) ≡ written_mems xs
+pub written_skipped : (x : PlainMem) (xs : List PlainMem) → is_off_dram x ≡ false → written_mems (x ∷ xs) ≡ written_mems xs
 written_skipped x xs e = ap (λ b. map written_mem (cond b (x ∷ filter is_off_dram xs) (filter is_off_dram xs))) e
 
 pub either : {P : Type 0} (b : Bool) → (b ≡ true → P) → (b ≡ false → P) → P

@@ -1,5 +1,5 @@
 -- Laws of desugaring, as statements.
-use Rattle.std.specs.Prelude.{◌≡◌, ℕ, IsTrue, List, [], ◌∷◌, length}
+use Rattle.std.specs.Prelude.{◌≡◌, ℕ, IsTrue, List, [], ◌∷◌, length, true}
 use Rattle.sp_tree.specs.Expressions.{word}
 use Rattle.sp_tree.specs.PlainExpression.{PlainExpr, type_of}
 use Rattle.sp_tree.specs.PlainProgram.{PlainProgram}
@@ -12,6 +12,8 @@ use Rattle.sp_tree.specs.Structure.{own_mems, is_inner}
 use Rattle.sp_tree.specs.Typing.{Scope, Typed, BodyTyped, after_all}
 use Rattle.sp_core.specs.Around.{Around}
 use Rattle.sp_core.specs.History.{Entry}
+use Rattle.sp_core.specs.Invariant.{owned_in, have_owners}
+use Rattle.sp_core.specs.NodeRules.{is_owned_once}
 use Rattle.sp_core.specs.PlainCore.{PlainCore}
 use Rattle.sp_core.specs.Store as store
 use Rattle.sp_core.specs.Typed.{Given}
@@ -45,3 +47,7 @@ KeepsRules p core e =
     (around : Around) (scope : Scope) (sources : Sources) (earlier : Given)
     → HasMemories p core → Typed p scope e → MayUse core around p scope sources earlier
     → Keep core around earlier (code p.mems sources (length earlier) e).ops ((code p.mems sources (length earlier) e).word ∷ []) (type_of e ∷ [])
+
+-- no memory is owned twice, only memories that aren't ports are owned, and all of them are
+abbrev pub HaveOneOwner : PlainCore → Type 0
+HaveOneOwner core = (is_owned_once core [] (owned_in core.root) ≡ true) × IsTrue (have_owners core)

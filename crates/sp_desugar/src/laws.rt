@@ -4,8 +4,10 @@ ghost use Rattle.std.specs.Prelude.{ℕ, List};
 ghost use Rattle.sp_tree.specs.PlainExpression.{PlainExpr};
 ghost use Rattle.sp_tree.specs.PlainProgram.{PlainProgram};
 ghost use Rattle.sp_tree.specs.PlainStatement.{PlainStmts};
+ghost use Rattle.sp_tree.specs.Invariant.{IsProgram};
 ghost use Rattle.sp_core.specs.PlainCore.{PlainCore};
-ghost use Rattle.sp_desugar.specs.Laws.{IsFollowed, IsInnerRun, KeepsRules};
+ghost use Rattle.sp_desugar.specs.Core.{core_of};
+ghost use Rattle.sp_desugar.specs.Laws.{IsFollowed, IsInnerRun, KeepsRules, HaveOneOwner};
 
 /// The operations of an expression give its word, and do to memories what the expression does.
 pub fn expressions_are_followed()
@@ -20,4 +22,9 @@ pub fn inner_runs_are_followed()
 /// The operations of a typed expression keep the rules of cores, and give a word of its type.
 pub fn expressions_keep_rules()
     ensures { (p : PlainProgram) (core : PlainCore) (e : PlainExpr) → KeepsRules p core e }
+{}
+
+/// Each memory of the core of a program, but for arguments and outputs, has one owner.
+pub fn memories_have_owners()
+    ensures { (p : PlainProgram) → IsProgram p → HaveOneOwner (core_of p) }
 {}

@@ -5,4 +5,6 @@ mod examples;
 mod laws;
 
 pub use examples::{worked_cores, worked_cores_are_right, worked_meanings};
-pub use laws::{expressions_are_followed, expressions_keep_rules, inner_runs_are_followed};
+pub use laws::{
+    expressions_are_followed, expressions_keep_rules, inner_runs_are_followed, memories_have_owners,
+};
