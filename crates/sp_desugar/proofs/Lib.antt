@@ -1,3 +1,4 @@
+pub mod Declared
 pub mod Follows
 pub mod GoOnLemmas
 pub mod InnerRuns
@@ -7,6 +8,7 @@ pub mod MemoryLemmas
 pub mod NumberLemmas
 pub mod OwnerCounts
 pub mod Owners
+pub mod PortNames
 pub mod Registered
 pub mod StepLemmas
 pub mod TwinLemmas

@@ -13,6 +13,7 @@ use Rattle.sp_tree.specs.Typing.{Scope, Typed, BodyTyped, after_all}
 use Rattle.sp_core.specs.Around.{Around}
 use Rattle.sp_core.specs.History.{Entry}
 use Rattle.sp_core.specs.Invariant.{owned_in, have_owners}
+use Rattle.sp_core.specs.MemoryRules.{are_memories_right, are_ports_right}
 use Rattle.sp_core.specs.NodeRules.{is_owned_once}
 use Rattle.sp_core.specs.PlainCore.{PlainCore}
 use Rattle.sp_core.specs.Store as store
@@ -51,3 +52,7 @@ KeepsRules p core e =
 -- no memory is owned twice, only memories that aren't ports are owned, and all of them are
 abbrev pub HaveOneOwner : PlainCore → Type 0
 HaveOneOwner core = (is_owned_once core [] (owned_in core.root) ≡ true) × IsTrue (have_owners core)
+
+-- memories and ports are right by themselves
+abbrev pub AreDeclaredRight : PlainCore → Type 0
+AreDeclaredRight core = IsTrue (are_memories_right core) × IsTrue (are_ports_right core)

@@ -7,7 +7,7 @@ ghost use Rattle.sp_tree.specs.PlainStatement.{PlainStmts};
 ghost use Rattle.sp_tree.specs.Invariant.{IsProgram};
 ghost use Rattle.sp_core.specs.PlainCore.{PlainCore};
 ghost use Rattle.sp_desugar.specs.Core.{core_of};
-ghost use Rattle.sp_desugar.specs.Laws.{IsFollowed, IsInnerRun, KeepsRules, HaveOneOwner};
+ghost use Rattle.sp_desugar.specs.Laws.{IsFollowed, IsInnerRun, KeepsRules, HaveOneOwner, AreDeclaredRight};
 
 /// The operations of an expression give its word, and do to memories what the expression does.
 pub fn expressions_are_followed()
@@ -27,4 +27,9 @@ pub fn expressions_keep_rules()
 /// Each memory of the core of a program, but for arguments and outputs, has one owner.
 pub fn memories_have_owners()
     ensures { (p : PlainProgram) → IsProgram p → HaveOneOwner (core_of p) }
+{}
+
+/// The memories of the core of a program, and its ports, keep the rules of cores.
+pub fn declarations_are_right()
+    ensures { (p : PlainProgram) → IsProgram p → AreDeclaredRight (core_of p) }
 {}
