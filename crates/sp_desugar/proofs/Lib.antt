@@ -10,5 +10,7 @@ pub mod OwnerCounts
 pub mod Owners
 pub mod PortNames
 pub mod Registered
+pub mod Sizes
+pub mod Small
 pub mod StepLemmas
 pub mod TwinLemmas

@@ -12,7 +12,7 @@ use Rattle.sp_tree.specs.Structure.{own_mems, is_inner}
 use Rattle.sp_tree.specs.Typing.{Scope, Typed, BodyTyped, after_all}
 use Rattle.sp_core.specs.Around.{Around}
 use Rattle.sp_core.specs.History.{Entry}
-use Rattle.sp_core.specs.Invariant.{owned_in, have_owners}
+use Rattle.sp_core.specs.Invariant.{owned_in, have_owners, is_small}
 use Rattle.sp_core.specs.MemoryRules.{are_memories_right, are_ports_right}
 use Rattle.sp_core.specs.NodeRules.{is_owned_once}
 use Rattle.sp_core.specs.PlainCore.{PlainCore}
@@ -56,3 +56,7 @@ HaveOneOwner core = (is_owned_once core [] (owned_in core.root) ≡ true) × IsT
 -- memories and ports are right by themselves
 abbrev pub AreDeclaredRight : PlainCore → Type 0
 AreDeclaredRight core = IsTrue (are_memories_right core) × IsTrue (are_ports_right core)
+
+-- a core is small enough
+abbrev pub IsSmallEnough : PlainCore → Type 0
+IsSmallEnough core = IsTrue (is_small core)

@@ -7,7 +7,7 @@ ghost use Rattle.sp_tree.specs.PlainStatement.{PlainStmts};
 ghost use Rattle.sp_tree.specs.Invariant.{IsProgram};
 ghost use Rattle.sp_core.specs.PlainCore.{PlainCore};
 ghost use Rattle.sp_desugar.specs.Core.{core_of};
-ghost use Rattle.sp_desugar.specs.Laws.{IsFollowed, IsInnerRun, KeepsRules, HaveOneOwner, AreDeclaredRight};
+ghost use Rattle.sp_desugar.specs.Laws.{IsFollowed, IsInnerRun, KeepsRules, HaveOneOwner, AreDeclaredRight, IsSmallEnough};
 
 /// The operations of an expression give its word, and do to memories what the expression does.
 pub fn expressions_are_followed()
@@ -32,4 +32,9 @@ pub fn memories_have_owners()
 /// The memories of the core of a program, and its ports, keep the rules of cores.
 pub fn declarations_are_right()
     ensures { (p : PlainProgram) → IsProgram p → AreDeclaredRight (core_of p) }
+{}
+
+/// The core of a program has fewer than 2^29 nodes, operations, memories and DRAMs together.
+pub fn cores_are_small()
+    ensures { (p : PlainProgram) → IsProgram p → IsSmallEnough (core_of p) }
 {}

@@ -6,6 +6,6 @@ mod laws;
 
 pub use examples::{worked_cores, worked_cores_are_right, worked_meanings};
 pub use laws::{
-    declarations_are_right, expressions_are_followed, expressions_keep_rules,
+    cores_are_small, declarations_are_right, expressions_are_followed, expressions_keep_rules,
     inner_runs_are_followed, memories_have_owners,
 };
