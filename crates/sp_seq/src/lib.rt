@@ -1,0 +1,11 @@
+//! What a program does, statement by statement, on packed words.
+#![tactic(auto)]
+
+mod access;
+mod cells;
+mod memory;
+mod ring;
+mod state;
+mod words;
+
+pub use std::alloc::AllocError as NoMemory;
