@@ -1,5 +1,9 @@
 pub mod AccessLemmas
 pub mod CellLemmas
+pub mod EvaluationLemmas
+pub mod SeesLemmas
+pub mod StepLemmas
+pub mod PlaceLemmas
 pub mod RingLemmas
 pub mod StoreLemmas
 pub mod WordLemmas

@@ -23,6 +23,7 @@ changed-set {B = B} f d xs m x l = fun_ext (λ k. ⊎_elim
   where
     same : (k : ℕ) → k ≡ m → changed (λ k. f (get_or xs k d)) m (f x) k ≡ f (get_or (set xs m x) k d)
     same k e = ap (λ b. elim b as (λ _. B) [ true ↦ f x | false ↦ f (get_or xs k d) ]) (eq-eqb k m e) ∙ ap f (sym (get_or-set_same xs m x d l)) ∙ ap (λ j. f (get_or (set xs m x) j d)) (sym e)
+
     other : (k : ℕ) → k ≢ m → changed (λ k. f (get_or xs k d)) m (f x) k ≡ f (get_or (set xs m x) k d)
     other k n = ap (λ b. elim b as (λ _. B) [ true ↦ f x | false ↦ f (get_or xs k d) ]) (ne_eqb k m n) ∙ ap f (sym (get_or-set_other xs m k x d n))
 
@@ -32,7 +33,7 @@ pub hold-set : (s t : State) (m : ℕ) (x : Memory) (contents : Contents) → m 
 unfolding store_of
 hold-set s t m x contents l e v c h =
     let held : changed (λ k. held_of (memory_of s k)) m (Some contents) ≡ (λ k. held_of (memory_of t k)) =
-        ap (λ o. changed (λ k. held_of (memory_of s k)) m o) (sym h) ∙ changed-set held_of no_memory s.memories.items m x l ∙ ap (λ ms. (λ k. held_of (get_or ms k no_memory))) (sym e) in
+    ap (λ o. changed (λ k. held_of (memory_of s k)) m o) (sym h) ∙ changed-set held_of no_memory s.memories.items m x l ∙ ap (λ ms. (λ k. held_of (get_or ms k no_memory))) (sym e) in
     let values : (λ k. get_or s.values.items k 0) ≡ (λ k. get_or t.values.items k 0) = ap (λ ws. (λ k. get_or ws k 0)) (sym v) in
     let counts : (λ k. get_or s.counts.items k 0) ≡ (λ k. get_or t.counts.items k 0) = ap (λ ws. (λ k. get_or ws k 0)) (sym c) in
     λ i. record { held = held i; values = values i; counts = counts i }

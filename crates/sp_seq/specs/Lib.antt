@@ -1,2 +1,4 @@
+pub mod Evaluating
+pub mod Places
 pub mod Rows
 pub mod States

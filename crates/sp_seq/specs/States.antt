@@ -91,6 +91,7 @@ IsStorage m n _ _ = ⊥
 -- what a state has where these memories, values and counters are visible
 pub record Sees (mems : List PlainMem) (roomy : List ℕ) (scope : Scope) (s : State) : Type 0 where
   pub declared : All IsDeclaration mems
+  pub sizes : (m : ℕ) → word_count (mem mems m).dims < 2 ^ 32
   pub memories : length s.memories.items ≡ length mems
   pub stored : (m : ℕ) → m < length mems → IsStorage (mem mems m) (room mems roomy m) (mem mems m).kind (memory_of s m).storage
   pub live : (m : ℕ) → Contains scope.mems m → (m < length mems) × ((memory_of s m).live ≡ true)

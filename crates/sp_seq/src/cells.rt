@@ -71,5 +71,4 @@ impl Cells {
     {
         self.marks.fill(0);
     }
-
 }

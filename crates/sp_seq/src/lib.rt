@@ -3,7 +3,10 @@
 
 mod access;
 mod cells;
+mod element;
+mod evaluation;
 mod memory;
+mod operators;
 mod ring;
 mod state;
 mod words;
