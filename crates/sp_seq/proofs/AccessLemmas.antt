@@ -1,11 +1,11 @@
 -- How accesses go, by what the memory holds.
-use Rattle.std.proofs.Common.{◌≡◌, ℕ, ◌<◌, List, [], ◌∷◌, ◌++◌, Bool, true, false, length, get_or, set, Option, Some, None, refl, sym, ◌∙◌, ap, ap₂, subst, arith}
+use Rattle.std.proofs.Common.{◌≡◌, ℕ, zero, suc, ◌-◌, ◌<◌, List, [], ◌∷◌, ◌++◌, Bool, true, false, length, get_or, set, Option, Some, None, refl, sym, ◌∙◌, ap, ap₂, subst, arith}
 use Rattle.std.specs.Prelude.{nat_lt, not, Result}
 use Rattle.std.proofs.lemmas.List.{get_or-map}
 use Rattle.sp_tree.specs.declared.statement.FaultKind.TheVariants.{FifoFull, FifoEmpty}
 use Rattle.sp_words.specs.Memory.{Contents, cells, queue, rows, words}
 use Rattle.sp_tree.specs.Accesses.{written, hold_now, read_cell, write_cell, read_line, take_oldest, dequeue, enqueue, read_word, write_word}
-use Rattle.sp_tree.specs.Step.{Went, went, faulted, ◌>>=◌, ◌>>◌, ensure, read, change, pure, fault}
+use Rattle.sp_tree.specs.Step.{Went, went, faulted, more, ◌>>=◌, ◌>>◌, turn, ensure, read, change, pure, fault}
 use Rattle.sp_tree.specs.Store.{Store, hold, cells_of, queue_of, rows_of, words_of}
 use Rattle.sp_seq.specs.declared.memory.Memory.{Memory}
 use Rattle.sp_seq.specs.declared.memory.Storage.{Storage}
@@ -78,3 +78,13 @@ ran_read s place o w r e f = subst (λ x. Ran x r s) (sym e) (subst (λ x. Ran (
 pub not_full : (a b : Bool) → not a ≡ b → a ≡ not b
 not_full true b e = ap not e
 not_full false b e = ap not e
+
+pub turn_none : (left : ℕ) (s : Store) → left ≡ 0 → turn left s ≡ more
+unfolding turn
+turn_none zero s e = refl
+turn_none (suc left) s e = absurd (omega arith)
+
+pub turn_went : (left : ℕ) (s : Store) → 0 < left → turn left s ≡ went tt (left - 1) s
+unfolding turn
+turn_went zero s l = absurd (omega arith)
+turn_went (suc left) s l = ap (λ n. went tt n s) (omega arith)

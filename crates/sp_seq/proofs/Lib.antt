@@ -1,9 +1,11 @@
 pub mod AccessLemmas
+pub mod BeginLemmas
 pub mod CellLemmas
 pub mod EvaluationLemmas
 pub mod SeesLemmas
 pub mod StepLemmas
 pub mod PlaceLemmas
 pub mod RingLemmas
+pub mod RunningLemmas
 pub mod StoreLemmas
 pub mod WordLemmas

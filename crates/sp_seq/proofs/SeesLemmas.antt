@@ -165,6 +165,9 @@ module _ {mems : List PlainMem} {roomy : List ℕ} {s : State} {m : ℕ} {ty : T
 pub decl_at : (decls : List MemDecl) (m : ℕ) (x : MemDecl) → m < length decls → x ≡ get_or decls m x → mem (map plain_mem decls) m ≡ plain_mem x
 decl_at decls m x l e = get_or-map plain_mem decls m x no_mem l ∙ ap plain_mem (sym e)
 
+pub decl_get : (decls : List MemDecl) (m : ℕ) (d : MemDecl) → m < length decls → mem (map plain_mem decls) m ≡ plain_mem (get_or decls m d)
+decl_get decls m d l = get_or-map plain_mem decls m d no_mem l
+
 pub dims_at : (decls : List MemDecl) (m : ℕ) (d : MemDecl) → m < length decls → dims (map plain_mem decls) m ≡ (get_or decls m d).dims.items
 dims_at decls m d l = ap (λ (x : PlainMem). x.dims) (get_or-map plain_mem decls m d no_mem l)
 

@@ -69,3 +69,20 @@ room_in _ = 0
 pub same_room : (s : State) (m : ℕ) (q r : WordQueue) → IsLive s m (Queue q) → IsLive s m (Queue r) → q.room ≡ r.room
 unfolding room_in
 same_room s m q r h k = ap room_in (sym h.is ∙ k.is)
+
+-- another word of a value, and of a counter
+pub name-set : (s t : State) (v w : ℕ) → v < length s.values.items → t.values.items ≡ set s.values.items v w → t.counts.items ≡ s.counts.items → t.memories.items ≡ s.memories.items → name_value (store_of s) v w ≡ store_of t
+unfolding store_of
+name-set s t v w l e c m =
+    let held : (λ k. held_of (memory_of s k)) ≡ (λ k. held_of (memory_of t k)) = ap (λ ms. (λ k. held_of (get_or ms k no_memory))) (sym m) in
+    let values : changed (λ k. get_or s.values.items k 0) v w ≡ (λ k. get_or t.values.items k 0) = changed-set (λ x. x) 0 s.values.items v w l ∙ ap (λ ws. (λ k. get_or ws k 0)) (sym e) in
+    let counts : (λ k. get_or s.counts.items k 0) ≡ (λ k. get_or t.counts.items k 0) = ap (λ ws. (λ k. get_or ws k 0)) (sym c) in
+    λ i. record { held = held i; values = values i; counts = counts i }
+
+pub count-set : (s t : State) (k w : ℕ) → k < length s.counts.items → t.counts.items ≡ set s.counts.items k w → t.values.items ≡ s.values.items → t.memories.items ≡ s.memories.items → set_counter (store_of s) k w ≡ store_of t
+unfolding store_of
+count-set s t k w l e v m =
+    let held : (λ j. held_of (memory_of s j)) ≡ (λ j. held_of (memory_of t j)) = ap (λ ms. (λ j. held_of (get_or ms j no_memory))) (sym m) in
+    let values : (λ j. get_or s.values.items j 0) ≡ (λ j. get_or t.values.items j 0) = ap (λ ws. (λ j. get_or ws j 0)) (sym v) in
+    let counts : changed (λ j. get_or s.counts.items j 0) k w ≡ (λ j. get_or t.counts.items j 0) = changed-set (λ x. x) 0 s.counts.items k w l ∙ ap (λ ws. (λ j. get_or ws j 0)) (sym e) in
+    λ i. record { held = held i; values = values i; counts = counts i }

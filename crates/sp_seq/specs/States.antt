@@ -1,5 +1,5 @@
 -- What a state stands for, and what it has by the declarations of a program.
-use Rattle.std.specs.Prelude.{◌≡◌, ℕ, ◌<◌, ◌≤◌, ◌^◌, Bool, true, false, List, [], ◌∷◌, map, length, slice_index, slice_index_or, Option, Some, None, Result, Ok, Err, All, Contains}
+use Rattle.std.specs.Prelude.{◌≡◌, ℕ, ◌<◌, ◌≤◌, ◌^◌, Bool, true, false, List, [], ◌∷◌, map, length, replicate, slice_index, slice_index_or, slice_set, Option, Some, None, Result, Ok, Err, All, Contains}
 use Rattle.std.specs.Global.{Vec}
 use Rattle.sp_words.specs.declared.kind.Kind.{Kind}
 use Rattle.sp_words.specs.declared.kind.Kind.TheVariants as kinds
@@ -116,3 +116,25 @@ pub record IsLive (s : State) (m : ℕ) (storage : Storage) : Type 0 where
   pub inside : m < length s.memories.items
   pub live : (memory_of s m).live ≡ true
   pub is : (memory_of s m).storage ≡ storage
+
+-- the cells of a row, none of them written
+abbrev pub blank : CellRow → CellRow
+blank r = record { width = r.width; cells = replicate (length r.cells) None }
+
+-- what lies in a storage that is cleared, where a register may have a start
+abbrev pub with_start : Option ℕ → List (Option ℕ) → List (Option ℕ)
+with_start (Some w) cs = slice_set cs 0 (Some w)
+with_start None cs = cs
+
+abbrev pub cleared : Option ℕ → Storage → Contents
+cleared start (Cells c) = cells (with_start start (replicate (length c.cells) None))
+cleared start (Queue q) = queue []
+cleared start (Rows rs) = rows (map (λ r. (blank r).cells) rs.items)
+cleared start (Words w) = words w.words
+
+-- the storage can begin with that start
+abbrev pub CanBegin : Option ℕ → Storage → Type 0
+CanBegin (Some w) (Cells c) = (0 < length c.cells) × (w < 2 ^ c.width)
+CanBegin None (Cells c) = Unit {0}
+CanBegin start (Words w) = ⊥
+CanBegin start _ = Unit {0}

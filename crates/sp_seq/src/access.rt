@@ -1,12 +1,14 @@
 //! Accesses to one memory. Each memory is live, and of the kind that the access is for.
-ghost use Rattle.std.specs.Prelude.{◌≡◌, ℕ, ◌<◌, ◌^◌, length, slice_index, slice_index_or, IfOk, OnOk};
+ghost use Rattle.std.specs.Prelude.{◌≡◌, ℕ, ◌<◌, ◌^◌, true, length, slice_set, slice_index, slice_index_or, IfOk, OnOk};
 ghost use Rattle.sp_tree.specs.Accesses as accesses;
+ghost use Rattle.sp_tree.specs.Step as steps;
 ghost use Rattle.sp_tree.specs.Step.{went};
+ghost use Rattle.sp_tree.specs.Store.{hold, name_value, set_counter};
 ghost use Rattle.sp_seq.specs.declared.memory.Storage.TheVariants as storages;
 ghost use Rattle.sp_seq.specs.Rows.{CellRow, WordRow, WordQueue, no_cells};
-ghost use Rattle.sp_seq.specs.States.{CellRows, store_of, word_or_fault, Ran, IsLive, Keeps};
+ghost use Rattle.sp_seq.specs.States.{CellRows, CanBegin, cleared, memory_of, store_of, word_or_fault, Ran, IsLive, Keeps};
 
-use crate::memory::Storage;
+use crate::memory::{Storage, clear};
 use crate::state::{State, Stop};
 use sp_tree::FaultKind;
 
@@ -117,5 +119,51 @@ impl State {
             unreachable!()
         };
         words.set(at, word);
+    }
+
+    /// A turn is taken, where one is left.
+    pub(crate) fn turn(&mut self) -> Result<(), Stop>
+        ensures ran { Ran (steps.turn self.old.left (store_of self.old)) result self.new }
+        ensures keeps { OnOk result (Keeps self.old self.new) }
+        ensures taken { OnOk result (self.new.left < self.old.left) }
+    {
+        if self.left == 0 {
+            return Err(Stop::Turns);
+        }
+        self.left -= 1;
+        Ok(())
+    }
+
+    /// The memory begins: from now on it is live, and it holds what a fresh one does.
+    pub(crate) fn begin(&mut self, memory: u32, start: Option<u64>)
+        requires { (memory < length self.old.memories.items) × CanBegin start (memory_of self.old memory).storage }
+        ensures store { store_of self.new ≡ hold (store_of self.old) memory (cleared start (memory_of self.old memory).storage) }
+        ensures keeps { Keeps self.old self.new }
+        ensures live { (memory_of self.new memory).live ≡ true }
+        ensures same_left { self.new.left ≡ self.old.left }
+    {
+        let slot = &mut self.memories[memory as usize];
+        slot.live = true;
+        clear(&mut slot.storage, start);
+    }
+
+    /// A value stands for a word.
+    pub(crate) fn name(&mut self, value: u32, word: u64)
+        requires { value < length self.old.values.items }
+        ensures store { store_of self.new ≡ name_value (store_of self.old) value word }
+        ensures values { self.new.values.items ≡ slice_set self.old.values.items value word }
+        ensures others { (self.new.counts.items ≡ self.old.counts.items) × (self.new.memories.items ≡ self.old.memories.items) × (self.new.left ≡ self.old.left) }
+    {
+        self.values[value as usize] = word;
+    }
+
+    /// A counter stands for a word.
+    pub(crate) fn count(&mut self, counter: u32, word: u64)
+        requires { counter < length self.old.counts.items }
+        ensures store { store_of self.new ≡ set_counter (store_of self.old) counter word }
+        ensures counts { self.new.counts.items ≡ slice_set self.old.counts.items counter word }
+        ensures others { (self.new.values.items ≡ self.old.values.items) × (self.new.memories.items ≡ self.old.memories.items) × (self.new.left ≡ self.old.left) }
+    {
+        self.counts[counter as usize] = word;
     }
 }

@@ -7,6 +7,7 @@ mod element;
 mod evaluation;
 mod memory;
 mod operators;
+mod primitive;
 mod ring;
 mod state;
 mod words;
