@@ -3,7 +3,9 @@ pub mod BeginLemmas
 pub mod CellLemmas
 pub mod EvaluationLemmas
 pub mod SeesLemmas
+pub mod SparseLemmas
 pub mod StepLemmas
+pub mod LoopLemmas
 pub mod PlaceLemmas
 pub mod RingLemmas
 pub mod RunningLemmas

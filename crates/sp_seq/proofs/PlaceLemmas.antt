@@ -197,3 +197,16 @@ line_inside width (a ∷ b ∷ []) rs r c k h n w v e =
         no : false ≡ true → ⊥
         no e = cc
 line_inside width (a ∷ b ∷ x ∷ ds) rs r c k h n w v e = absurd h
+
+-- numbers that words are, by their tests
+pub natural_small : (i : ℕ) → i < 2 ^ 31 → natural (index_value i) ≡ i
+natural_small i l = ap natural (index_small i l)
+
+pub natural_large : (i : ℕ) → 2 ^ 31 ≤ i → IsWord int_type i → natural (index_value i) ≡ 0
+natural_large i l w = ap natural (index_large i l w)
+
+pub is_below_small : (i d : ℕ) → i < 2 ^ 31 → is_below (index_value i) d ≡ ltb i d
+is_below_small i d l = ap (λ z. is_below z d) (index_small i l)
+
+pub is_below_large : (i d : ℕ) → 2 ^ 31 ≤ i → IsWord int_type i → is_below (index_value i) d ≡ false
+is_below_large i d l w = ap (λ z. is_below z d) (index_large i l w)

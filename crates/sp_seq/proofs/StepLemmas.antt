@@ -1,8 +1,8 @@
 -- How sequences of steps go, by how their parts do.
-use Rattle.std.proofs.Common.{◌≡◌, ℕ, List, [], ◌∷◌, ◌++◌, refl, sym, ◌∙◌, ap}
+use Rattle.std.proofs.Common.{◌≡◌, ℕ, Bool, true, false, List, [], ◌∷◌, ◌++◌, refl, sym, ◌∙◌, ap}
 use Rattle.std.specs.Prelude.{Result, Ok, Err}
 use Rattle.sp_tree.specs.declared.statement.FaultKind.{FaultKind}
-use Rattle.sp_tree.specs.Step.{Step, Went, went, faulted, more, ◌>>=◌, pure}
+use Rattle.sp_tree.specs.Step.{Step, Went, went, faulted, more, ◌>>=◌, ◌>>◌, pure, fault, ensure}
 use Rattle.sp_tree.specs.Store.{Store}
 use Rattle.sp_seq.specs.declared.state.Stop.{Stop}
 use Rattle.sp_seq.specs.declared.state.Stop.TheVariants.{Fault, Turns}
@@ -55,3 +55,16 @@ ran_stop w (Err y) t stop h e = e ∙ ap halted (sym h)
 pub ran_stop_with : {A B : Type 0} (w : Went A) (a : A) (r : Result B Stop) (t : State) (stop : Stop) → IsErrAnd r (λ y. y ≡ stop) → w ≡ halted stop → Ran w (with_answer a r) t
 ran_stop_with w a (Ok b) t stop h e = absurd h
 ran_stop_with w a (Err y) t stop h e = e ∙ ap halted (sym h)
+
+-- a test that is passed, and one that isn't
+module _ {B : Type 0} (kind : FaultKind) (place : ℕ) (rest : Step B) (left : ℕ) (s : Store) where
+  tested : Bool → Went B
+  tested b = (ensure b kind place >> rest) left s
+
+  pub ensure_true : (b : Bool) → b ≡ true → (ensure b kind place >> rest) left s ≡ rest left s
+  unfolding ◌>>=◌ pure tested
+  ensure_true b e = ap tested e
+
+  pub ensure_false : (b : Bool) → b ≡ false → (ensure b kind place >> rest) left s ≡ faulted kind place
+  unfolding ◌>>=◌ fault tested
+  ensure_false b e = ap tested e

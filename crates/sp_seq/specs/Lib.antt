@@ -1,4 +1,5 @@
 pub mod Evaluating
+pub mod Moving
 pub mod Places
 pub mod Rows
 pub mod Running

@@ -9,6 +9,7 @@ mod memory;
 mod operators;
 mod primitive;
 mod ring;
+mod sparse;
 mod state;
 mod words;
 

@@ -1,0 +1,101 @@
+use Rattle.std.proofs.Common.{◌≡◌, ℕ, ◌<◌, ◌≤◌, ◌^◌, ◌+◌, Bool, true, false, List, [], ◌∷◌, map, length, get_or, refl, sym, ◌∙◌, ap, subst, arith, All}
+use Rattle.std.specs.Prelude.{nat_lt}
+use Rattle.std.proofs.lemmas.Bool.{lt-ltb, le-ltb}
+use Rattle.std.proofs.lemmas.List.{length-map}
+use Rattle.sp_words.specs.Interface.{IsCount, word_count}
+use Rattle.sp_words.specs.Types.{int_type, width_of}
+use Rattle.sp_tree.specs.Elements.{index_value, natural, is_below, numbers_below}
+use Rattle.sp_tree.specs.Expressions.{dims, word}
+use Rattle.sp_tree.specs.Plain.{plain_expr, plain_mem}
+use Rattle.sp_tree.specs.Shape.{moved}
+use Rattle.sp_tree.specs.Step.{went, in_order}
+use Rattle.sp_tree.specs.Typing.{mem_at}
+use Rattle.sp_seq.specs.Moving.{place_at, gathered, scattered}
+use Rattle.sp_seq.specs.States.{store_of, Ran}
+use Rattle.sp_seq.proofs.LoopLemmas.{going_start, going_on, going_halted, going_over, length-numbers, number_at}
+use Rattle.sp_seq.proofs.RunningLemmas.{finished_stop, stands_kept}
+use Rattle.sp_seq.proofs.SeesLemmas.{setting_later, seen_mem, live_sram, live_dram, keeps_same, keeps_on, counts_of}
+use Rattle.sp_seq.proofs.SparseLemmas.{place_halted, place_outside, place_went, place_missing, gathered_halted, gathered_outside, gathered_spent, gathered_went, scattered_halted, scattered_outside, scattered_unread, scattered_spent, scattered_went, gather_halted, gather_stopped, gather_went, scatter_halted, scatter_stopped, scatter_went}
+use Rattle.sp_seq.proofs.StepLemmas.{ran_stop}
+use Rattle.sp_seq.proofs.state.State.gather.Goals as goal
+
+pub returns-in_err-word : goal.returns-in_err-word
+returns-in_err-word c =
+    let a = c.args in
+    let mems = map plain_mem a.decls.now in
+    let s = a.self.now in
+    let step = gathered mems a.at a.sram a.dram a.places in
+    λ can. finished_stop mems can.setting.roomy _ s _ _ _ c.in_err-word.field-0.0 c.from_residual.ensures.1 (gather_halted mems can.setting.roomy a.at s.left (store_of s) a.sram a.dram a.places (plain_expr a.count.now) c.in_err-word.field-0.0 c.in_err-word.ensures.ran)
+
+pub loop-k-init : goal.loop-k-init
+loop-k-init c =
+    let a = c.args in
+    let mems = map plain_mem a.decls.now in
+    let s = a.self.now in
+    let step = gathered mems a.at a.sram a.dram a.places in
+    record { going = going_start step (numbers_below c.natural-words.result) c.word.new.self; keeps = keeps_same c.word.new.self }
+
+pub gather_one-requires : goal.gather_one-requires
+gather_one-requires c =
+    let a = c.args in
+    let mems = map plain_mem a.decls.now in
+    let s = a.self.now in
+    let step = gathered mems a.at a.sram a.dram a.places in
+    let now = c.loop-k.self in
+    let start = c.word.new.self in
+    let inv = c.loop-k.invariant in
+    let w = c.in_ok-word.field-0 in
+    let xs = numbers_below c.natural-words.result in
+    let inside : c.loop-k.k < length xs = omega (arith, length-numbers c.natural-words.result) in
+    let at = number_at c.natural-words.result c.loop-k.k 0 (omega arith) in
+    let t = c.requires.typed in
+    let later = setting_later (setting_later c.requires.setting c.in_ok-word.ensures.keeps) inv.keeps in
+    record { setting = later; ty = (mem_at c.requires.setting.program a.sram).ty; on_chip = t.0; outside = t.1.in_dram; held = t.1.from_sram }
+
+pub returns-in_err-gather_one : goal.returns-in_err-gather_one
+returns-in_err-gather_one c =
+    let a = c.args in
+    let mems = map plain_mem a.decls.now in
+    let s = a.self.now in
+    let step = gathered mems a.at a.sram a.dram a.places in
+    let now = c.loop-k.self in
+    let start = c.word.new.self in
+    let inv = c.loop-k.invariant in
+    let w = c.in_ok-word.field-0 in
+    let xs = numbers_below c.natural-words.result in
+    let inside : c.loop-k.k < length xs = omega (arith, length-numbers c.natural-words.result) in
+    let at = number_at c.natural-words.result c.loop-k.k 0 (omega arith) in
+    let stopped = going_halted step xs _ now c.loop-k.k inv.going 0 inside c.in_err-gather_one.field-0.0 (ap (λ j. step j now.left (store_of now)) at ∙ c.in_err-gather_one.ensures.ran) in
+    let same = ap (λ n. in_order step (numbers_below n) start.left (store_of start)) (sym c.natural-words.ensures) in
+    λ can. finished_stop mems can.setting.roomy _ s _ _ _ c.in_err-gather_one.field-0.0 c.from_residual-in_err-gather_one.ensures.1 (gather_stopped mems can.setting.roomy a.at s.left (store_of s) a.sram a.dram a.places (plain_expr a.count.now) w start.left (store_of start) c.in_ok-word.ensures.ran c.in_err-gather_one.field-0.0 (same ∙ stopped))
+
+pub loop-k-preserved : goal.loop-k-preserved
+loop-k-preserved c =
+    let a = c.args in
+    let mems = map plain_mem a.decls.now in
+    let s = a.self.now in
+    let step = gathered mems a.at a.sram a.dram a.places in
+    let now = c.loop-k.self in
+    let start = c.word.new.self in
+    let inv = c.loop-k.invariant in
+    let w = c.in_ok-word.field-0 in
+    let xs = numbers_below c.natural-words.result in
+    let inside : c.loop-k.k < length xs = omega (arith, length-numbers c.natural-words.result) in
+    let at = number_at c.natural-words.result c.loop-k.k 0 (omega arith) in
+    let next = c.gather_one.new.self in
+    record { going = going_on step xs _ now c.loop-k.k inv.going 0 inside next tt (ap (λ j. step j now.left (store_of now)) at ∙ c.in_ok-gather_one.ensures.ran); keeps = keeps_on _ _ _ inv.keeps c.in_ok-gather_one.ensures.keeps }
+
+pub returns : goal.returns
+returns c =
+    let a = c.args in
+    let mems = map plain_mem a.decls.now in
+    let s = a.self.now in
+    let step = gathered mems a.at a.sram a.dram a.places in
+    λ can.
+    let now = c.loop-k.self in
+    let start = c.word.new.self in
+    let inv = c.loop-k.invariant in
+    let xs = numbers_below c.natural-words.result in
+    let over = going_over step xs _ now c.loop-k.k inv.going (omega (arith, length-numbers c.natural-words.result)) in
+    let same = ap (λ n. in_order step (numbers_below n) start.left (store_of start)) (sym c.natural-words.ensures) in
+    (moved (natural (index_value c.in_ok-word.field-0) ∷ []) ∷ [], gather_went mems can.setting.roomy a.at s.left (store_of s) a.sram a.dram a.places (plain_expr a.count.now) c.in_ok-word.field-0 start.left (store_of start) c.in_ok-word.ensures.ran inv.going.done now.left (store_of now) (same ∙ over), stands_kept can.setting.sees (keeps_on _ _ _ c.in_ok-word.ensures.keeps inv.keeps))
