@@ -3,6 +3,7 @@ pub mod BeginLemmas
 pub mod CellLemmas
 pub mod EvaluationLemmas
 pub mod SeesLemmas
+pub mod SliceLemmas
 pub mod SparseLemmas
 pub mod StepLemmas
 pub mod LoopLemmas

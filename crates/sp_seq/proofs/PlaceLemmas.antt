@@ -210,3 +210,7 @@ is_below_small i d l = ap (λ z. is_below z d) (index_small i l)
 
 pub is_below_large : (i d : ℕ) → 2 ^ 31 ≤ i → IsWord int_type i → is_below (index_value i) d ≡ false
 is_below_large i d l w = ap (λ z. is_below z d) (index_large i l w)
+
+pub index_negative : (i : ℕ) → 2 ^ 31 ≤ i → i < 2 ^ 32 → index_value i ≡ pos i -ℤ pos 4294967296
+unfolding value_of has_sign
+index_negative i l h = ap (signed i) (le-leb 2147483648 i l)

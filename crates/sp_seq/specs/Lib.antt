@@ -3,4 +3,5 @@ pub mod Moving
 pub mod Places
 pub mod Rows
 pub mod Running
+pub mod Slices
 pub mod States

@@ -9,6 +9,7 @@ mod memory;
 mod operators;
 mod primitive;
 mod ring;
+mod slice;
 mod sparse;
 mod state;
 mod words;
