@@ -1,0 +1,9 @@
+pub mod First
+pub mod Fixed
+pub mod Visible
+pub mod Types
+pub mod Literal
+pub mod Expressions
+pub mod Spans
+pub mod Statements
+pub mod Plain
