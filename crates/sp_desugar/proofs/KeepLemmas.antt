@@ -95,3 +95,28 @@ module _ (core : PlainCore) (around : Around) where
 
         at_place : length (earlier ++ given_by ops) ≡ place
         at_place = omega (arith, length-append earlier (given_by ops), given_length ops, e)
+
+  -- the same under a mask
+  module _ (earlier : Given) (ops : List PlainOp) (ks : List ℕ) (ts : List Ty) (one : Keep core around earlier ops ks ts) (kind : OpKind) (ty : Ty) (m : Option ℕ) (mask : ℕ)
+      (range : is_in_range kind ty around ≡ true) (names : names_rightly core around kind ty m ≡ true) (takes : taken_types kind ty (indices_of core around m) ≡ ts) (masked : gives (earlier ++ given_by ops) mask Bit ≡ true) where
+    abbrev masked_op : PlainOp
+    masked_op = record { kind = kind; ty = ty; args = ks; mem = m; mask = Some mask }
+
+    masked_with : are_operations_right_after core around earlier (ops ++ masked_op ∷ []) ≡ true
+    masked_with = right_append earlier ops (masked_op ∷ []) one.right
+        (and_from _ _ (and_from _ _ (and_from _ _ range names) (and_from _ _ (subst (λ x. give_all (earlier ++ given_by ops) ks x ≡ true) (sym takes) one.give) masked)) refl)
+
+    pub masked_silent : Keep core around earlier (ops ++ masked_op ∷ []) [] []
+    masked_silent = record { right = masked_with; give = refl }
+
+    pub masked_one : (t : Ty) (place : ℕ) → given_type kind ty ≡ Some t → place ≡ length earlier + length ops → Keep core around earlier (ops ++ masked_op ∷ []) (place ∷ []) (t ∷ [])
+    masked_one t place g e = record { right = masked_with; give = and_from _ _ (subst (λ k. gives (earlier ++ given_by (ops ++ masked_op ∷ [])) k t ≡ true) at_place (subst (λ x. gives x (length (earlier ++ given_by ops)) t ≡ true) same (gives_last (earlier ++ given_by ops) t))) refl }
+      where
+        same : (earlier ++ given_by ops) ++ Some t ∷ [] ≡ earlier ++ given_by (ops ++ masked_op ∷ [])
+        same = append_assoc earlier (given_by ops) (Some t ∷ []) ∙ ap (λ x. earlier ++ (given_by ops ++ x ∷ [])) (sym g) ∙ ap (λ x. earlier ++ x) (sym (given_append ops (masked_op ∷ [])))
+
+        at_place : length (earlier ++ given_by ops) ≡ place
+        at_place = omega (arith, length-append earlier (given_by ops), given_length ops, e)
+
+pub gives_more : (earlier gs hs : Given) (k : ℕ) (ty : Ty) → gives (earlier ++ gs) k ty ≡ true → gives (earlier ++ (gs ++ hs)) k ty ≡ true
+gives_more earlier gs hs k ty e = subst (λ g. gives g k ty ≡ true) (append_assoc earlier gs hs) (gives_still (earlier ++ gs) hs k ty e)

@@ -72,6 +72,12 @@ module _ (core : PlainCore) (around : Around) where
   source_keeps (constant w) ty at earlier e f = keep_one core around earlier [] [] [] (keep_nothing core around earlier) (kind.Word w) ty None (lt-ltb w (2 ^ width_of ty) f) refl refl ty at refl (omega (arith, e))
   source_keeps (count c) ty at earlier e f = keep_one core around earlier [] [] [] (keep_nothing core around earlier) (kind.Count c 0) ty None (and_from _ _ f.0 (subst (λ x. is_type x int_type ≡ true) (sym f.1) (type_is int_type))) refl refl ty at refl (omega (arith, e))
 
+  pub source_still : (earlier more : Given) (source : Source) (ty : Ty) → IsSource core around earlier ty source → IsSource core around (earlier ++ more) ty source
+  source_still earlier more (at_place k) ty f = gives_still earlier more k ty f
+  source_still earlier more (in_register r) ty f = f
+  source_still earlier more (constant w) ty f = f
+  source_still earlier more (count c) ty f = f
+
 module _ (p : PlainProgram) (core : PlainCore) (h : HasMemories p core) (around : Around) (scope : Scope) (sources : Sources) where
   abbrev May : Given → Type 0
   May earlier = MayUse core around p scope sources earlier
@@ -81,13 +87,7 @@ module _ (p : PlainProgram) (core : PlainCore) (h : HasMemories p core) (around 
 
   -- what may be used still may
   pub may_still : (earlier more : Given) → May earlier → May (earlier ++ more)
-  may_still earlier more m = record { mems = m.mems; vals = λ v c. source_still (sources v.0) v.1 (m.vals v c); counters = m.counters }
-    where
-      source_still : (source : Source) (ty : Ty) → IsSource core around earlier ty source → IsSource core around (earlier ++ more) ty source
-      source_still (at_place k) ty f = gives_still earlier more k ty f
-      source_still (in_register r) ty f = f
-      source_still (constant w) ty f = f
-      source_still (count c) ty f = f
+  may_still earlier more m = record { mems = m.mems; vals = λ v c. source_still core around earlier more (sources v.0) v.1 (m.vals v c); counters = m.counters }
 
   -- a visible memory on the chip
   module _ (m : ℕ) (K : Kind) (ty : Ty) (is : IsMem p scope m K ty) (chip : is_dram K ≡ false) (earlier : Given) (may : May earlier) where

@@ -1,6 +1,11 @@
 -- Laws of desugaring, as statements.
-use Rattle.std.specs.Prelude.{◌≡◌, ℕ, IsTrue, List, [], ◌∷◌, length, true}
-use Rattle.sp_tree.specs.Expressions.{word}
+use Rattle.std.specs.Prelude.{◌≡◌, ℕ, ◌+◌, ◌≤◌, ◌==◌, Bool, false, ◌||◌, IsTrue, List, [], ◌∷◌, map, length, Contains, All, true}
+use Rattle.sp_words.specs.declared.kind.Kind.TheVariants.{Sram}
+use Rattle.sp_words.specs.declared.types.Ty.{Ty}
+use Rattle.sp_words.specs.declared.types.Ty.TheVariants.{Bit}
+use Rattle.sp_words.specs.Interface.{IsCount}
+use Rattle.sp_tree.specs.declared.statement.Comb.{Comb}
+use Rattle.sp_tree.specs.Expressions.{mem, dims, word}
 use Rattle.sp_tree.specs.PlainExpression.{PlainExpr, type_of}
 use Rattle.sp_tree.specs.PlainProgram.{PlainProgram}
 use Rattle.sp_tree.specs.Step as program
@@ -10,17 +15,21 @@ use Rattle.sp_tree.specs.Sequential.{run_all}
 use Rattle.sp_tree.specs.Shape.{Shape}
 use Rattle.sp_tree.specs.Structure.{own_mems, is_inner}
 use Rattle.sp_tree.specs.Typing.{Scope, Typed, BodyTyped, after_all}
-use Rattle.sp_core.specs.Around.{Around}
+use Rattle.sp_core.specs.Around.{Around, within}
 use Rattle.sp_core.specs.History.{Entry}
 use Rattle.sp_core.specs.Invariant.{owned_in, have_owners, is_small}
 use Rattle.sp_core.specs.MemoryRules.{are_memories_right, are_ports_right}
-use Rattle.sp_core.specs.NodeRules.{is_owned_once}
-use Rattle.sp_core.specs.PlainCore.{PlainCore}
+use Rattle.sp_core.specs.NodeRules.{are_counters_right, is_node_right, is_owned_once}
+use Rattle.sp_core.specs.PlainCore.{PlainCounter, PlainCore}
 use Rattle.sp_core.specs.Store as store
 use Rattle.sp_core.specs.Typed.{Given}
 use Rattle.sp_desugar.specs.Agreement.{HasMemories, View, at_run, HaveRooms, Apart, Agree, GoOn}
 use Rattle.sp_desugar.specs.Operations.{code}
-use Rattle.sp_desugar.specs.Rules.{MayUse, Keep}
+use Rattle.sp_desugar.specs.Combination.{element_loop}
+use Rattle.sp_desugar.specs.Numbers.{mem_number}
+use Rattle.sp_desugar.specs.Rules.{IsRegister, IsElements, MayUse, MayNeed, MayOwn, Keep}
+use Rattle.sp_desugar.specs.Stages.{Combines, nothing, folds, reduces, reduces_elements, inner_node}
+use Rattle.sp_desugar.specs.Uses.{uses, are_using, names_after}
 use Rattle.sp_desugar.specs.Values.{Sources}
 use Rattle.sp_desugar.specs.Runs.{Run, inner_run}
 
@@ -60,3 +69,37 @@ AreDeclaredRight core = IsTrue (are_memories_right core) × IsTrue (are_ports_ri
 -- a core is small enough
 abbrev pub IsSmallEnough : PlainCore → Type 0
 IsSmallEnough core = IsTrue (is_small core)
+
+-- what a loop combines keeps the rules: its word, under what is visible after its body, and the registers
+abbrev pub CombinesRightly : PlainProgram → PlainCore → Around → Scope → Combines → Type 0
+CombinesRightly p core around scope nothing = Unit {0}
+CombinesRightly p core around scope (folds acc comb e) = Typed p scope e × IsRegister core around acc (type_of e)
+CombinesRightly p core around scope (reduces acc begun comb e) = Typed p scope e × IsRegister core around acc (type_of e) × IsRegister core around begun Bit
+CombinesRightly p core around scope (reduces_elements part acc begun comb) = Unit {0}
+
+-- the values that an inner body and what is combined with it need
+abbrev pub combination_needs : (ℕ → Bool) → Combines → Bool
+combination_needs is (folds acc comb e) = uses is e
+combination_needs is (reduces acc begun comb e) = uses is e
+combination_needs is _ = false
+
+abbrev pub body_needs : PlainStmts → Combines → ℕ → Bool
+body_needs body c v = are_using (λ u. u == v) body || combination_needs (names_after (λ u. u == v) body) c
+
+-- an inner body keeps the rules of nodes, with the word that is combined with it, where its counters do and what it needs
+-- may be used inside
+abbrev pub IsInnerNode : PlainProgram → PlainCore → PlainStmts → Type 0
+IsInnerNode p core body =
+    (around : Around) (scope : Scope) (sources : Sources) (loops : List PlainCounter) (c : Combines)
+    → let inside : Around = within around loops (map (mem_number p.mems) (own_mems body)) in
+    HasMemories p core → IsTrue (is_inner body) → BodyTyped p scope body → MayNeed core inside p scope sources (body_needs body c) → ((m : ℕ) → Contains (own_mems body) m → MayOwn core inside p m)
+    → CombinesRightly p core inside (after_all scope body) c → IsTrue (are_counters_right core around loops)
+    → is_node_right core around (inner_node p.mems (length p.counters) sources loops body c) ≡ true
+
+-- the combination of the elements of a part of a body, by counters after those of the program, keeps the rules of nodes
+abbrev pub AreElementsRight : PlainProgram → PlainCore → (part : ℕ) → Type 0
+AreElementsRight p core part =
+    (around : Around) (acc begun : ℕ) (comb : Comb) → let ty : Ty = (mem p.mems part).ty in
+    HasMemories p core → MayOwn core around p part → ((mem p.mems part).kind ≡ Sram) → All IsCount (dims p.mems part) → (length (dims p.mems part) ≤ 3) → (length around.counters + 3 ≤ 1000)
+    → IsElements core around acc ty (length (dims p.mems part)) → IsRegister core around begun Bit
+    → is_node_right core around (element_loop p.mems (length p.counters) (dims p.mems part) part acc begun ty comb) ≡ true

@@ -7,7 +7,7 @@ ghost use Rattle.sp_tree.specs.PlainStatement.{PlainStmts};
 ghost use Rattle.sp_tree.specs.Invariant.{IsProgram};
 ghost use Rattle.sp_core.specs.PlainCore.{PlainCore};
 ghost use Rattle.sp_desugar.specs.Core.{core_of};
-ghost use Rattle.sp_desugar.specs.Laws.{IsFollowed, IsInnerRun, KeepsRules, HaveOneOwner, AreDeclaredRight, IsSmallEnough};
+ghost use Rattle.sp_desugar.specs.Laws.{IsFollowed, IsInnerRun, KeepsRules, HaveOneOwner, AreDeclaredRight, IsSmallEnough, IsInnerNode, AreElementsRight};
 
 /// The operations of an expression give its word, and do to memories what the expression does.
 pub fn expressions_are_followed()
@@ -37,4 +37,14 @@ pub fn declarations_are_right()
 /// The core of a program has fewer than 2^29 nodes, operations, memories and DRAMs together.
 pub fn cores_are_small()
     ensures { (p : PlainProgram) → IsProgram p → IsSmallEnough (core_of p) }
+{}
+
+/// An inner body, with what is combined with it, keeps the rules of cores where what it needs may be used.
+pub fn inner_bodies_keep_rules()
+    ensures { (p : PlainProgram) (core : PlainCore) (body : PlainStmts) → IsInnerNode p core body }
+{}
+
+/// The combination of the elements of a part keeps the rules of cores where the part and the accumulator may be used.
+pub fn element_loops_keep_rules()
+    ensures { (p : PlainProgram) (core : PlainCore) (part : ℕ) → AreElementsRight p core part }
 {}
