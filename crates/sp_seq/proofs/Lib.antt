@@ -11,4 +11,5 @@ pub mod PlaceLemmas
 pub mod RingLemmas
 pub mod RunningLemmas
 pub mod StoreLemmas
+pub mod TransferLemmas
 pub mod WordLemmas

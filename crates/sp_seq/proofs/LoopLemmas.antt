@@ -25,15 +25,15 @@ unfolding ◌>>=◌ pure
 joined rest done b l t = ap (λ f. (rest >>= f) l t) (fun_ext (λ others. ap pure (sym (append_assoc done (b ∷ []) others))))
 
 module _ {A B : Type 0} (step : A → Step B) (left : ℕ) (s : Store) where
-  left_none : (xs : List A) → in_order step xs left s ≡ left_of step [] xs left s
+  pub left_none : (xs : List A) → in_order step xs left s ≡ left_of step [] xs left s
   unfolding left_of
   left_none xs = sym (bind_pure (in_order step xs) left s)
 
-  left_over : (done : List B) → left_of step done [] left s ≡ went done left s
+  pub left_over : (done : List B) → left_of step done [] left s ≡ went done left s
   unfolding in_order left_of ◌>>=◌ pure
   left_over done = ap (λ ws. went ws left s) (append-nil done)
 
-  left_more : (done : List B) (x : A) (xs : List A) (b : B) (l : ℕ) (t : Store) → step x left s ≡ went b l t → left_of step done (x ∷ xs) left s ≡ left_of step (done ++ b ∷ []) xs l t
+  pub left_more : (done : List B) (x : A) (xs : List A) (b : B) (l : ℕ) (t : Store) → step x left s ≡ went b l t → left_of step done (x ∷ xs) left s ≡ left_of step (done ++ b ∷ []) xs l t
   unfolding in_order left_of pure
   left_more done x xs b l t r =
       bind_bind (step x) _ (λ others. pure (done ++ others)) left s
@@ -41,7 +41,7 @@ module _ {A B : Type 0} (step : A → Step B) (left : ℕ) (s : Store) where
       ∙ bind_bind (in_order step xs) (λ others. pure (b ∷ others)) (λ others. pure (done ++ others)) l t
       ∙ joined (in_order step xs) done b l t
 
-  left_halted : (done : List B) (x : A) (xs : List A) (stop : Stop) → step x left s ≡ halted stop → left_of step done (x ∷ xs) left s ≡ halted stop
+  pub left_halted : (done : List B) (x : A) (xs : List A) (stop : Stop) → step x left s ≡ halted stop → left_of step done (x ∷ xs) left s ≡ halted stop
   unfolding in_order left_of
   left_halted done x xs stop r = bind_bind (step x) _ (λ others. pure (done ++ others)) left s ∙ bind_halted (step x) _ left s stop r
 

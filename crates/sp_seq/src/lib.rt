@@ -12,6 +12,7 @@ mod ring;
 mod slice;
 mod sparse;
 mod state;
+mod transfer;
 mod words;
 
 pub use std::alloc::AllocError as NoMemory;

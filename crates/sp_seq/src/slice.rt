@@ -18,7 +18,7 @@ pub(crate) struct Part {
 }
 
 /// The number that a word of `Int` is.
-pub(crate) fn int_value(word: u64) -> i64
+fn int_value(word: u64) -> i64
     requires { IsWord int_type word }
     ensures { result ≡ index_value word }
 {
@@ -26,6 +26,32 @@ pub(crate) fn int_value(word: u64) -> i64
         word as i64
     } else {
         word as i64 - (1 << 32)
+    }
+}
+
+/// The part of one index, a word of `Int`.
+pub(crate) fn index_part(at: u64) -> Part
+    requires { IsWord int_type at }
+    ensures { plain_part result ≡ transfers.index (index_value at) }
+{
+    let from = int_value(at);
+    Part {
+        ranged: false,
+        from,
+        until: from,
+    }
+}
+
+/// The part of a range between two words of `Int`.
+pub(crate) fn range_part(from: u64, until: u64) -> Part
+    requires from { IsWord int_type from }
+    requires until { IsWord int_type until }
+    ensures { plain_part result ≡ transfers.between (index_value from) (index_value until) }
+{
+    Part {
+        ranged: true,
+        from: int_value(from),
+        until: int_value(until),
     }
 }
 

@@ -1,0 +1,144 @@
+use Rattle.std.proofs.Common.{◌≡◌, ℕ, ◌<◌, ◌≤◌, ◌^◌, ◌+◌, Bool, true, false, List, [], ◌∷◌, ◌++◌, map, length, get_or, take, drop, refl, sym, ◌∙◌, ap, ap₂, subst, arith, All}
+use Rattle.std.proofs.lemmas.List.{length-map, take_more_set, drop_more, drop_all, get_or-map}
+use Rattle.sp_words.specs.Interface.{IsCount, word_count}
+use Rattle.sp_words.specs.Types.{int_type, width_of}
+use Rattle.sp_tree.specs.declared.statement.Span.{Span}
+use Rattle.sp_tree.specs.Elements.{index_value, row_major}
+use Rattle.sp_tree.specs.Expressions.{dims, word}
+use Rattle.sp_tree.specs.Plain.{plain_expr, plain_mem}
+use Rattle.sp_tree.specs.PlainTree.{plain_span}
+use Rattle.sp_tree.specs.Sequential.{part}
+use Rattle.sp_tree.specs.Step.{went, in_order}
+use Rattle.sp_tree.specs.Transfers as transfers
+use Rattle.sp_seq.specs.Slices.{plain_part, plain_parts, offsets_at, Limited}
+use Rattle.sp_seq.specs.States.{store_of, Ran}
+use Rattle.sp_seq.proofs.LoopLemmas.{left_of, left_none, left_over, left_more, left_halted}
+use Rattle.sp_seq.proofs.SeesLemmas.{setting_later, seen_mem, live_sram, live_dram, keeps_same, keeps_on, counts_of, dims_at}
+use Rattle.sp_seq.proofs.StepLemmas.{ran_stop, ran_stop_with}
+use Rattle.sp_seq.proofs.TransferLemmas.{ran_stop_shown, single_went, single_halted, range_went, range_halted, range_halted_later, span_typed, parts-push, loaded_spent, loaded_went, stored_unread, stored_spent, stored_went}
+use Rattle.sp_seq.proofs.state.State.load_one.Goals as goal
+
+pub word_places-places-requires-clause-dims : goal.word_places-places-requires-clause-dims
+word_places-places-requires-clause-dims c =
+    let a = c.args in
+    let mems = map plain_mem a.decls.now in
+    let s = a.self.now in
+    let h = c.requires.can in
+    let ps = plain_parts a.parts.now in
+    let chip = seen_mem h.setting a.sram _ h.ty h.on_chip in
+    let dram = seen_mem h.setting a.dram _ h.ty h.outside in
+    let chip_in : a.sram < length a.decls.now = omega (arith, chip.inside, length-map a.decls.now plain_mem) in
+    let dram_in : a.dram < length a.decls.now = omega (arith, dram.inside, length-map a.decls.now plain_mem) in
+    let dram_dims = dims_at a.decls.now a.dram c.index-decls-dram.result dram_in ∙ sym c.deref.ensures.value in
+    let chip_dims = dims_at a.decls.now a.sram c.index-decls-sram.result chip_in ∙ sym c.deref-2.ensures.value in
+    subst (All IsCount) dram_dims (counts_of h.setting a.dram dram.inside)
+
+pub word_places-places-requires-clause-limits : goal.word_places-places-requires-clause-limits
+word_places-places-requires-clause-limits c =
+    let a = c.args in
+    let mems = map plain_mem a.decls.now in
+    let s = a.self.now in
+    let h = c.requires.can in
+    let ps = plain_parts a.parts.now in
+    let chip = seen_mem h.setting a.sram _ h.ty h.on_chip in
+    let dram = seen_mem h.setting a.dram _ h.ty h.outside in
+    let chip_in : a.sram < length a.decls.now = omega (arith, chip.inside, length-map a.decls.now plain_mem) in
+    let dram_in : a.dram < length a.decls.now = omega (arith, dram.inside, length-map a.decls.now plain_mem) in
+    let dram_dims = dims_at a.decls.now a.dram c.index-decls-dram.result dram_in ∙ sym c.deref.ensures.value in
+    let chip_dims = dims_at a.decls.now a.sram c.index-decls-sram.result chip_in ∙ sym c.deref-2.ensures.value in
+    subst (Limited ps) chip_dims h.limited
+
+pub read_word-word-requires : goal.read_word-word-requires
+read_word-word-requires c =
+    let a = c.args in
+    let mems = map plain_mem a.decls.now in
+    let s = a.self.now in
+    let h = c.requires.can in
+    let ps = plain_parts a.parts.now in
+    let chip = seen_mem h.setting a.sram _ h.ty h.on_chip in
+    let dram = seen_mem h.setting a.dram _ h.ty h.outside in
+    let chip_in : a.sram < length a.decls.now = omega (arith, chip.inside, length-map a.decls.now plain_mem) in
+    let dram_in : a.dram < length a.decls.now = omega (arith, dram.inside, length-map a.decls.now plain_mem) in
+    let dram_dims = dims_at a.decls.now a.dram c.index-decls-dram.result dram_in ∙ sym c.deref.ensures.value in
+    let chip_dims = dims_at a.decls.now a.sram c.index-decls-sram.result chip_in ∙ sym c.deref-2.ensures.value in
+    let places = c.word_places-places in
+    let offsets = offsets_at ps a.k in
+    let at_dram = places.ensures.dram ∙ ap (λ ds. row_major ds (transfers.places_of ps offsets)) (sym dram_dims) in
+    let at_chip = places.ensures.chip ∙ ap (λ ds. row_major ds offsets) (sym chip_dims) in
+    let dram_size = ap word_count dram_dims in
+    let chip_size = ap word_count chip_dims in
+    let dram_live = live_dram dram in
+    let chip_live = live_sram chip in
+    (dram_live.0, dram_live.1, omega (arith, dram_live.3, dram_size, places.ensures.in_dram))
+
+pub returns-in_err-turn-clause-ran : goal.returns-in_err-turn-clause-ran
+returns-in_err-turn-clause-ran c =
+    let a = c.args in
+    let mems = map plain_mem a.decls.now in
+    let s = a.self.now in
+    let h = c.requires.can in
+    let ps = plain_parts a.parts.now in
+    let chip = seen_mem h.setting a.sram _ h.ty h.on_chip in
+    let dram = seen_mem h.setting a.dram _ h.ty h.outside in
+    let chip_in : a.sram < length a.decls.now = omega (arith, chip.inside, length-map a.decls.now plain_mem) in
+    let dram_in : a.dram < length a.decls.now = omega (arith, dram.inside, length-map a.decls.now plain_mem) in
+    let dram_dims = dims_at a.decls.now a.dram c.index-decls-dram.result dram_in ∙ sym c.deref.ensures.value in
+    let chip_dims = dims_at a.decls.now a.sram c.index-decls-sram.result chip_in ∙ sym c.deref-2.ensures.value in
+    let places = c.word_places-places in
+    let offsets = offsets_at ps a.k in
+    let at_dram = places.ensures.dram ∙ ap (λ ds. row_major ds (transfers.places_of ps offsets)) (sym dram_dims) in
+    let at_chip = places.ensures.chip ∙ ap (λ ds. row_major ds offsets) (sym chip_dims) in
+    let dram_size = ap word_count dram_dims in
+    let chip_size = ap word_count chip_dims in
+    let dram_live = live_dram dram in
+    let chip_live = live_sram chip in
+    λ at. ran_stop _ _ _ c.in_err-turn.field-0.0 c.from_residual.ensures.1 (loaded_spent mems at a.sram a.dram ps offsets s.left (store_of s) places.result.dram places.result.chip at_dram at_chip c.read_word-word.result c.in_err-turn.field-0.0 c.read_word-word.ensures.ran c.in_err-turn.ensures.ran)
+
+pub write_cell-requires : goal.write_cell-requires
+write_cell-requires c =
+    let a = c.args in
+    let mems = map plain_mem a.decls.now in
+    let s = a.self.now in
+    let h = c.requires.can in
+    let ps = plain_parts a.parts.now in
+    let chip = seen_mem h.setting a.sram _ h.ty h.on_chip in
+    let dram = seen_mem h.setting a.dram _ h.ty h.outside in
+    let chip_in : a.sram < length a.decls.now = omega (arith, chip.inside, length-map a.decls.now plain_mem) in
+    let dram_in : a.dram < length a.decls.now = omega (arith, dram.inside, length-map a.decls.now plain_mem) in
+    let dram_dims = dims_at a.decls.now a.dram c.index-decls-dram.result dram_in ∙ sym c.deref.ensures.value in
+    let chip_dims = dims_at a.decls.now a.sram c.index-decls-sram.result chip_in ∙ sym c.deref-2.ensures.value in
+    let places = c.word_places-places in
+    let offsets = offsets_at ps a.k in
+    let at_dram = places.ensures.dram ∙ ap (λ ds. row_major ds (transfers.places_of ps offsets)) (sym dram_dims) in
+    let at_chip = places.ensures.chip ∙ ap (λ ds. row_major ds offsets) (sym chip_dims) in
+    let dram_size = ap word_count dram_dims in
+    let chip_size = ap word_count chip_dims in
+    let dram_live = live_dram dram in
+    let chip_live = live_sram chip in
+    let live = live_sram (seen_mem (setting_later h.setting c.in_ok-turn.ensures.keeps) a.sram _ h.ty h.on_chip) in
+    (live.0, live.1, omega (arith, live.3, chip_size, places.ensures.in_chip), subst (λ n. c.read_word-word.result < 2 ^ n) (dram_live.2 ∙ sym live.2) (c.read_word-word.ensures.fits dram_live.0 dram_live.1))
+
+pub returns-clause-ran : goal.returns-clause-ran
+returns-clause-ran c =
+    let a = c.args in
+    let mems = map plain_mem a.decls.now in
+    let s = a.self.now in
+    let h = c.requires.can in
+    let ps = plain_parts a.parts.now in
+    let chip = seen_mem h.setting a.sram _ h.ty h.on_chip in
+    let dram = seen_mem h.setting a.dram _ h.ty h.outside in
+    let chip_in : a.sram < length a.decls.now = omega (arith, chip.inside, length-map a.decls.now plain_mem) in
+    let dram_in : a.dram < length a.decls.now = omega (arith, dram.inside, length-map a.decls.now plain_mem) in
+    let dram_dims = dims_at a.decls.now a.dram c.index-decls-dram.result dram_in ∙ sym c.deref.ensures.value in
+    let chip_dims = dims_at a.decls.now a.sram c.index-decls-sram.result chip_in ∙ sym c.deref-2.ensures.value in
+    let places = c.word_places-places in
+    let offsets = offsets_at ps a.k in
+    let at_dram = places.ensures.dram ∙ ap (λ ds. row_major ds (transfers.places_of ps offsets)) (sym dram_dims) in
+    let at_chip = places.ensures.chip ∙ ap (λ ds. row_major ds offsets) (sym chip_dims) in
+    let dram_size = ap word_count dram_dims in
+    let chip_size = ap word_count chip_dims in
+    let dram_live = live_dram dram in
+    let chip_live = live_sram chip in
+    let t = c.turn.new.self in
+    let u = c.write_cell.new.self in
+    λ at. loaded_went mems at a.sram a.dram ps offsets s.left (store_of s) places.result.dram places.result.chip at_dram at_chip c.read_word-word.result t.left (store_of t) u.left (store_of u) c.read_word-word.ensures.ran c.in_ok-turn.ensures.ran c.write_cell.ensures.ran
