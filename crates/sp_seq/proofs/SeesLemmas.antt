@@ -179,3 +179,8 @@ pub sram_rank : {mems : List PlainMem} {s : State} (h : Setting mems s) (m : ℕ
 sram_rank {mems = mems} h m ty x =
     let rank = subst (λ k. HasRank k (length (dims mems m))) x.is_kind (h.sees.declared m no_mem x.inside).rank in
     rank.1
+
+pub dram_rank : {mems : List PlainMem} {s : State} (h : Setting mems s) (m : ℕ) (ty : Ty) → Seen mems h.roomy s m kinds.Dram ty → length (dims mems m) ≤ 3
+dram_rank {mems = mems} h m ty x =
+    let rank = subst (λ k. HasRank k (length (dims mems m))) x.is_kind (h.sees.declared m no_mem x.inside).rank in
+    rank.1

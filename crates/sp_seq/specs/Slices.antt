@@ -28,6 +28,11 @@ abbrev pub plain_parts : List Part → List transfers.Part
 plain_parts [] = []
 plain_parts (p ∷ ps) = plain_part p ∷ plain_parts ps
 
+-- how many ranges a part is
+abbrev pub ranges_in : transfers.Part → ℕ
+ranges_in (transfers.index i) = 0
+ranges_in (transfers.between a b) = 1
+
 -- how far into each range the k-th word of a slice is
 unfoldable pub offsets_at : List transfers.Part → ℕ → List ℕ
 offsets_at parts k = slice_index_or (transfers.all_offsets parts) k []

@@ -1,5 +1,5 @@
 //! Transfers of slices between DRAMs and SRAMs.
-ghost use Rattle.std.specs.Prelude.{◌≡◌, ℕ, ◌<◌, ◌≤◌, ◌^◌, [], ◌∷◌, map, length, take, All, true, OnOk};
+ghost use Rattle.std.specs.Prelude.{◌≡◌, ℕ, ◌<◌, ◌≤◌, ◌^◌, [], ◌∷◌, map, length, take, All, true, IfOk, OnOk};
 ghost use Rattle.sp_words.specs.Interface.{IsCount, word_count};
 ghost use Rattle.sp_tree.specs.Expressions.{dims};
 ghost use Rattle.sp_tree.specs.Plain.{plain_expr, plain_mem};
@@ -8,9 +8,10 @@ ghost use Rattle.sp_tree.specs.PlainTree.{plain_span};
 ghost use Rattle.sp_tree.specs.Sequential as sequential;
 ghost use Rattle.sp_tree.specs.Step.{in_order};
 ghost use Rattle.sp_tree.specs.Transfers as transfers;
+ghost use Rattle.sp_tree.specs.Typing.{range_count};
 ghost use Rattle.sp_seq.specs.Evaluating.{with_answer};
 ghost use Rattle.sp_seq.specs.Running.{CanRun, Finished};
-ghost use Rattle.sp_seq.specs.Slices.{plain_parts, shown, offsets_at, extent_of, CanSlice, CanSpan, loaded, stored, RanSome};
+ghost use Rattle.sp_seq.specs.Slices.{plain_part, plain_parts, ranges_in, shown, offsets_at, extent_of, CanSlice, CanSpan, loaded, stored, RanSome};
 ghost use Rattle.sp_seq.specs.States.{store_of, Ran, Keeps};
 
 use crate::slice::{
@@ -51,6 +52,7 @@ impl State {
         requires { CanSpan (map plain_mem decls.now) (plain.single (plain_expr e.now) ∷ []) self.old }
         ensures ran { Ran (sequential.part (map plain_mem decls.now) (plain.single (plain_expr e.now)) self.old.left (store_of self.old)) (shown result) self.new }
         ensures keeps { OnOk result (Keeps self.old self.new) }
+        ensures ranges { IfOk result (λ p. ranges_in (plain_part p) ≡ 0) }
     {
         let at = self.word(decls, e)?;
         Ok(index_part(at))
@@ -61,6 +63,7 @@ impl State {
         requires { CanSpan (map plain_mem decls.now) (plain.range (plain_expr a.now) (plain_expr b.now) par ∷ []) self.old }
         ensures ran { Ran (sequential.part (map plain_mem decls.now) (plain.range (plain_expr a.now) (plain_expr b.now) par) self.old.left (store_of self.old)) (shown result) self.new }
         ensures keeps { OnOk result (Keeps self.old self.new) }
+        ensures ranges { IfOk result (λ p. ranges_in (plain_part p) ≡ 1) }
     {
         let from = self.word(decls, a)?;
         let until = self.word(decls, b)?;
@@ -72,6 +75,7 @@ impl State {
         requires { CanSpan (map plain_mem decls.now) (plain_span span.now ∷ []) self.old }
         ensures ran { Ran (sequential.part (map plain_mem decls.now) (plain_span span.now) self.old.left (store_of self.old)) (shown result) self.new }
         ensures keeps { OnOk result (Keeps self.old self.new) }
+        ensures ranges { IfOk result (λ p. ranges_in (plain_part p) ≡ range_count (plain_span span.now ∷ [])) }
     {
         match span {
             Span::One(e) => self.single(decls, e),
@@ -85,6 +89,7 @@ impl State {
         requires can { CanSpan (map plain_mem decls.now) (map plain_span spans.now) self.old }
         ensures ran { Ran (in_order (sequential.part (map plain_mem decls.now)) (map plain_span spans.now) self.old.left (store_of self.old)) (with_answer (plain_parts (take (length spans.now) found.new)) result) self.new }
         ensures keeps { OnOk result (Keeps self.old self.new) }
+        ensures ranges { OnOk result (length (transfers.lengths (plain_parts (take (length spans.now) found.new))) ≡ range_count (map plain_span spans.now)) }
     {
         for (k, span) in spans.iter().enumerate() {
             let part = self.part(decls, span)?;
@@ -144,5 +149,112 @@ impl State {
         self.turn()?;
         self.write_word(dram, places.dram, word);
         Ok(())
+    }
+
+    /// The words of a load.
+    fn load_words(
+        &mut self,
+        decls: &[MemDecl],
+        sram: u32,
+        dram: u32,
+        parts: &[Part],
+        words: usize,
+    ) -> Result<(), Stop>
+        requires can { CanSlice (map plain_mem decls.now) self.old sram dram (plain_parts parts.now) }
+        requires count { words ≡ word_count (transfers.lengths (plain_parts parts.now)) }
+        ensures ran { RanSome (transfers.load_words sram (dims (map plain_mem decls.now) sram) dram (dims (map plain_mem decls.now) dram) (plain_parts parts.now) self.old.left (store_of self.old)) result self.new }
+        ensures keeps { OnOk result (Keeps self.old self.new) }
+    {
+        for k in 0..words {
+            self.load_one(decls, sram, dram, parts, k)?;
+        }
+        Ok(())
+    }
+
+    /// The words of a store.
+    fn store_words(
+        &mut self,
+        decls: &[MemDecl],
+        sram: u32,
+        dram: u32,
+        parts: &[Part],
+        words: usize,
+        at: u32,
+    ) -> Result<(), Stop>
+        requires can { CanSlice (map plain_mem decls.now) self.old sram dram (plain_parts parts.now) }
+        requires count { words ≡ word_count (transfers.lengths (plain_parts parts.now)) }
+        ensures ran { RanSome (transfers.store_words at sram (dims (map plain_mem decls.now) sram) dram (dims (map plain_mem decls.now) dram) (plain_parts parts.now) self.old.left (store_of self.old)) result self.new }
+        ensures keeps { OnOk result (Keeps self.old self.new) }
+    {
+        for k in 0..words {
+            self.store_one(decls, sram, dram, parts, k, at)?;
+        }
+        Ok(())
+    }
+
+    /// Words of a slice of a DRAM into an SRAM.
+    pub(crate) fn load_sram(
+        &mut self,
+        decls: &[MemDecl],
+        sram: u32,
+        dram: u32,
+        spans: &[Span],
+        at: u32,
+    ) -> Result<(), Stop>
+        requires { CanRun (map plain_mem decls.now) (plain.load_sram sram dram (map plain_span spans.now)) self.old }
+        ensures { (can : CanRun (map plain_mem decls.now) (plain.load_sram sram dram (map plain_span spans.now)) self.old)
+            → Finished (map plain_mem decls.now) can.setting.roomy can.setting.scope self.old (sequential.run_kind (map plain_mem decls.now) can.setting.roomy (plain.load_sram sram dram (map plain_span spans.now)) at self.old.left (store_of self.old)) result self.new }
+    {
+        let mut found = [Part {
+            ranged: false,
+            from: 0,
+            until: 0,
+        }; 3];
+        self.parts(decls, spans, &mut found)?;
+        let parts = &found[..spans.len()];
+        let words = extent(
+            parts,
+            &decls[dram as usize].dims,
+            &decls[sram as usize].dims,
+            FaultKind::Bounds,
+            at,
+        )?;
+        if words == 0 {
+            return Ok(());
+        }
+        self.load_words(decls, sram, dram, parts, words)
+    }
+
+    /// Words of an SRAM into a slice of a DRAM.
+    pub(crate) fn store(
+        &mut self,
+        decls: &[MemDecl],
+        dram: u32,
+        spans: &[Span],
+        sram: u32,
+        at: u32,
+    ) -> Result<(), Stop>
+        requires { CanRun (map plain_mem decls.now) (plain.store dram (map plain_span spans.now) sram) self.old }
+        ensures { (can : CanRun (map plain_mem decls.now) (plain.store dram (map plain_span spans.now) sram) self.old)
+            → Finished (map plain_mem decls.now) can.setting.roomy can.setting.scope self.old (sequential.run_kind (map plain_mem decls.now) can.setting.roomy (plain.store dram (map plain_span spans.now) sram) at self.old.left (store_of self.old)) result self.new }
+    {
+        let mut found = [Part {
+            ranged: false,
+            from: 0,
+            until: 0,
+        }; 3];
+        self.parts(decls, spans, &mut found)?;
+        let parts = &found[..spans.len()];
+        let words = extent(
+            parts,
+            &decls[dram as usize].dims,
+            &decls[sram as usize].dims,
+            FaultKind::Bounds,
+            at,
+        )?;
+        if words == 0 {
+            return Ok(());
+        }
+        self.store_words(decls, sram, dram, parts, words, at)
     }
 }

@@ -1,5 +1,5 @@
 use Rattle.std.proofs.Common.{◌≡◌, ℕ, ◌<◌, ◌≤◌, ◌^◌, ◌+◌, Bool, true, false, List, [], ◌∷◌, ◌++◌, map, length, get_or, take, drop, refl, sym, ◌∙◌, ap, ap₂, subst, arith, All}
-use Rattle.std.proofs.lemmas.List.{length-map, take_more_set, drop_more, drop_all, get_or-map}
+use Rattle.std.proofs.lemmas.List.{length-map, take_all, take_more_set, drop_more, drop_all, get_or-map}
 use Rattle.sp_words.specs.Interface.{IsCount, word_count}
 use Rattle.sp_words.specs.Types.{int_type, width_of}
 use Rattle.sp_tree.specs.declared.statement.Span.{Span}
@@ -10,12 +10,13 @@ use Rattle.sp_tree.specs.PlainTree.{plain_span}
 use Rattle.sp_tree.specs.Sequential.{part}
 use Rattle.sp_tree.specs.Step.{went, in_order}
 use Rattle.sp_tree.specs.Transfers as transfers
+use Rattle.sp_tree.specs.Typing.{range_count}
 use Rattle.sp_seq.specs.Slices.{plain_part, plain_parts, offsets_at, Limited}
 use Rattle.sp_seq.specs.States.{store_of, Ran}
 use Rattle.sp_seq.proofs.LoopLemmas.{left_of, left_none, left_over, left_more, left_halted}
 use Rattle.sp_seq.proofs.SeesLemmas.{setting_later, seen_mem, live_sram, live_dram, keeps_same, keeps_on, counts_of, dims_at}
 use Rattle.sp_seq.proofs.StepLemmas.{ran_stop, ran_stop_with}
-use Rattle.sp_seq.proofs.TransferLemmas.{ran_stop_shown, single_went, single_halted, range_went, range_halted, range_halted_later, span_typed, parts-push, loaded_spent, loaded_went, stored_unread, stored_spent, stored_went}
+use Rattle.sp_seq.proofs.TransferLemmas.{one_more_range, ran_stop_shown, single_went, single_halted, range_went, range_halted, range_halted_later, span_typed, parts-push, loaded_spent, loaded_went, stored_unread, stored_spent, stored_went}
 use Rattle.sp_seq.proofs.state.State.parts.Goals as goal
 
 pub loop-k-init : goal.loop-k-init
@@ -23,7 +24,7 @@ loop-k-init c =
     let a = c.args in
     let mems = map plain_mem a.decls.now in
     let s = a.self.now in
-    record { so_far = left_none (part mems) s.left (store_of s) (map plain_span a.spans.now); keeps = keeps_same s }
+    record { so_far = left_none (part mems) s.left (store_of s) (map plain_span a.spans.now); keeps = keeps_same s; ranges = refl }
 
 pub part-requires : goal.part-requires
 part-requires c =
@@ -79,6 +80,7 @@ loop-k-preserved c =
       so_far = here ∙ left_more (part mems) now.left (store_of now) (plain_parts (take k found)) (plain_span x) (drop (k + 1) xs) (plain_part p) t.left (store_of t) c.in_ok-part.ensures.ran
           ∙ ap (λ ps. left_of (part mems) ps (drop (k + 1) xs) t.left (store_of t)) (sym (ap plain_parts more ∙ parts-push (take k found) p));
       keeps = keeps_on _ _ _ inv.keeps c.in_ok-part.ensures.keeps;
+      ranges = one_more_range found k p spans x c.loop-k-test.true (omega arith) c.index-spans-k.is inv.ranges c.in_ok-part.ensures.ranges;
     }
 
 pub returns-clause-ran : goal.returns-clause-ran
@@ -99,3 +101,9 @@ returns-clause-ran c =
 pub returns-clause-keeps : goal.returns-clause-keeps
 returns-clause-keeps c =
     c.loop-k.invariant.keeps
+
+pub returns-clause-ranges : goal.returns-clause-ranges
+returns-clause-ranges c =
+    let over : c.loop-k.k ≡ length c.args.spans.now = omega arith in
+    subst (λ n. length (transfers.lengths (plain_parts (take n c.loop-k.found))) ≡ range_count (map plain_span c.args.spans.now)) over
+    (c.loop-k.invariant.ranges ∙ ap (λ n. range_count (map plain_span (take n c.args.spans.now))) over ∙ ap (λ xs. range_count (map plain_span xs)) (take_all (length c.args.spans.now) c.args.spans.now (omega arith)))
