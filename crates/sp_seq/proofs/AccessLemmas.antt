@@ -1,19 +1,17 @@
 -- How accesses go, by what the memory holds.
-use Rattle.std.proofs.Common.{◌≡◌, ℕ, zero, suc, ◌-◌, ◌<◌, List, [], ◌∷◌, ◌++◌, Bool, true, false, length, get_or, set, Option, Some, None, refl, sym, ◌∙◌, ap, ap₂, subst, arith}
+use Rattle.std.proofs.Common.{◌≡◌, ℕ, zero, suc, ◌-◌, ◌<◌, List, [], ◌∷◌, ◌++◌, Bool, true, false, length, get_or, set, Option, Some, None, refl, sym, ◌∙◌, ap, subst, arith}
 use Rattle.std.specs.Prelude.{nat_lt, not, Result}
 use Rattle.std.proofs.lemmas.List.{get_or-map}
 use Rattle.sp_tree.specs.declared.statement.FaultKind.TheVariants.{FifoFull, FifoEmpty}
-use Rattle.sp_words.specs.Memory.{Contents, cells, queue, rows, words}
+use Rattle.sp_words.specs.Memory.{cells, queue, words}
 use Rattle.sp_tree.specs.Accesses.{written, hold_now, read_cell, write_cell, read_line, take_oldest, dequeue, enqueue, read_word, write_word}
 use Rattle.sp_tree.specs.Step.{Went, went, faulted, more, ◌>>=◌, ◌>>◌, turn, ensure, read, change, pure, fault}
 use Rattle.sp_tree.specs.Store.{Store, hold, cells_of, queue_of, rows_of, words_of}
-use Rattle.sp_seq.specs.declared.memory.Memory.{Memory}
-use Rattle.sp_seq.specs.declared.memory.Storage.{Storage}
 use Rattle.sp_seq.specs.declared.memory.Storage.TheVariants.{Cells, Queue, Rows, Words}
 use Rattle.sp_seq.specs.declared.state.State.{State}
 use Rattle.sp_seq.specs.declared.state.Stop.{Stop}
 use Rattle.sp_seq.specs.Rows.{WordRow, CellRow, WordQueue, no_cells, first, rest}
-use Rattle.sp_seq.specs.States.{CellRows, held_of, memory_of, store_of, word_or_fault, Ran, IsLive}
+use Rattle.sp_seq.specs.States.{CellRows, store_of, word_or_fault, Ran, IsLive}
 use Rattle.sp_seq.proofs.StoreLemmas.{held_live}
 
 -- a read by what came back

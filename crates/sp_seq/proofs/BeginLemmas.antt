@@ -1,17 +1,17 @@
 -- What lies in storages that are cleared.
-use Rattle.std.proofs.Common.{◌≡◌, ℕ, zero, suc, ◌+◌, ◌<◌, ◌^◌, List, [], ◌∷◌, ◌++◌, Option, Some, None, map, length, take, drop, get_or, set, replicate, refl, sym, ◌∙◌, ap, ap₂, subst, arith, All}
-use Rattle.std.proofs.lemmas.List.{take_more_set, map_more, drop-set-lt, drop-drop, get_or-drop, length-set, length-map, length-replicate, get_or-map, get_or_read}
+use Rattle.std.proofs.Common.{◌≡◌, ℕ, suc, ◌+◌, ◌<◌, ◌^◌, List, [], ◌∷◌, ◌++◌, Option, Some, None, map, length, take, drop, get_or, set, replicate, refl, sym, ◌∙◌, ap, ap₂, subst, arith, All}
+use Rattle.std.proofs.lemmas.List.{take_more_set, map_more, drop-set-lt, drop-drop, get_or-drop, length-set, length-map, length-replicate, get_or-map}
 use Rattle.sp_words.specs.declared.kind.Kind.{Kind}
 use Rattle.sp_words.specs.declared.kind.Kind.TheVariants.{Reg, Sram, Fifo, LineBuf, Dram, ArgIn, ArgOut}
-use Rattle.sp_words.specs.Memory.{Contents, cells, queue, rows, words, fresh_rows, fresh_of}
+use Rattle.sp_words.specs.Memory.{cells, rows, fresh_rows, fresh_of}
 use Rattle.sp_words.specs.Types.{width_of}
 use Rattle.sp_tree.specs.Declarations.{HasStart}
 use Rattle.sp_tree.specs.PlainProgram.{PlainMem}
 use Rattle.sp_tree.specs.Counts.{is_port}
-use Rattle.std.specs.Prelude.{Bool, true, false}
+use Rattle.std.specs.Prelude.{false}
 use Rattle.sp_seq.specs.declared.memory.Storage.{Storage}
 use Rattle.sp_seq.specs.declared.memory.Storage.TheVariants.{Cells, Queue, Rows, Words}
-use Rattle.sp_seq.specs.Rows.{CellRow, WordRow, WordQueue, no_cells}
+use Rattle.sp_seq.specs.Rows.{CellRow, no_cells}
 use Rattle.sp_seq.specs.States.{CellRows, AreRows, IsStorage, blank, with_start, cleared, CanBegin}
 
 same_row : (r new : CellRow) → new.width ≡ r.width → new.cells ≡ replicate (length r.cells) None → new ≡ blank r

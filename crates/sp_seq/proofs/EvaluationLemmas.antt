@@ -1,5 +1,5 @@
 -- How expressions are evaluated, operand by operand.
-use Rattle.std.proofs.Common.{◌≡◌, ℕ, ◌<◌, ◌≤◌, ◌^◌, zero, suc, Bool, true, false, Option, Some, None, cond, List, [], ◌∷◌, ◌++◌, append_assoc, map, length, take, drop, get_or, Vec, Global, refl, sym, ◌∙◌, ap, subst, arith, Contains, All}
+use Rattle.std.proofs.Common.{◌≡◌, ℕ, ◌<◌, zero, suc, Bool, true, false, Some, None, cond, List, [], ◌∷◌, ◌++◌, append_assoc, map, length, take, drop, get_or, Vec, Global, refl, sym, ◌∙◌, ap, subst, arith, All}
 use mathlib.Core.Path.{fun_ext}
 use Rattle.std.proofs.lemmas.List.{append-nil}
 use Rattle.sp_words.specs.declared.kind.BinOp.{BinOp}
@@ -16,14 +16,14 @@ use Rattle.sp_tree.specs.Accesses.{read_cell, read_line, read_word, dequeue}
 use Rattle.sp_tree.specs.declared.statement.FaultKind.TheVariants.{Bounds}
 use Rattle.sp_tree.specs.Operators.{one_word, two_word, shifted, chosen}
 use Rattle.sp_tree.specs.Plain.{plain_kind, plain_expr, plain_exprs, plain_row}
-use Rattle.sp_tree.specs.PlainExpression.{PlainExpr, PlainExprKind, PlainExprs, expr, literal, counter, value, get_reg, get_arg, get_sram, get_line, deq, one, two, shift, mux, cast, no_expr, more_expr, type_of}
+use Rattle.sp_tree.specs.PlainExpression.{PlainExpr, PlainExprs, expr, literal, counter, value, get_reg, get_arg, get_sram, get_line, deq, one, two, shift, mux, cast, more_expr, type_of}
 use Rattle.sp_tree.specs.PlainProgram.{PlainMem, PlainProgram}
 use Rattle.sp_tree.specs.Step.{Step, Went, went, faulted, ◌>>=◌, ◌>>◌, pure, read, ensure, fault}
 use Rattle.sp_tree.specs.Store.{Store}
 use Rattle.sp_tree.specs.Typing.{Scope, Typed, KindTyped, IndicesTyped, expr_count}
 use Rattle.sp_seq.specs.declared.state.State.{State}
 use Rattle.sp_seq.specs.declared.state.Stop.{Stop}
-use Rattle.sp_seq.specs.Evaluating.{Setting, CanEval, CanEvalAll, placed}
+use Rattle.sp_seq.specs.Evaluating.{CanEval, placed}
 use Rattle.sp_seq.specs.Places.{place_in}
 use Rattle.sp_seq.specs.States.{store_of, halted, Keeps}
 use Rattle.sp_seq.proofs.SeesLemmas.{setting_later}

@@ -1,29 +1,26 @@
 -- How statements go that are neither controllers nor transfers.
-use Rattle.std.proofs.Common.{◌≡◌, ◌≢◌, ℕ, zero, suc, ◌<◌, ◌≤◌, ◌⊎◌, inl, inr, ⊎_elim, Bool, true, false, List, [], ◌∷◌, ◌++◌, map, length, get_or, set, refl, sym, ◌∙◌, ap, subst, arith, Contains, All}
+use Rattle.std.proofs.Common.{◌≡◌, ◌≢◌, ℕ, zero, suc, ◌<◌, ◌⊎◌, inl, inr, ⊎_elim, true, List, [], ◌∷◌, ◌++◌, map, length, get_or, set, refl, sym, ◌∙◌, ap, subst, arith, Contains}
 use Rattle.std.specs.Prelude.{Result, Ok, Err}
 use Rattle.std.specs.Result.{IsErrAnd, OnOk}
-use Rattle.std.proofs.lemmas.Bool.{cases_eq}
 use Rattle.std.proofs.lemmas.List.{get_or-map, length-map, length-set, get_or-set_same, get_or-set_other}
 use Rattle.std.proofs.lemmas.List.Elements.{Contains-append_left, Contains-append_right}
 use Rattle.sp_words.specs.declared.types.Ty.{Ty}
 use Rattle.sp_words.specs.Memory.{fresh_of}
 use Rattle.sp_words.specs.Types.{int_type}
 use Rattle.sp_words.specs.Words.{IsWord}
-use Rattle.sp_tree.specs.declared.statement.FaultKind.TheVariants.{Bounds}
-use Rattle.sp_tree.specs.Accesses.{hold_now, write_cell, write_word, enqueue}
+use Rattle.sp_tree.specs.Accesses.{write_cell, write_word, enqueue}
 use Rattle.sp_tree.specs.Expressions.{mem, dims, word, words, element}
 use Rattle.sp_tree.specs.PlainExpression.{PlainExpr, PlainExprs}
 use Rattle.sp_tree.specs.PlainProgram.{PlainMem, PlainProgram}
 use Rattle.sp_tree.specs.PlainStatement.{declare, name, set_reg, set_out, set_sram, enq}
 use Rattle.sp_tree.specs.Sequential.{run, run_kind, name_now}
 use Rattle.sp_tree.specs.Shape.{Shape}
-use Rattle.sp_tree.specs.Step.{Step, Went, went, faulted, ◌>>=◌, ◌>>◌, pure, read, change}
+use Rattle.sp_tree.specs.Step.{Step, Went, went, ◌>>=◌, ◌>>◌, pure, change}
 use Rattle.sp_tree.specs.Store.{Store, hold, name_value}
 use Rattle.sp_tree.specs.Streams.{room}
-use Rattle.sp_tree.specs.Typing.{Scope, mem_at, with_mem, with_val, with_counter, IsFreshVal, visible}
+use Rattle.sp_tree.specs.Typing.{Scope, mem_at, with_mem, with_val, IsFreshVal}
 use Rattle.sp_seq.specs.declared.state.State.{State}
 use Rattle.sp_seq.specs.declared.state.Stop.{Stop}
-use Rattle.sp_seq.specs.Evaluating.{placed}
 use Rattle.sp_seq.specs.Running.{Stands, Finished}
 use Rattle.sp_seq.specs.States.{store_of, memory_of, halted, Ran, Sees, Keeps, IsStorage, no_memory}
 use Rattle.sp_seq.proofs.SeesLemmas.{sees_later}

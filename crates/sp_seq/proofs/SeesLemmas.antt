@@ -1,5 +1,5 @@
 -- What a state has of the memories that are visible.
-use Rattle.std.proofs.Common.{◌≡◌, ℕ, ◌<◌, ◌≤◌, Bool, true, List, map, length, get_or, refl, sym, ◌∙◌, ap, subst, arith, Contains, All}
+use Rattle.std.proofs.Common.{◌≡◌, ℕ, ◌<◌, ◌≤◌, true, List, map, length, get_or, refl, sym, ◌∙◌, ap, subst, arith, All}
 use Rattle.std.proofs.lemmas.List.{get_or-map}
 use Rattle.sp_words.specs.declared.kind.Kind.{Kind}
 use Rattle.sp_words.specs.declared.kind.Kind.TheVariants as kinds
@@ -11,16 +11,15 @@ use Rattle.sp_tree.specs.declared.declaration.MemDecl.{MemDecl}
 use Rattle.sp_tree.specs.Declarations.{HasRank}
 use Rattle.sp_tree.specs.Expressions.{mem, dims}
 use Rattle.sp_tree.specs.Plain.{plain_mem}
-use Rattle.sp_tree.specs.PlainProgram.{PlainMem, PlainProgram, no_mem}
+use Rattle.sp_tree.specs.PlainProgram.{PlainMem, no_mem}
 use Rattle.sp_tree.specs.Streams.{room}
 use Rattle.sp_tree.specs.Typing.{Scope, IsMem}
-use Rattle.sp_seq.specs.declared.memory.Memory.{Memory}
 use Rattle.sp_seq.specs.declared.memory.Storage.{Storage}
 use Rattle.sp_seq.specs.declared.memory.Storage.TheVariants.{Cells, Queue, Rows, Words}
 use Rattle.sp_seq.specs.declared.state.State.{State}
-use Rattle.sp_seq.specs.Rows.{WordRow, CellRow, WordQueue, no_cells}
-use Rattle.sp_seq.specs.States.{CellRows, AreRows, IsStorage, memory_of, Sees, Keeps, KeepsMemories, IsLive}
-use Rattle.sp_seq.specs.Evaluating.{Setting, CanEval, CanEvalAll}
+use Rattle.sp_seq.specs.Rows.{WordRow, CellRow, WordQueue}
+use Rattle.sp_seq.specs.States.{CellRows, AreRows, IsStorage, memory_of, Sees, Keeps, IsLive}
+use Rattle.sp_seq.specs.Evaluating.{Setting}
 
 pub sees_later : {mems : List PlainMem} {roomy : List ℕ} {scope : Scope} {s t : State} → Sees mems roomy scope s → Keeps s t → Sees mems roomy scope t
 sees_later {mems = mems} {roomy = roomy} {scope = scope} {s = s} {t = t} h k = record {

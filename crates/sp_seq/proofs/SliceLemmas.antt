@@ -1,19 +1,18 @@
 -- Slices, part by part.
-use Rattle.std.proofs.Common.{◌≡◌, ℕ, zero, suc, inl, inr, ◌+◌, ◌*◌, ◌-◌, ◌/◌, ◌%◌, ◌^◌, ◌<◌, ◌≤◌, Bool, true, false, List, [], ◌∷◌, ◌++◌, map, length, get_or, take, drop, refl, sym, ◌∙◌, ap, ap₂, subst, arith, cond, All, ltb, leb, pos, ◌-ℤ◌}
-use Rattle.std.specs.Prelude.{ℤ, negsuc, ◌&&◌, int_le, flat_map, nat_le}
+use Rattle.std.proofs.Common.{◌≡◌, ℕ, zero, suc, inl, inr, ◌+◌, ◌*◌, ◌-◌, ◌/◌, ◌%◌, ◌^◌, ◌<◌, ◌≤◌, Bool, true, false, List, [], ◌∷◌, map, length, get_or, take, drop, refl, sym, ◌∙◌, ap, ap₂, subst, arith, cond, All, pos, ◌-ℤ◌}
+use Rattle.std.specs.Prelude.{ℤ, negsuc, ◌&&◌, int_le, flat_map}
 use Rattle.std.proofs.lemmas.Bool.{ltb-true, leb-true, lt-ltb, le-ltb, cases_lt}
-use Rattle.std.proofs.lemmas.List.{take_all, length-append, length-take-le, get_or-map, length-map, get_or_append_left, get_or-append_right}
+use Rattle.std.proofs.lemmas.List.{take_all, length-append, length-take-le, get_or-map, length-map}
 use Rattle.std.proofs.lemmas.List.Concat.{get_or-flat_map}
-use Rattle.std.proofs.lemmas.Nat.{mul-add-lt, div_below}
-use Rattle.std.proofs.Math.Nat.{mul-le-mul_right, mul-le-mul_left, div-add-mod, mul-pos}
+use Rattle.std.proofs.lemmas.Nat.{div_below}
+use Rattle.std.proofs.Math.Nat.{mul-le-mul_right, div-add-mod}
 use Rattle.sp_words.specs.Interface.{IsCount, word_count}
 use Rattle.sp_tree.specs.Elements.{natural, is_below, row_major, numbers_below, tuples, length_between}
 use Rattle.sp_tree.specs.Transfers as transfers
 use Rattle.sp_tree.specs.Transfers.{lengths, are_parts_inside, is_part_inside, do_fit, places_of, all_offsets}
 use Rattle.sp_seq.specs.declared.slice.Part.{Part}
-use Rattle.sp_seq.specs.Slices.{plain_part, plain_parts, offsets_at, Limited}
+use Rattle.sp_seq.specs.Slices.{plain_parts, offsets_at, Limited}
 use Rattle.sp_seq.proofs.LoopLemmas.{length-numbers, number_at}
-use Rattle.sp_seq.proofs.PlaceLemmas.{count_pos}
 
 -- all but the first
 abbrev pub tail : {A : Type 0} → List A → List A

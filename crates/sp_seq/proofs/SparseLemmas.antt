@@ -1,5 +1,5 @@
 -- How gathers and scatters go, word by word.
-use Rattle.std.proofs.Common.{◌≡◌, ℕ, ◌<◌, Bool, true, false, List, [], ◌∷◌, refl, sym, ◌∙◌, ap}
+use Rattle.std.proofs.Common.{◌≡◌, ℕ, true, false, List, [], ◌∷◌, ◌∙◌}
 use Rattle.std.specs.Prelude.{nat_lt}
 use Rattle.sp_words.specs.Interface.{word_count}
 use Rattle.sp_tree.specs.declared.statement.FaultKind.TheVariants.{Bounds, DramBounds}
@@ -10,8 +10,8 @@ use Rattle.sp_tree.specs.PlainExpression.{PlainExpr}
 use Rattle.sp_tree.specs.PlainProgram.{PlainMem}
 use Rattle.sp_tree.specs.PlainStatement as plain
 use Rattle.sp_tree.specs.Sequential.{run, run_kind}
-use Rattle.sp_tree.specs.Shape.{Shape, moved}
-use Rattle.sp_tree.specs.Step.{Step, Went, went, faulted, ◌>>=◌, ◌>>◌, pure, turn, ensure, in_order}
+use Rattle.sp_tree.specs.Shape.{moved}
+use Rattle.sp_tree.specs.Step.{went, faulted, ◌>>◌, pure, turn, in_order}
 use Rattle.sp_tree.specs.Store.{Store}
 use Rattle.sp_seq.specs.declared.state.Stop.{Stop}
 use Rattle.sp_seq.specs.Moving.{place_at, gathered, scattered}

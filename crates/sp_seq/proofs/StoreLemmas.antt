@@ -1,14 +1,13 @@
 -- What a state stands for after one of its parts changed.
-use Rattle.std.proofs.Common.{◌≡◌, ℕ, ◌<◌, ◌≢◌, Bool, true, false, List, [], length, get_or, set, Option, Some, None, refl, sym, ◌∙◌, ap, ap₂, arith, cond, eqb, ⊎_elim}
+use Rattle.std.proofs.Common.{◌≡◌, ℕ, ◌<◌, ◌≢◌, true, false, List, [], length, get_or, set, Some, sym, ◌∙◌, ap, ap₂, ⊎_elim}
 use mathlib.Core.Path.{fun_ext}
 use Rattle.std.proofs.lemmas.Bool.{cases_eq, eq-eqb, ne_eqb}
-use Rattle.std.proofs.lemmas.Bool.Decides.{nat_tests}
 use Rattle.std.proofs.lemmas.List.{get_or-set_same, get_or-set_other, get_or_read}
 use Rattle.sp_words.specs.Memory.{Contents}
-use Rattle.sp_tree.specs.Store.{Store, changed, hold, name_value, set_counter}
+use Rattle.sp_tree.specs.Store.{changed, hold, name_value, set_counter}
 use Rattle.sp_seq.specs.declared.memory.Memory.{Memory}
 use Rattle.sp_seq.specs.declared.memory.Storage.{Storage}
-use Rattle.sp_seq.specs.declared.memory.Storage.TheVariants.{Cells, Queue, Rows, Words}
+use Rattle.sp_seq.specs.declared.memory.Storage.TheVariants.{Queue, Rows}
 use Rattle.sp_seq.specs.declared.state.State.{State}
 use Rattle.sp_seq.specs.Rows.{CellRow, WordQueue}
 use Rattle.sp_seq.specs.States.{CellRows, contents_of, held_if, held_of, no_memory, memory_of, store_of, IsLive}

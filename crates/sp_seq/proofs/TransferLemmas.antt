@@ -1,11 +1,8 @@
 -- How slices are evaluated, and how their words move.
 use Rattle.std.proofs.Common.{◌≡◌, ℕ, zero, suc, ◌+◌, ◌<◌, Bool, true, false, cond, List, [], ◌∷◌, ◌++◌, map, length, get_or, set, take, drop, refl, sym, ◌∙◌, ap, subst, arith}
-use Rattle.std.specs.Prelude.{Result, Ok, Err, ℤ, ◌==◌, ◌||◌}
+use Rattle.std.specs.Prelude.{Result, Ok, Err, ◌==◌, ◌||◌}
 use Rattle.std.specs.Result.{IsErrAnd, OnOk}
 use Rattle.std.proofs.lemmas.List.{take_more, take_more_set}
-use Rattle.sp_words.specs.declared.types.Ty.{Ty}
-use Rattle.sp_words.specs.Types.{int_type}
-use Rattle.sp_tree.specs.declared.expression.Expr.{Expr}
 use Rattle.sp_tree.specs.declared.statement.Span.{Span}
 use Rattle.sp_tree.specs.declared.statement.Span.TheVariants.{One, Range}
 use Rattle.sp_words.specs.Interface.{word_count}

@@ -8,7 +8,7 @@ use Rattle.sp_tree.specs.declared.statement.FaultKind.TheVariants.{Bounds}
 use Rattle.sp_tree.specs.Accesses.{read_cell, write_cell, read_word, write_word}
 use Rattle.sp_tree.specs.Expressions.{dims}
 use Rattle.sp_tree.specs.PlainProgram.{PlainMem}
-use Rattle.sp_tree.specs.Step.{Step, pure, ◌>>=◌, ◌>>◌, turn, ensure}
+use Rattle.sp_tree.specs.Step.{Step, ◌>>=◌, ◌>>◌, turn, ensure}
 use Rattle.sp_tree.specs.Transfers.{place_held}
 use Rattle.sp_tree.specs.Typing.{IsMem}
 use Rattle.sp_seq.specs.declared.state.State.{State}

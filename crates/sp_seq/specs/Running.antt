@@ -1,12 +1,11 @@
 -- When statements can run in a state, and how a run of them leaves it.
-use Rattle.std.specs.Prelude.{◌≡◌, ℕ, ◌<◌, ◌≤◌, Bool, false, List, length, Result, Ok, Err, Contains}
+use Rattle.std.specs.Prelude.{◌≡◌, ℕ, ◌<◌, ◌≤◌, false, List, length, Result, Ok, Err, Contains}
 use Rattle.sp_words.specs.declared.kind.Style.{Style}
 use Rattle.sp_words.specs.declared.kind.Style.TheVariants.{Stream}
 use Rattle.sp_tree.specs.Counts.{is_port}
 use Rattle.sp_tree.specs.Expressions.{mem}
 use Rattle.sp_tree.specs.PlainProgram.{PlainMem}
-use Rattle.sp_tree.specs.PlainStatement.{PlainStmt, PlainStmtKind, PlainStmts, stmt, block, foreach, reduce, mem_reduce, fsm, branch, no_stmt, more_stmt}
-use Rattle.sp_tree.specs.Shape.{Shape}
+use Rattle.sp_tree.specs.PlainStatement.{PlainStmtKind, PlainStmts, stmt, block, foreach, reduce, mem_reduce, fsm, branch, no_stmt, more_stmt}
 use Rattle.sp_tree.specs.Step.{Went, went}
 use Rattle.sp_tree.specs.Streams.{is_proper, own_fifos}
 use Rattle.sp_tree.specs.Structure.{mems_declared, mems_in, vals_declared, vals_in, counters_declared, counters_in}

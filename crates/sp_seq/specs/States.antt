@@ -22,7 +22,7 @@ use Rattle.sp_seq.specs.declared.memory.Storage.TheVariants.{Cells, Queue, Rows,
 use Rattle.sp_seq.specs.declared.state.State.{State}
 use Rattle.sp_seq.specs.declared.state.Stop.{Stop}
 use Rattle.sp_seq.specs.declared.state.Stop.TheVariants.{Fault, Turns}
-use Rattle.sp_seq.specs.Rows.{WordRow, CellRow, WordQueue}
+use Rattle.sp_seq.specs.Rows.{CellRow}
 
 -- what lies in a storage
 abbrev pub contents_of : Storage → Contents

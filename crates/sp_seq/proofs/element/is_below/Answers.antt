@@ -1,4 +1,4 @@
-use Rattle.std.proofs.Common.{◌≡◌, sym, ◌∙◌, arith}
+use Rattle.std.proofs.Common.{sym, ◌∙◌, arith}
 use Rattle.std.proofs.lemmas.Bool.{le-ltb}
 use Rattle.sp_seq.proofs.PlaceLemmas.{is_below_small, is_below_large}
 use Rattle.sp_seq.proofs.element.is_below.Goals as goal

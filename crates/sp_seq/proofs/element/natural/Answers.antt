@@ -1,4 +1,4 @@
-use Rattle.std.proofs.Common.{◌≡◌, sym, arith}
+use Rattle.std.proofs.Common.{sym, arith}
 use Rattle.sp_seq.proofs.PlaceLemmas.{natural_small, natural_large}
 use Rattle.sp_seq.proofs.element.natural.Goals as goal
 

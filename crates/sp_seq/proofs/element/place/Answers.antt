@@ -1,4 +1,4 @@
-use Rattle.std.proofs.Common.{◌≡◌, ◌<◌, ◌≤◌, ℕ, [], drop, length, get_or, sym, ◌∙◌, ap, arith, Fits, w64, lit<}
+use Rattle.std.proofs.Common.{◌<◌, [], drop, length, get_or, sym, ◌∙◌, ap, arith}
 use Rattle.std.proofs.lemmas.List.{drop_all}
 use Rattle.sp_seq.proofs.PlaceLemmas.{place_from, from_start, at_end, other_lengths, step_in, step_out, step_room, step_fits}
 use Rattle.sp_seq.proofs.element.place.Goals as goal

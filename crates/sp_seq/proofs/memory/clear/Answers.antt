@@ -1,4 +1,4 @@
-use Rattle.std.proofs.Common.{◌≡◌, sym, ◌∙◌, ap, map, subst}
+use Rattle.std.proofs.Common.{sym, ◌∙◌, ap, map, subst}
 use Rattle.sp_words.specs.Memory.{rows}
 use Rattle.sp_seq.specs.Rows.{CellRow}
 use Rattle.sp_seq.specs.States.{cleared, IsStorage}

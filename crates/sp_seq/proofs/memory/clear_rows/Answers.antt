@@ -1,4 +1,4 @@
-use Rattle.std.proofs.Common.{◌≡◌, arith}
+use Rattle.std.proofs.Common.{arith}
 use Rattle.sp_seq.proofs.BeginLemmas.{one_cleared}
 use Rattle.sp_seq.proofs.memory.clear_rows.Goals as goal
 

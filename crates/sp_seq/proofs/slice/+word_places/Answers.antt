@@ -1,4 +1,4 @@
-use Rattle.std.proofs.Common.{◌≡◌, ℕ, ◌+◌, ◌*◌, ◌/◌, ◌<◌, refl, sym, ◌∙◌, ap, subst, arith, rules}
+use Rattle.std.proofs.Common.{◌+◌, ◌/◌, refl, ◌∙◌, arith, rules}
 use Rattle.std.proofs.Math.Nat.{mul-le-mul_left}
 use Rattle.sp_words.specs.Interface.{word_count}
 use Rattle.sp_seq.proofs.PlaceLemmas.{count_pos}

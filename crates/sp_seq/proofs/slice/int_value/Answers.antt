@@ -1,4 +1,4 @@
-use Rattle.std.proofs.Common.{◌≡◌, ◌<◌, ◌^◌, ℕ, sym, ◌∙◌, ap, arith, pos, ◌-ℤ◌}
+use Rattle.std.proofs.Common.{arith}
 use Rattle.std.proofs.lemmas.Int.{ints, to_z-of_z}
 use Rattle.sp_seq.proofs.PlaceLemmas.{index_small, index_negative}
 use Rattle.sp_seq.proofs.slice.int_value.Goals as goal

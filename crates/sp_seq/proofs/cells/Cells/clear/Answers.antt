@@ -1,5 +1,4 @@
-use Rattle.std.proofs.Common.{◌≡◌, ℕ, length, replicate, None, ap, ◌∙◌, sym, arith}
-use Rattle.sp_seq.specs.Rows.{cells_from}
+use Rattle.std.proofs.Common.{◌≡◌, length, replicate, ap, ◌∙◌, arith}
 use Rattle.sp_seq.proofs.CellLemmas.{length-cells, cells_from-fresh}
 use Rattle.sp_seq.proofs.cells.Cells.clear.Goals as goal
 

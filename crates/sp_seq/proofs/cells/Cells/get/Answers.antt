@@ -1,6 +1,4 @@
-use Rattle.std.proofs.Common.{◌≡◌, ℕ, ◌<◌, length, get_or, Some, None, ap, ◌∙◌, sym, arith, cond, eqb, eq-eqb, true, false}
-use Rattle.std.specs.Prelude.{slice_index_or}
-use Rattle.sp_seq.specs.Rows.{cells_from}
+use Rattle.std.proofs.Common.{◌<◌, length, get_or, None, ap, ◌∙◌, sym, arith}
 use Rattle.sp_seq.proofs.WordLemmas.{word_at}
 use Rattle.sp_seq.proofs.CellLemmas.{length-cells, cell_at, cell_of, cell_of-marked, cell_of-unmarked}
 use Rattle.sp_seq.proofs.cells.Cells.get.Goals as goal

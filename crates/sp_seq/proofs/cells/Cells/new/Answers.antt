@@ -1,6 +1,5 @@
-use Rattle.std.proofs.Common.{◌≡◌, ℕ, List, length, replicate, ap, ◌∙◌, sym, subst, None}
+use Rattle.std.proofs.Common.{length, ap, ◌∙◌}
 use Rattle.std.proofs.lemmas.List.{length-replicate}
-use Rattle.sp_seq.specs.Rows.{cells_from}
 use Rattle.sp_seq.proofs.CellLemmas.{cells_from-fresh}
 use Rattle.sp_seq.proofs.cells.Cells.new.Goals as goal
 

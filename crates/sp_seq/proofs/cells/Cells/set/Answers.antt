@@ -1,4 +1,4 @@
-use Rattle.std.proofs.Common.{◌≡◌, ℕ, ◌<◌, length, get_or, set, Some, None, ap, ap₂, ◌∙◌, sym, arith}
+use Rattle.std.proofs.Common.{length, set, Some, ap, ap₂, ◌∙◌, arith}
 use Rattle.sp_seq.specs.Rows.{cells_from}
 use Rattle.sp_seq.proofs.CellLemmas.{length-cells, cells_from-set}
 use Rattle.sp_seq.proofs.cells.Cells.set.Goals as goal

@@ -1,4 +1,4 @@
-use Rattle.std.proofs.Common.{Some, ◌≡◌, ◌<◌, ℕ, ◌+◌, ◌-◌, ◌%◌, ◌∷◌, length, sym, refl, ap, ◌∙◌, arith, rules}
+use Rattle.std.proofs.Common.{Some, ◌<◌, ◌+◌, ◌-◌, ◌%◌, length, sym, refl, ap, ◌∙◌, arith}
 use Rattle.sp_seq.specs.Rows.{first, rest, window}
 use Rattle.sp_seq.proofs.RingLemmas.{window-pop}
 use Rattle.sp_seq.proofs.ring.Ring.pop.Goals as goal

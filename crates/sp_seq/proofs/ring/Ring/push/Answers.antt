@@ -1,4 +1,4 @@
-use Rattle.std.proofs.Common.{◌≡◌, ◌<◌, ℕ, List, ◌+◌, ◌-◌, ◌%◌, ◌++◌, ◌∷◌, [], set, length, sym, refl, ap, ◌∙◌, arith}
+use Rattle.std.proofs.Common.{◌<◌, ◌+◌, ◌%◌, ◌++◌, ◌∷◌, [], set, length, refl, ap, ◌∙◌, arith}
 use Rattle.sp_seq.specs.Rows.{window}
 use Rattle.sp_seq.proofs.RingLemmas.{length-window, window-push}
 use Rattle.sp_seq.proofs.ring.Ring.push.Goals as goal

@@ -1,4 +1,4 @@
-use Rattle.std.proofs.Common.{◌≡◌, ℕ, ◌<◌, ◌≤◌, ◌^◌, ◌+◌, List, [], ◌∷◌, ◌++◌, map, length, get_or, take, drop, refl, sym, ◌∙◌, ap, subst, rules, arith, All, length-take-le}
+use Rattle.std.proofs.Common.{◌≡◌, ◌<◌, ◌^◌, ◌+◌, [], ◌∷◌, map, length, get_or, take, drop, refl, sym, ◌∙◌, ap, subst, rules, arith, All, length-take-le}
 use Rattle.std.proofs.lemmas.List.{get_or_read, drop_more, drop_all, take_more_set, length-map}
 use Rattle.std.proofs.lemmas.List.Elements.{All-push}
 use Rattle.std.proofs.lemmas.Result.{IfOk-weaker}
@@ -8,7 +8,7 @@ use Rattle.sp_words.specs.Words.{IsWord, word_cast}
 use Rattle.sp_tree.specs.declared.expression.Expr.{Expr}
 use Rattle.sp_tree.specs.declared.expression.ExprKind.{Lit, Count, Val, GetReg, GetArg, GetSram, GetLine, Deq, One, Two, Shift, Mux, Cast, the_lemmas}
 use Rattle.sp_tree.specs.Accesses.{read_cell, read_line, read_word, dequeue}
-use Rattle.sp_tree.specs.Expressions.{dims, word, word_of, words}
+use Rattle.sp_tree.specs.Expressions.{dims, word_of, words}
 use Rattle.sp_tree.specs.Operators.{two_word}
 use Rattle.sp_tree.specs.Plain.{plain_expr, plain_exprs, plain_mem}
 use Rattle.sp_tree.specs.Step.{went}

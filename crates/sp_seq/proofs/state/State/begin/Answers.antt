@@ -1,4 +1,4 @@
-use Rattle.std.proofs.Common.{◌≡◌, refl, sym, ◌∙◌, ap, Some, get_or}
+use Rattle.std.proofs.Common.{refl, sym, ◌∙◌, ap, Some, get_or}
 use Rattle.std.proofs.lemmas.List.{get_or_read}
 use Rattle.sp_seq.specs.declared.memory.Memory.{Memory}
 use Rattle.sp_seq.specs.States.{cleared, no_memory}

@@ -1,4 +1,4 @@
-use Rattle.std.proofs.Common.{◌≡◌, refl, sym}
+use Rattle.std.proofs.Common.{refl, sym}
 use Rattle.sp_seq.proofs.StoreLemmas.{count-set}
 use Rattle.sp_seq.proofs.state.State.count.Goals as goal
 

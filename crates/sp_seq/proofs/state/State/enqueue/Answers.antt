@@ -1,8 +1,7 @@
-use Rattle.std.proofs.Common.{◌≡◌, refl, sym, ◌∙◌, ap, subst, true, false}
+use Rattle.std.proofs.Common.{refl, sym, ◌∙◌, ap}
 use Rattle.sp_words.specs.Memory.{queue}
-use Rattle.sp_tree.specs.Step.{went, faulted}
+use Rattle.sp_tree.specs.Step.{went}
 use Rattle.sp_tree.specs.Accesses.{enqueue}
-use Rattle.sp_tree.specs.declared.statement.FaultKind.TheVariants.{FifoFull}
 use Rattle.sp_seq.specs.declared.memory.Storage.TheVariants.{Queue}
 use Rattle.sp_seq.specs.States.{store_of}
 use Rattle.sp_seq.proofs.StoreLemmas.{live_as, stored, same_room}

@@ -1,31 +1,10 @@
-use Rattle.std.proofs.Common.{◌≡◌, ℕ, ◌<◌, ◌≤◌, ◌^◌, ◌+◌, List, [], ◌∷◌, map, length, get_or, take, Option, Some, None, refl, sym, ◌∙◌, ap, ap₂, subst, arith, All, length-take-le}
-use Rattle.std.specs.Prelude.{Ok}
-use Rattle.std.proofs.lemmas.List.{length-map, get_or_read, length-set}
-use Rattle.sp_words.specs.Interface.{IsCount, word_count}
-use Rattle.sp_words.specs.Memory.{fresh_of}
-use Rattle.sp_words.specs.Types.{int_type, width_of}
-use Rattle.sp_words.specs.Words.{IsWord}
-use Rattle.sp_tree.specs.declared.expression.Expr.{Expr}
-use Rattle.sp_tree.specs.Accesses.{write_cell, write_word, enqueue}
-use Rattle.sp_tree.specs.Declarations.{HasStart}
-use Rattle.sp_tree.specs.Expressions.{dims, mem, word, words, element}
-use Rattle.sp_tree.specs.Plain.{plain_expr, plain_exprs, plain_mem}
-use Rattle.sp_tree.specs.PlainProgram.{PlainMem, no_mem}
-use Rattle.sp_tree.specs.Sequential.{run_kind}
-use Rattle.sp_tree.specs.Step.{went, pure, ◌>>=◌, ◌>>◌}
-use Rattle.sp_tree.specs.Store.{hold}
+use Rattle.std.proofs.Common.{◌<◌, ◌^◌, map, sym, subst}
+use Rattle.sp_tree.specs.Accesses.{enqueue}
+use Rattle.sp_tree.specs.Plain.{plain_expr, plain_mem}
 use Rattle.sp_tree.specs.Streams.{room}
-use Rattle.sp_tree.specs.Typing.{expr_count}
-use Rattle.sp_seq.specs.declared.memory.Storage.TheVariants.{Cells, Queue, Rows, Words}
-use Rattle.sp_seq.specs.Evaluating.{placed}
-use Rattle.sp_seq.specs.Places.{place_in}
-use Rattle.sp_seq.specs.States.{store_of, memory_of, cleared, CanBegin, Ran, IsLive}
-use Rattle.sp_seq.proofs.BeginLemmas.{can_begin, begins_fresh}
-use Rattle.sp_seq.proofs.EvaluationLemmas.{count-exprs, element_went, element_outside}
-use Rattle.sp_seq.proofs.PlaceLemmas.{place_below}
-use Rattle.sp_seq.proofs.RunningLemmas.{finished_stop, finished_last, stands_kept, declare_went, name_went, name_halted, set_reg_went, set_reg_halted, set_out_went, set_out_halted, enq_is, enq_halted, set_sram_is, set_sram_halted, set_sram_halted_later, sees_mem, sees_named, contained_first}
-use Rattle.sp_seq.proofs.SeesLemmas.{setting_later, sees_later, seen_mem, live_reg, live_sram, live_fifo, live_out, keeps_on, decl_at, dims_at, counts_of, sram_rank}
-use Rattle.sp_seq.proofs.StepLemmas.{bind_went, bind_halted}
+use Rattle.sp_seq.specs.States.{store_of, Ran}
+use Rattle.sp_seq.proofs.RunningLemmas.{finished_stop, finished_last, enq_is, enq_halted}
+use Rattle.sp_seq.proofs.SeesLemmas.{setting_later, seen_mem, live_fifo, keeps_on}
 use Rattle.sp_seq.proofs.state.State.enqueue_word.Goals as goal
 
 pub returns-in_err-word : goal.returns-in_err-word

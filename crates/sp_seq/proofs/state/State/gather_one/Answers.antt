@@ -1,20 +1,12 @@
-use Rattle.std.proofs.Common.{◌≡◌, ℕ, ◌<◌, ◌≤◌, ◌^◌, ◌+◌, Bool, true, false, List, [], ◌∷◌, map, length, get_or, refl, sym, ◌∙◌, ap, subst, arith, All}
+use Rattle.std.proofs.Common.{◌≡◌, ◌<◌, ◌^◌, true, map, sym, ◌∙◌, subst, arith}
 use Rattle.std.specs.Prelude.{nat_lt}
 use Rattle.std.proofs.lemmas.Bool.{lt-ltb, le-ltb}
-use Rattle.std.proofs.lemmas.List.{length-map}
-use Rattle.sp_words.specs.Interface.{IsCount, word_count}
-use Rattle.sp_words.specs.Types.{int_type, width_of}
-use Rattle.sp_tree.specs.Elements.{index_value, natural, is_below, numbers_below}
-use Rattle.sp_tree.specs.Expressions.{dims, word}
-use Rattle.sp_tree.specs.Plain.{plain_expr, plain_mem}
-use Rattle.sp_tree.specs.Shape.{moved}
-use Rattle.sp_tree.specs.Step.{went, in_order}
-use Rattle.sp_seq.specs.Moving.{place_at, gathered, scattered}
-use Rattle.sp_seq.specs.States.{store_of, Ran}
-use Rattle.sp_seq.proofs.LoopLemmas.{going_start, going_on, going_halted, going_over, length-numbers, number_at}
-use Rattle.sp_seq.proofs.RunningLemmas.{finished_stop, stands_kept}
-use Rattle.sp_seq.proofs.SeesLemmas.{setting_later, seen_mem, live_sram, live_dram, keeps_same, keeps_on, counts_of}
-use Rattle.sp_seq.proofs.SparseLemmas.{place_halted, place_outside, place_went, place_missing, gathered_halted, gathered_outside, gathered_spent, gathered_went, scattered_halted, scattered_outside, scattered_unread, scattered_spent, scattered_went, gather_halted, gather_stopped, gather_went, scatter_halted, scatter_stopped, scatter_went}
+use Rattle.sp_words.specs.Interface.{word_count}
+use Rattle.sp_tree.specs.Expressions.{dims}
+use Rattle.sp_tree.specs.Plain.{plain_mem}
+use Rattle.sp_seq.specs.States.{store_of}
+use Rattle.sp_seq.proofs.SeesLemmas.{setting_later, seen_mem, live_sram, live_dram, counts_of}
+use Rattle.sp_seq.proofs.SparseLemmas.{gathered_halted, gathered_outside, gathered_spent, gathered_went}
 use Rattle.sp_seq.proofs.StepLemmas.{ran_stop}
 use Rattle.sp_seq.proofs.state.State.gather_one.Goals as goal
 

@@ -1,23 +1,12 @@
-use Rattle.std.proofs.Common.{◌≡◌, ℕ, ◌<◌, ◌≤◌, ◌^◌, ◌+◌, Bool, true, false, List, [], ◌∷◌, map, length, get_or, take, drop, refl, sym, ◌∙◌, ap, subst, arith, All, length-take-le}
-use Rattle.std.specs.Prelude.{Ok, Err}
-use Rattle.std.proofs.lemmas.List.{length-map}
-use Rattle.sp_words.specs.Interface.{IsCount, word_count}
-use Rattle.sp_tree.specs.declared.statement.FaultKind.TheVariants.{Bounds}
-use Rattle.sp_tree.specs.Expressions.{dims}
+use Rattle.std.proofs.Common.{[], map, ◌∙◌, ap, arith}
 use Rattle.sp_tree.specs.Plain.{plain_mem}
-use Rattle.sp_tree.specs.PlainTree.{plain_span}
-use Rattle.sp_tree.specs.Shape.{moved}
-use Rattle.sp_tree.specs.Step.{went, in_order}
-use Rattle.sp_tree.specs.Structure.{slice_lanes}
 use Rattle.sp_tree.specs.Transfers as transfers
-use Rattle.sp_tree.specs.Typing.{mem_at, range_count}
-use Rattle.sp_seq.specs.Slices.{plain_parts, offsets_at, extent_of, Limited, CanSlice, loaded, stored}
+use Rattle.sp_seq.specs.Slices.{plain_parts, loaded}
 use Rattle.sp_seq.specs.States.{store_of}
 use Rattle.sp_seq.proofs.LoopLemmas.{going_start, going_on, going_halted, going_over}
-use Rattle.sp_seq.proofs.RunningLemmas.{finished_stop, stands_kept}
-use Rattle.sp_seq.proofs.SeesLemmas.{setting_later, seen_mem, keeps_same, keeps_on, counts_of, dims_at, dram_rank}
+use Rattle.sp_seq.proofs.SeesLemmas.{keeps_same, keeps_on}
 use Rattle.sp_seq.proofs.SliceLemmas.{length-offsets}
-use Rattle.sp_seq.proofs.TransferLemmas.{ran_stop_some, slice_later, offset_get, load_halted, load_stops, load_done, store_halted, store_stops, store_done, the_load, the_store, extent_stops, extent_nothing, extent_moves, length-parts}
+use Rattle.sp_seq.proofs.TransferLemmas.{ran_stop_some, slice_later, offset_get}
 use Rattle.sp_seq.proofs.state.State.load_words.Goals as goal
 
 pub loop-k-init : goal.loop-k-init

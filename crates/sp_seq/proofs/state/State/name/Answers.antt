@@ -1,4 +1,4 @@
-use Rattle.std.proofs.Common.{◌≡◌, refl, sym}
+use Rattle.std.proofs.Common.{refl, sym}
 use Rattle.sp_seq.proofs.StoreLemmas.{name-set}
 use Rattle.sp_seq.proofs.state.State.name.Goals as goal
 

@@ -1,4 +1,3 @@
-use Rattle.std.proofs.Common.{◌≡◌}
 use Rattle.sp_seq.specs.declared.memory.Storage.TheVariants.{Cells}
 use Rattle.sp_seq.proofs.StoreLemmas.{live_as}
 use Rattle.sp_seq.proofs.AccessLemmas.{ran_read, read_cell-went}

@@ -1,4 +1,4 @@
-use Rattle.std.proofs.Common.{◌≡◌, ◌<◌, ◌∙◌, ap, sym, length, get_or, None, subst, arith}
+use Rattle.std.proofs.Common.{◌<◌, ◌∙◌, ap, length, get_or, None, subst}
 use Rattle.std.proofs.lemmas.List.{get_or_read}
 use Rattle.sp_seq.specs.declared.memory.Storage.TheVariants.{Rows}
 use Rattle.sp_seq.specs.Rows.{CellRow, no_cells}

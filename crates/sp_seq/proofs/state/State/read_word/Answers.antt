@@ -1,4 +1,4 @@
-use Rattle.std.proofs.Common.{◌≡◌, sym, ◌∙◌, ap}
+use Rattle.std.proofs.Common.{sym, ◌∙◌, ap}
 use Rattle.sp_tree.specs.Step.{went}
 use Rattle.sp_seq.specs.declared.memory.Storage.TheVariants.{Words}
 use Rattle.sp_seq.specs.States.{store_of}

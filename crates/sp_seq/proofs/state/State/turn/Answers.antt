@@ -1,4 +1,4 @@
-use Rattle.std.proofs.Common.{◌≡◌, sym, ap, arith}
+use Rattle.std.proofs.Common.{arith}
 use Rattle.sp_seq.specs.States.{store_of}
 use Rattle.sp_seq.proofs.AccessLemmas.{turn_none, turn_went}
 use Rattle.sp_seq.proofs.state.State.turn.Goals as goal

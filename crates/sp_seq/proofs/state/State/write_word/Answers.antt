@@ -1,4 +1,4 @@
-use Rattle.std.proofs.Common.{◌≡◌, refl, sym, ◌∙◌, ap}
+use Rattle.std.proofs.Common.{refl, ◌∙◌, ap}
 use Rattle.sp_words.specs.Memory.{words}
 use Rattle.sp_tree.specs.Step.{went}
 use Rattle.sp_seq.specs.declared.memory.Storage.TheVariants.{Words}
