@@ -6,4 +6,6 @@ pub mod Literal
 pub mod Expressions
 pub mod Spans
 pub mod Statements
+pub mod ExampleForms
+pub mod Worked
 pub mod Plain

@@ -2,6 +2,7 @@
 #![tactic(auto)]
 
 mod controller;
+mod examples;
 mod expression;
 mod literal;
 mod own;
@@ -12,8 +13,11 @@ mod simple;
 mod span;
 mod statement;
 mod transfer;
+#[cfg(test)]
+mod tests;
 mod types;
 
+pub use examples::worked_refusals;
 pub use program::first_refusal;
 pub use refusal::{Found, Refusal, Rule};
 pub use std::alloc::AllocError as NoMemory;
