@@ -25,3 +25,4 @@ pub use laws::{
 pub use lines::write;
 pub use reader::read;
 pub use std::alloc::AllocError as NoMemory;
+pub use words::TypeCode;

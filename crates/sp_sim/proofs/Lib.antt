@@ -19,3 +19,4 @@ pub mod GivenLemmas
 pub mod Faults
 pub mod Counted
 pub mod Parts
+pub mod Watched

@@ -1,5 +1,5 @@
 //! Rows of words, by nets.
-ghost use Rattle.std.specs.Prelude.{◌≡◌, map, IsTrue, IfOk};
+ghost use Rattle.std.specs.Prelude.{◌≡◌, map, IsTrue, IfOk, OnOk};
 ghost use Rattle.std.specs.List.Sorted.{IsStrictlyIncreasing};
 ghost use Rattle.sp_sim.specs.Rows.{word_of, with_word, IsDense, IsPlaceOf};
 
@@ -93,5 +93,16 @@ impl Row {
         if place < self.words.len() {
             self.words[place] = word;
         }
+    }
+
+    /// Puts the words of these nets into `words`, in order.
+    pub(crate) fn put_into(&self, nets: &[NetId], words: &mut Vec<u64>) -> Result<(), NoMemory>
+        ensures { OnOk result (words.new.items ≡ map (word_of self.now) nets.now) }
+    {
+        words.clear();
+        for net in nets {
+            words.push(self.get(*net))?;
+        }
+        Ok(())
     }
 }

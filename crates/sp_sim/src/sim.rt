@@ -9,7 +9,7 @@ use crate::load::first_state;
 use crate::over::{contents, out_words};
 use crate::program::{Program, program_of};
 use crate::state::{Found, State, look, turn};
-use sp_netlist::{Netlist, ending_kept, one_ending, quiet_run};
+use sp_netlist::{NetId, Netlist, ending_kept, one_ending, quiet_run};
 use sp_words::{Input, Output};
 use std::alloc::Global;
 use std::marker::Model;
@@ -101,7 +101,9 @@ impl<'a> Sim<'a> {
 }
 
 impl Sim<'_> {
-    ghost use Rattle.std.specs.Prelude.{◌≡◌, ◌+◌, ◌-◌, ◌^◌, ◌<◌, min, map, IfOk, IfSome, IfNone, Some, None};
+    ghost use Rattle.std.specs.Prelude.{◌≡◌, ◌+◌, ◌-◌, ◌^◌, ◌<◌, min, map, IfOk, OnOk, IfSome, IfNone, Some, None};
+    ghost use Rattle.sp_netlist.specs.Quiet.{IsQuiet};
+    ghost use Rattle.sp_netlist.specs.Signals.{Signals};
     ghost use Rattle.sp_netlist.specs.Cycle.{done_in, Ends};
     ghost use Rattle.sp_sim.specs.Progress.{Tells, IsDone, IsEndIn, StepsTo, PeeksAt, RunsTo};
     ghost use Rattle.sp_sim.specs.Sims as sims;
@@ -178,6 +180,18 @@ impl Sim<'_> {
             }
         }
         self.peek().unwrap_or(SimEnd::CyclesSpent)
+    }
+
+    /// Puts the words of these nets into `words`, as they stand in the cycle that comes next or in which the run
+    /// ended. A net that no cell drives has the word 0.
+    pub fn watch(&mut self, nets: &[NetId], words: &mut Vec<u64>) -> Result<(), NoMemory>
+        ensures stays { self.new ≡ self.old }
+        ensures words { OnOk result ((s : Signals) → IsQuiet self.old.setting s → words.new.items ≡ map (s.net self.old.cycle) nets.now) }
+    {
+        one_ending();
+        quiet_run();
+        look(self.netlist, &self.program, &mut self.state);
+        self.state.row.put_into(nets, words)
     }
 
     /// The words of the outs and of the DRAMs in the cycle in which the run is done.

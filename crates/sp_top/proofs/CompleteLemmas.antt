@@ -6,7 +6,7 @@ use Rattle.sp_top.specs.Form.{Line, IsStraight, BreaksAt}
 use Rattle.sp_top.specs.Status.{PlainStatus, done, words, setup_refused, read_fault, write_fault, memory, listing_refused, conflict, cycles_spent, too_long, unbuilt}
 use Rattle.sp_edges.specs.Calls.{Call}
 use Rattle.sp_top.specs.Compile.{longest_program, CompileRefuses}
-use Rattle.sp_top.specs.Commands.{Command, compile, verilog, simulate, IsCommand, MayRefuse, Refuses, MayEnd, NotRefused}
+use Rattle.sp_top.specs.Commands.{Command, compile, verilog, simulate, waves, IsCommand, MayRefuse, Refuses, MayEnd, NotRefused}
 use Rattle.sp_top.specs.Record.{SinkChange, Records}
 use Rattle.sp_top.proofs.LawLemmas.{breaks_or_reads}
 
@@ -57,6 +57,8 @@ only_compile said told failed asked program status (verilog other) (inr is) also
     let P : List ℕ → Type 0 = λ p. CompileRefuses told failed asked p status in subst P (one_verilog said other program also is) refuses
 only_compile said told failed asked program status (simulate listing setup) (inl is) also refuses = let a = is.0 in let b = also.0 in absurd (cc)
 only_compile said told failed asked program status (simulate listing setup) (inr is) also refuses = let a = is.0 in let b = also.0 in absurd (cc)
+only_compile said told failed asked program status (waves listing setup) (inl is) also refuses = let a = is.0 in let b = also.0 in absurd (cc)
+only_compile said told failed asked program status (waves listing setup) (inr is) also refuses = let a = is.0 in let b = also.0 in absurd (cc)
 
 module _ (told : List ℕ → Standing) (failed : List ℕ → Type 0) (asked : List Call → Type 0) (program bytes : List ℕ) (lines : List Line) where
   -- a program of the form under a sure name isn't refused

@@ -13,8 +13,8 @@ use Rattle.sp_setup.specs.declared.error.SetupEnd.TheVariants as setup
 use Rattle.sp_top.specs.Status.{PlainStatus, done, words, setup_refused, read_fault, write_fault, memory, listing_refused, conflict, cycles_spent, too_long, unbuilt, line_of, HasParts}
 use Rattle.sp_top.specs.Reads.{ReadRefuses}
 use Rattle.sp_top.specs.Compile.{CompileRefuses}
-use Rattle.sp_top.specs.Simulate.{ListingRefuses, SetupRefuses, end_status, RunEnds, longest_setup}
-use Rattle.sp_top.specs.Commands.{Command, compile, verilog, simulate, MayRefuse, Refuses, MayEnd}
+use Rattle.sp_top.specs.Simulate.{ListingRefuses, SetupRefuses, end_status, RunEnds, DumpEnds, longest_setup}
+use Rattle.sp_top.specs.Commands.{Command, compile, verilog, simulate, waves, MayRefuse, Refuses, MayEnd}
 
 -- a status in which a command may refuse
 abbrev pub IsRefusal : PlainStatus → Type 0
@@ -92,6 +92,19 @@ run_refuses cells plain (cycles_spent cycles) refuses = tt
 run_refuses cells plain (too_long text) refuses = tt
 run_refuses cells plain (unbuilt line) refuses = tt
 
+dump_refuses : (cells : List PlainCell) (plain : PlainSetup) (status : PlainStatus) → DumpEnds cells plain status → IsRefusal status
+dump_refuses cells plain done refuses = absurd refuses
+dump_refuses cells plain words refuses = absurd refuses
+dump_refuses cells plain (setup_refused refusal) refuses = tt
+dump_refuses cells plain read_fault refuses = tt
+dump_refuses cells plain (write_fault which) refuses = absurd refuses
+dump_refuses cells plain memory refuses = tt
+dump_refuses cells plain (listing_refused error) refuses = tt
+dump_refuses cells plain (conflict cycle bank port) refuses = tt
+dump_refuses cells plain (cycles_spent cycles) refuses = tt
+dump_refuses cells plain (too_long text) refuses = tt
+dump_refuses cells plain (unbuilt line) refuses = tt
+
 may_refuse : (told : List ℕ → Standing) (failed : List ℕ → Type 0) (asked : List Call → Type 0) (command : Command) (status : PlainStatus) → MayRefuse told failed asked command status → IsRefusal status
 may_refuse told failed asked (compile program) status refuses = compile_refuses told failed asked program status refuses
 may_refuse told failed asked (verilog program) status refuses = compile_refuses told failed asked program status refuses
@@ -99,6 +112,10 @@ may_refuse told failed asked (simulate listing setup) status (inl refuses) = lis
 may_refuse told failed asked (simulate listing setup) status (inr (inl refuses)) =
     setup_refuses told failed (λ calls. asked (given listing ∷ calls)) _ setup status refuses.refuses
 may_refuse told failed asked (simulate listing setup) status (inr (inr refuses)) = run_refuses refuses.cells refuses.plain status refuses.ends
+may_refuse told failed asked (waves listing setup) status (inl refuses) = listing_refuses (told listing) (failed listing) asked listing status refuses
+may_refuse told failed asked (waves listing setup) status (inr (inl refuses)) =
+    setup_refuses told failed (λ calls. asked (given listing ∷ calls)) _ setup status refuses.refuses
+may_refuse told failed asked (waves listing setup) status (inr (inr refuses)) = dump_refuses refuses.cells refuses.plain status refuses.ends
 
 -- it may end so, with its line
 pub ends_refused : (said : List (List ℕ)) (told : List ℕ → Standing) (failed : List ℕ → Type 0) (asked : List Call → Type 0) (status : PlainStatus)
@@ -199,6 +216,15 @@ memory_refuses told failed asked (simulate listing setup) status parts (inr (inl
       refuses = setup_memory told failed (λ calls. asked (given listing ∷ calls)) _ setup status parts refuses.refuses;
     }))
 memory_refuses told failed asked (simulate listing setup) status parts (inr (inr refuses)) =
+    inr (inr (record { cells = refuses.cells; plain = refuses.plain; is_given = refuses.is_given; ends = tt }))
+memory_refuses told failed asked (waves listing setup) status parts (inl refuses) = inl (listing_memory (told listing) (failed listing) asked listing status parts refuses)
+memory_refuses told failed asked (waves listing setup) status parts (inr (inl refuses)) =
+    inr (inl (record {
+      cells = refuses.cells;
+      netlist = refuses.netlist;
+      refuses = setup_memory told failed (λ calls. asked (given listing ∷ calls)) _ setup status parts refuses.refuses;
+    }))
+memory_refuses told failed asked (waves listing setup) status parts (inr (inr refuses)) =
     inr (inr (record { cells = refuses.cells; plain = refuses.plain; is_given = refuses.is_given; ends = tt }))
 
 pub ends_memory : (said : List (List ℕ)) (told : List ℕ → Standing) (failed : List ℕ → Type 0) (asked : List Call → Type 0) (status : PlainStatus)

@@ -3,13 +3,14 @@ use Rattle.std.specs.Prelude.{◌≡◌, ◌⊎◌, ℕ, List, [], ◌∷◌, co
 use Rattle.sp_edges.specs.Standing.{Standing}
 use Rattle.sp_edges.specs.Calls.{Call}
 use Rattle.sp_top.specs.Compile.{ListsProgram, PrintsProgram, Translates, CompileRefuses}
-use Rattle.sp_top.specs.Simulate.{Simulates, SimulateRefuses}
+use Rattle.sp_top.specs.Simulate.{Prints, RunEnds, Dumps, DumpEnds, Simulates, SimulateRefuses}
 use Rattle.sp_top.specs.Status.{PlainStatus, done, words, write_fault, memory, line_of}
 
 pub data Command : Type 0 where
   compile : (program : List ℕ) → Command
   verilog : (program : List ℕ) → Command
   simulate : (listing setup : List ℕ) → Command
+  waves : (listing setup : List ℕ) → Command
 
 -- a word that names a file: it isn't empty and doesn't begin with `-`
 abbrev pub IsFileWord : List ℕ → Type 0
@@ -21,19 +22,22 @@ abbrev pub IsCommand : List (List ℕ) → Command → Type 0
 IsCommand said (compile program) = (said ≡ codes "compile" ∷ program ∷ []) × IsFileWord program
 IsCommand said (verilog program) = (said ≡ codes "verilog" ∷ program ∷ []) × IsFileWord program
 IsCommand said (simulate listing setup) = (said ≡ codes "simulate" ∷ listing ∷ setup ∷ []) × IsFileWord listing × IsFileWord setup
+IsCommand said (waves listing setup) = (said ≡ codes "waves" ∷ listing ∷ setup ∷ []) × IsFileWord listing × IsFileWord setup
 
 -- The texts that a command puts on `out` and on `aside` where it is done, after these calls for names.
 abbrev pub DoneTexts : (List ℕ → Standing) → (asked : List Call → Type 0) → Command → (out aside : List ℕ) → Type 0
 DoneTexts told asked (compile program) out aside = Translates ListsProgram told asked program out aside
 DoneTexts told asked (verilog program) out aside = Translates PrintsProgram told asked program out aside
-DoneTexts told asked (simulate listing setup) out aside = Simulates told asked listing setup out aside
+DoneTexts told asked (simulate listing setup) out aside = Simulates Prints told asked listing setup out aside
+DoneTexts told asked (waves listing setup) out aside = Simulates Dumps told asked listing setup out aside
 
 -- The statuses in which a command may refuse, each with its cause, where `failed` says of a name that reading it
 -- may have failed, and `asked` of calls for names that they were made. Want of memory may come always.
 abbrev pub MayRefuse : (List ℕ → Standing) → (failed : List ℕ → Type 0) → (asked : List Call → Type 0) → Command → PlainStatus → Type 0
 MayRefuse told failed asked (compile program) status = CompileRefuses told failed asked program status
 MayRefuse told failed asked (verilog program) status = CompileRefuses told failed asked program status
-MayRefuse told failed asked (simulate listing setup) status = SimulateRefuses told failed asked listing setup status
+MayRefuse told failed asked (simulate listing setup) status = SimulateRefuses RunEnds told failed asked listing setup status
+MayRefuse told failed asked (waves listing setup) status = SimulateRefuses DumpEnds told failed asked listing setup status
 
 -- a command of these words refuses so
 abbrev pub Refuses : List (List ℕ) → (List ℕ → Standing) → (failed : List ℕ → Type 0) → (asked : List Call → Type 0) → PlainStatus → Type 0

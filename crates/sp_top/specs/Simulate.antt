@@ -1,4 +1,5 @@
--- `simulate L S`: the listing L is run on the input, the delays and the cycles of the setup S.
+-- `simulate L S` and `waves L S`: the listing L is run on the input, the delays and the cycles of the setup S, and its
+-- result or its value change dump is shown.
 use Rattle.std.specs.Prelude.{◌≡◌, ◌≢◌, ◌⊎◌, ℕ, List, [], ◌∷◌, map}
 use Rattle.sp_edges.specs.Standing.{Standing}
 use Rattle.sp_edges.specs.Calls.{Call, given}
@@ -18,6 +19,9 @@ use Rattle.sp_setup.specs.declared.error.SetupEnd.TheVariants as setup
 use Rattle.sp_setup.specs.Refusal.{plain_error}
 use Rattle.sp_setup.specs.Setup.{PlainSetup, IsSetup, SetupEnds, files_named}
 use Rattle.std.specs.Prelude.{string_bytes}
+use Rattle.sp_waves.specs.Dump.{IsDump}
+use Rattle.sp_top.specs.declared.simulate.View.{View}
+use Rattle.sp_top.specs.declared.simulate.View.TheVariants.{Outcome, Waves}
 use Rattle.sp_top.specs.Reads.{GivesText, ReadRefuses}
 use Rattle.sp_top.specs.ResultText.{result_text, cycles_line}
 use Rattle.sp_top.specs.Status.{PlainStatus, setup_refused, read_fault, memory, listing_refused, conflict, cycles_spent, too_long}
@@ -100,19 +104,37 @@ RunEnds cells plain (cycles_spent cycles) = (cycles ≡ plain.cycles) × Ends (s
 RunEnds cells plain memory = Unit {0}
 RunEnds cells plain status = ⊥
 
--- ---- the command
+-- the text shows the run, up to its end or the setup's last cycle
+abbrev pub Dumps : List PlainCell → PlainSetup → (text : List ℕ) → Type 0
+Dumps cells plain text = IsDump (setting_of cells plain) plain.cycles text
+
+-- a dump is put however the run ends; want of memory may come always
+abbrev pub DumpEnds : List PlainCell → PlainSetup → PlainStatus → Type 0
+DumpEnds cells plain memory = Unit {0}
+DumpEnds cells plain status = ⊥
+
+-- what is shown of a run, and how it may end without that
+abbrev pub Shows : View → List PlainCell → PlainSetup → (text : List ℕ) → Type 0
+Shows Outcome = Prints
+Shows Waves = Dumps
+
+abbrev pub ShowEnds : View → List PlainCell → PlainSetup → PlainStatus → Type 0
+ShowEnds Outcome = RunEnds
+ShowEnds Waves = DumpEnds
+
+-- ---- the commands
 
 -- what is simulated, after these calls for names: L, then S, then the files of the setup
 pub record Given (told : List ℕ → Standing) (asked : List Call → Type 0) (listing setup : List ℕ) (cells : List PlainCell) (plain : PlainSetup) : Type 0 where
   pub gives_netlist : GivesNetlist (told listing) cells
   pub gives_setup : GivesSetup told (λ calls. asked (given listing ∷ calls)) (ports_of cells) setup plain
 
--- the command is done: the result stands on `out` alone
-pub record Simulates (told : List ℕ → Standing) (asked : List Call → Type 0) (listing setup out aside : List ℕ) : Type 0 where
+-- the command is done: what it shows stands on `out` alone
+pub record Simulates (IsText : List PlainCell → PlainSetup → List ℕ → Type 0) (told : List ℕ → Standing) (asked : List Call → Type 0) (listing setup out aside : List ℕ) : Type 0 where
   pub cells : List PlainCell
   pub plain : PlainSetup
   pub is_given : Given told asked listing setup cells plain
-  pub prints : Prints cells plain out
+  pub is_text : IsText cells plain out
   pub nothing_aside : aside ≡ []
 
 -- the netlist was given, and the setup is refused
@@ -121,15 +143,15 @@ pub record RefusesSetup (told : List ℕ → Standing) (failed : List ℕ → Ty
   pub netlist : GivesNetlist (told listing) cells
   pub refuses : SetupRefuses told failed (λ calls. asked (given listing ∷ calls)) (ports_of cells) setup status
 
--- everything was given, and the run isn't done
-pub record RefusesRun (told : List ℕ → Standing) (asked : List Call → Type 0) (listing setup : List ℕ) (status : PlainStatus) : Type 0 where
+-- everything was given, and the run ends so
+pub record RefusesRun (Stops : List PlainCell → PlainSetup → PlainStatus → Type 0) (told : List ℕ → Standing) (asked : List Call → Type 0) (listing setup : List ℕ) (status : PlainStatus) : Type 0 where
   pub cells : List PlainCell
   pub plain : PlainSetup
   pub is_given : Given told asked listing setup cells plain
-  pub ends : RunEnds cells plain status
+  pub ends : Stops cells plain status
 
--- The statuses in which the command refuses, each with its cause: at the listing, at the setup or in the run.
-abbrev pub SimulateRefuses : (List ℕ → Standing) → (failed : List ℕ → Type 0) → (asked : List Call → Type 0) → (listing setup : List ℕ) → PlainStatus → Type 0
-SimulateRefuses told failed asked listing setup status =
+-- The statuses in which a command refuses, each with its cause: at the listing, at the setup or in the run.
+abbrev pub SimulateRefuses : (List PlainCell → PlainSetup → PlainStatus → Type 0) → (List ℕ → Standing) → (failed : List ℕ → Type 0) → (asked : List Call → Type 0) → (listing setup : List ℕ) → PlainStatus → Type 0
+SimulateRefuses Stops told failed asked listing setup status =
     ListingRefuses (told listing) (failed listing) asked listing status
-    ⊎ (RefusesSetup told failed asked listing setup status ⊎ RefusesRun told asked listing setup status)
+    ⊎ (RefusesSetup told failed asked listing setup status ⊎ RefusesRun Stops told asked listing setup status)

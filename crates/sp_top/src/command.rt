@@ -12,6 +12,8 @@ pub enum Command<'a> {
     Verilog { program: &'a str },
     /// `simulate L S`: the result of the listing L under the setup S.
     Simulate { listing: &'a str, setup: &'a str },
+    /// `waves L S`: the value change dump of that run.
+    Waves { listing: &'a str, setup: &'a str },
 }
 
 // Whether a word names a file: it isn't empty and doesn't begin with `-`.
@@ -45,6 +47,9 @@ fn command_of_three<'a>(verb: &'a str, listing: &'a str, setup: &'a str) -> Opti
 {
     if verb == "simulate" && is_file_word(listing) && is_file_word(setup) {
         return Some(Command::Simulate { listing, setup });
+    }
+    if verb == "waves" && is_file_word(listing) && is_file_word(setup) {
+        return Some(Command::Waves { listing, setup });
     }
     None
 }

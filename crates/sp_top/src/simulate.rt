@@ -1,4 +1,4 @@
-//! `simulate L S`: a listing is run on the input, the delays and the cycles of a setup.
+//! `simulate L S` and `waves L S`: a listing is run on the input, the delays and the cycles of a setup.
 ghost use Rattle.std.specs.Prelude.{◌≡◌, ◌≤◌, ℕ, List, [], ◌∷◌, length, IfOk, IfErr, OnOk, string_bytes};
 ghost use Rattle.sp_edges.specs.Counts.{Rose};
 ghost use Rattle.sp_edges.specs.Calls.{given};
@@ -7,7 +7,7 @@ ghost use Rattle.sp_netlist.specs.Refusals.{IsWithinLimits};
 ghost use Rattle.sp_setup.specs.Setup.{plain_setup};
 ghost use Rattle.sp_top.specs.Status.{plain_status, memory};
 ghost use Rattle.sp_top.specs.Simulated.{list_status, ListsNone, ListsNetlist};
-ghost use Rattle.sp_top.specs.Simulate.{GivesNetlist, ListingRefuses, end_status, GivesSetup, SetupRefuses, Prints, RunEnds, Simulates, SimulateRefuses};
+ghost use Rattle.sp_top.specs.Simulate.{GivesNetlist, ListingRefuses, end_status, GivesSetup, SetupRefuses, Prints, RunEnds, Dumps, DumpEnds, Shows, ShowEnds, Simulates, SimulateRefuses};
 
 use crate::reads::read_text;
 use crate::result_text::cycles_text;
@@ -19,6 +19,13 @@ use sp_netlist::{Netlist, ending_kept};
 use sp_setup::{Setup, SetupEnd};
 use sp_sim::{Sim, SimEnd, SimLoad};
 use std::alloc::Global;
+
+/// What is shown of a run: its result, or its value change dump.
+#[derive(Clone, Copy, Debug)]
+pub enum View {
+    Outcome,
+    Waves,
+}
 
 /// The longest listing that is read, in bytes.
 pub const LONGEST_LISTING: usize = 268_435_456;
@@ -124,21 +131,44 @@ fn run_text(alloc: Global, netlist: &Netlist, setup: &Setup) -> Result<String, S
     }
 }
 
-/// Reads a listing and a setup, runs the netlist, and gives the result for `out`, and nothing for `aside`.
+// The value change dump of a run, up to its end or the setup's last cycle.
+fn dump_text(alloc: Global, netlist: &Netlist, setup: &Setup) -> Result<String, Status>
+    ensures text { IfOk result (λ text. Dumps netlist.now (plain_setup setup.now) (string_bytes text)) }
+    ensures refused { IfErr result (λ status. DumpEnds netlist.now (plain_setup setup.now) (plain_status status)) }
+{
+    let mut sim = Sim::load(alloc, netlist, &setup.input, &setup.delays)?;
+    let text = sp_waves::waves(alloc, netlist, &mut sim, setup.cycles)?;
+    Ok(text)
+}
+
+// What is shown of a run.
+fn shown_text(alloc: Global, view: View, netlist: &Netlist, setup: &Setup) -> Result<String, Status>
+    ensures text { IfOk result (λ text. Shows view netlist.now (plain_setup setup.now) (string_bytes text)) }
+    ensures refused { IfErr result (λ status. ShowEnds view netlist.now (plain_setup setup.now) (plain_status status)) }
+{
+    match view {
+        View::Outcome => run_text(alloc, netlist, setup),
+        View::Waves => dump_text(alloc, netlist, setup),
+    }
+}
+
+/// Reads a listing and a setup, runs the netlist, and gives what is shown of the run for `out`, and nothing for
+/// `aside`.
 pub fn simulate<I: Inputs>(
     alloc: Global,
+    view: View,
     listing: &str,
     setup: &str,
     inputs: &mut I,
 ) -> Result<Texts, Status>
-    ensures done { IfOk result (λ texts. Simulates (I.told inputs.old) (λ calls. I.asked inputs.old calls inputs.new) listing.now setup.now (string_bytes texts.out) (string_bytes texts.aside)) }
-    ensures refused { IfErr result (λ status. SimulateRefuses (I.told inputs.old)
+    ensures done { IfOk result (λ texts. Simulates (Shows view) (I.told inputs.old) (λ calls. I.asked inputs.old calls inputs.new) listing.now setup.now (string_bytes texts.out) (string_bytes texts.aside)) }
+    ensures refused { IfErr result (λ status. SimulateRefuses (ShowEnds view) (I.told inputs.old)
         (λ name. Rose (I.faults inputs.old) (I.faults inputs.new) × (I.sure inputs.old name → ⊥)) (λ calls. I.asked inputs.old calls inputs.new) listing.now setup.now (plain_status status)) }
 {
     let netlist = read_netlist(alloc, listing, inputs)?;
     let plan = read_setup(alloc, &netlist, setup, inputs)?;
     Ok(Texts {
-        out: run_text(alloc, &netlist, &plan)?,
+        out: shown_text(alloc, view, &netlist, &plan)?,
         aside: String::new(alloc),
     })
 }

@@ -12,7 +12,7 @@ ghost use Rattle.sp_top.specs.Record.{Records};
 
 use crate::command::{Command, command_of};
 use crate::compile::{compile, print_verilog};
-use crate::simulate::simulate;
+use crate::simulate::{View, simulate};
 use crate::sinks::{Texts, deliver, refuse};
 use crate::status::Status;
 use sp_edges::{Inputs, Sink};
@@ -27,7 +27,10 @@ fn texts_of<I: Inputs>(alloc: Global, command: Command<'_>, inputs: &mut I) -> R
     match command {
         Command::Compile { program } => compile(alloc, program, inputs),
         Command::Verilog { program } => print_verilog(alloc, program, inputs),
-        Command::Simulate { listing, setup } => simulate(alloc, listing, setup, inputs),
+        Command::Simulate { listing, setup } => {
+            simulate(alloc, View::Outcome, listing, setup, inputs)
+        }
+        Command::Waves { listing, setup } => simulate(alloc, View::Waves, listing, setup, inputs),
     }
 }
 

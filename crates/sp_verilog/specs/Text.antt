@@ -201,9 +201,13 @@ module _ (cells : List PlainCell) where
   abbrev pub drams_of : List ℕ
   drams_of = flat_map dram_widths cells
 
--- a text of the netlist: its nets stand in ascending order
-pub record IsVerilog (cells : List PlainCell) (text : List ℕ) : Type 0 where
-  pub nets : List NetLine
+-- all nets of the cells, in ascending order
+pub record AreNets (cells : List PlainCell) (nets : List NetLine) : Type 0 where
   pub all_nets : IsPermutation (flat_map (cell_nets (banks_of cells) (drams_of cells)) cells) nets
   pub ascending : IsNonDecreasingBy (λ (n : NetLine). n.net) nets
+
+-- a text of the netlist
+pub record IsVerilog (cells : List PlainCell) (text : List ℕ) : Type 0 where
+  pub nets : List NetLine
+  pub are_nets : AreNets cells nets
   pub is_text : text ≡ parts_text (banks_of cells) (drams_of cells) cells nets

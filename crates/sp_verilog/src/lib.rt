@@ -11,5 +11,6 @@ mod pieces;
 #[cfg(test)]
 mod tests;
 
-pub use module::verilog;
+pub use module::{verilog, wires};
+pub use nets::NetLine;
 pub use std::alloc::AllocError as NoMemory;

@@ -2,7 +2,7 @@
 
 ghost use Rattle.std.specs.Prelude.{◌≡◌, ◌++◌, IfOk, OnOk, string_bytes};
 ghost use Rattle.sp_netlist.specs.Cells.{plain_cells};
-ghost use Rattle.sp_verilog.specs.Text.{IsVerilog, module_begin, ports_end, module_end, parts_text};
+ghost use Rattle.sp_verilog.specs.Text.{AreNets, IsVerilog, module_begin, ports_end, module_end, parts_text};
 
 use crate::NoMemory;
 use crate::cells::{push_all_lines, push_all_ports, push_banks};
@@ -60,6 +60,16 @@ fn module_of(alloc: Global, cells: &[Cell]) -> Result<String, NoMemory>
     let memories = Memories::new(alloc, cells)?;
     let nets = ascending(alloc, &memories, cells)?;
     module_with(alloc, &memories, cells, &nets)
+}
+
+/// The nets of a netlist, ascending, each with its width in bits and whether it keeps its word: those that the
+/// Verilog text declares.
+pub fn wires(alloc: Global, netlist: &Netlist) -> Result<Vec<NetLine>, NoMemory>
+    ensures { IfOk result (λ nets. AreNets netlist.now nets.items) }
+{
+    let cells = netlist.cells();
+    let memories = Memories::new(alloc, cells)?;
+    ascending(alloc, &memories, cells)
 }
 
 /// The Verilog text of a netlist (IEEE 1364-2005): one module `spatial` whose ports are a clock, a

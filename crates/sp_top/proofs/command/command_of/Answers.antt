@@ -1,7 +1,7 @@
 use Rattle.std.proofs.Common.{arith, ◌≡◌, ◌⊎◌, ◌≢◌, subst, ap, inl, inr, string_bytes, map, ℕ, length, List, [], ◌∷◌, get_or}
 use Rattle.std.proofs.lemmas.List.{length-map}
 use Rattle.std.specs.Prelude.{IfSome, IsNone}
-use Rattle.sp_top.specs.Commands.{Command, compile, verilog, simulate, IsCommand}
+use Rattle.sp_top.specs.Commands.{Command, compile, verilog, simulate, waves, IsCommand}
 use Rattle.sp_top.specs.Said.{plain_command}
 use Rattle.sp_top.proofs.command.command_of.Goals as goal
 
@@ -26,6 +26,7 @@ two_or_three : (said : List (List ℕ)) (command : Command) → IsCommand said c
 two_or_three said (compile program) is = inl (ap length is.0)
 two_or_three said (verilog program) is = inl (ap length is.0)
 two_or_three said (simulate listing setup) is = inr (ap length is.0)
+two_or_three said (waves listing setup) is = inr (ap length is.0)
 
 not_both : (n : ℕ) → n ≢ 2 → n ≢ 3 → (n ≡ 2) ⊎ (n ≡ 3) → ⊥
 not_both n two three (inl e) = two e

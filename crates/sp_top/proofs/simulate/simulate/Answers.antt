@@ -7,7 +7,7 @@ use Rattle.sp_netlist.specs.Ports.{ports_of}
 use Rattle.sp_setup.specs.Setup.{plain_setup}
 use Rattle.sp_top.specs.Status.{plain_status}
 use Rattle.sp_top.specs.declared.status.Status.{Status}
-use Rattle.sp_top.specs.Simulate.{SimulateRefuses}
+use Rattle.sp_top.specs.Simulate.{ShowEnds, SimulateRefuses}
 use Rattle.sp_top.proofs.SimulateLemmas.{passed_on, SetupRefuses-wide, GivesSetup-wide}
 use Rattle.sp_top.proofs.simulate.simulate.Goals as goal
 
@@ -25,7 +25,7 @@ returns-in_err-plan-clause-refused g c =
     λ n fails. (Rose-within _ _ _ _ first.counts fails.0 (omega arith), λ sure. fails.1 (first.stays_sure n sure)) in
     let asked_now : List Call → Type 0 = λ calls. g.I.Inputs.asked c.read_netlist.new.inputs calls c.read_setup.new.inputs in
     let asked : List Call → Type 0 = λ calls. g.I.Inputs.asked c.args.inputs.now calls c.read_setup.new.inputs in
-    let P : Status → Type 0 = λ status. SimulateRefuses told failed asked c.args.listing.now c.args.setup.now (plain_status status) in
+    let P : Status → Type 0 = λ status. SimulateRefuses (ShowEnds c.args.view) told failed asked c.args.listing.now c.args.setup.now (plain_status status) in
     let h : P c.in_err-plan.field-0.0 =
     inr (inl (record {
       cells = c.in_ok-netlist.netlist;
@@ -36,8 +36,8 @@ returns-in_err-plan-clause-refused g c =
     passed_on c.from_residual-in_err-plan.result c.in_err-plan.field-0.0 _ P c.from_residual-in_err-plan.ensures.1 (λ y p. p) h
 
 -- the run isn't done
-pub returns-in_err-run_text-clause-refused : goal.returns-in_err-run_text-clause-refused
-returns-in_err-run_text-clause-refused g c =
+pub returns-in_err-shown_text-clause-refused : goal.returns-in_err-shown_text-clause-refused
+returns-in_err-shown_text-clause-refused g c =
     let first = c.in_ok-netlist.ensures in
     let told_now : List ℕ → Standing = g.I.Inputs.told c.read_netlist.new.inputs in
     let told : List ℕ → Standing = g.I.Inputs.told c.args.inputs.now in
@@ -45,8 +45,8 @@ returns-in_err-run_text-clause-refused g c =
     λ name. Rose (g.I.Inputs.faults c.args.inputs.now) (g.I.Inputs.faults c.read_setup.new.inputs) × (g.I.Inputs.sure c.args.inputs.now name → ⊥) in
     let asked_now : List Call → Type 0 = λ calls. g.I.Inputs.asked c.read_netlist.new.inputs calls c.read_setup.new.inputs in
     let asked : List Call → Type 0 = λ calls. g.I.Inputs.asked c.args.inputs.now calls c.read_setup.new.inputs in
-    let P : Status → Type 0 = λ status. SimulateRefuses told failed asked c.args.listing.now c.args.setup.now (plain_status status) in
-    let h : P c.in_err-run_text.field-0.0 =
+    let P : Status → Type 0 = λ status. SimulateRefuses (ShowEnds c.args.view) told failed asked c.args.listing.now c.args.setup.now (plain_status status) in
+    let h : P c.in_err-shown_text.field-0.0 =
     inr (inr (record {
       cells = c.in_ok-netlist.netlist;
       plain = plain_setup c.in_ok-plan.plan;
@@ -55,9 +55,9 @@ returns-in_err-run_text-clause-refused g c =
         gives_setup = GivesSetup-wide told_now told first.tells asked_now (λ calls. asked (given c.args.listing.now ∷ calls)) (ports_of c.in_ok-netlist.netlist) c.args.setup.now _
             (λ calls made. g.met.I.Inputs.more_calls _ _ _ (given c.args.listing.now ∷ []) calls first.asks made) c.in_ok-plan.ensures.given;
       };
-      ends = c.in_err-run_text.ensures.refused;
+      ends = c.in_err-shown_text.ensures.refused;
     })) in
-    passed_on c.from_residual-in_err-run_text.result c.in_err-run_text.field-0.0 _ P c.from_residual-in_err-run_text.ensures.1 (λ y p. p) h
+    passed_on c.from_residual-in_err-shown_text.result c.in_err-shown_text.field-0.0 _ P c.from_residual-in_err-shown_text.ensures.1 (λ y p. p) h
 
 pub returns-clause-done : goal.returns-clause-done
 returns-clause-done g c =
@@ -73,6 +73,6 @@ returns-clause-done g c =
         gives_setup = GivesSetup-wide told_now told first.tells asked_now (λ calls. asked (given c.args.listing.now ∷ calls)) (ports_of c.in_ok-netlist.netlist) c.args.setup.now _
             (λ calls made. g.met.I.Inputs.more_calls _ _ _ (given c.args.listing.now ∷ []) calls first.asks made) c.in_ok-plan.ensures.given;
       };
-      prints = c.in_ok-run_text.ensures.text;
+      is_text = c.in_ok-shown_text.ensures.text;
       nothing_aside = search rules;
     }

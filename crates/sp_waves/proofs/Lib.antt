@@ -1,0 +1,4 @@
+pub mod DumpLemmas
+pub mod IdentifierLemmas
+pub mod ListLemmas
+pub mod RunLemmas

@@ -1,0 +1,4 @@
+pub mod Dump
+pub mod Identifiers
+pub mod Signals
+pub mod Text
