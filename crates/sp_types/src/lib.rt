@@ -12,9 +12,9 @@ mod scope;
 mod simple;
 mod span;
 mod statement;
-mod transfer;
 #[cfg(test)]
 mod tests;
+mod transfer;
 mod types;
 
 pub use examples::worked_refusals;
