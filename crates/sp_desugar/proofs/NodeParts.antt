@@ -38,11 +38,16 @@ use Rattle.sp_desugar.proofs.NumberLemmas.{either}
 use Rattle.sp_desugar.proofs.UseLemmas.{only, kept_there, there_kept, typed_fewer}
 use Rattle.sp_desugar.proofs.WordLists.{is_word, bound_is}
 
-mul_one : (a b : ℕ) → 1 ≤ b → a ≤ a * b
+pub mul_one : (a b : ℕ) → 1 ≤ b → a ≤ a * b
 mul_one a b le = let f : a * 1 ≤ a * b = mul-le a 1 a b (omega arith) le in omega (arith, f)
 
-one_mul : (a b : ℕ) → 1 ≤ a → b ≤ a * b
+pub one_mul : (a b : ℕ) → 1 ≤ a → b ≤ a * b
 one_mul a b le = let f : 1 * b ≤ a * b = mul-le 1 b a b le (omega arith) in omega (arith, f)
+
+-- each word that doesn't cross reads no SRAM and no line buffer
+abbrev pub Quiet : (PlainExpr → Bool) → List PlainExpr → Type 0
+Quiet crosses [] = Unit {0}
+Quiet crosses (e ∷ es) = (crosses e ≡ false → (tally e).arrays ≡ false) × Quiet crosses es
 
 module _ (p : PlainProgram) (core : PlainCore) (h : HasMemories p core) (around : Around) (scope : Scope) (sources : Sources) (needed : ℕ → Bool) where
   module _ (g : MayNeed core around p scope sources needed) where
@@ -95,7 +100,7 @@ module _ (p : PlainProgram) (core : PlainCore) (h : HasMemories p core) (around 
         (λ b. subst (λ x. is_bound core around (if x then read_op int_type r [] ∷ [] else word_list p.mems sources e) ≡ true) (sym b)
         (bound_is p core h around (record scope { vals = seen_of e }) sources (part_may e f) e (part_typed e typed.0.0) typed.0.1 (early b) typed.1))
 
-    some_lanes : (loops : List PlainCounter) → BoundsTyped p scope loops → 1 ≤ lanes_of loops
+    pub some_lanes : (loops : List PlainCounter) → BoundsTyped p scope loops → 1 ≤ lanes_of loops
     some_lanes [] t = omega arith
     some_lanes (c ∷ loops) t = mul-le 1 1 c.par (lanes_of loops) t.3.0 (some_lanes loops t.4)
 
@@ -114,11 +119,6 @@ module _ (p : PlainProgram) (core : PlainCore) (h : HasMemories p core) (around 
         (from_right is_early_bound (after is_early_bound r c.from) c.until (bounds_of loops) second typed.1 (λ v u. f v (or_left (uses (only v) c.from || uses (only v) c.until) (counters_use (only v) loops) (or_right (uses (only v) c.from) (uses (only v) c.until) u))) (λ e. e)))
         (and_from _ _ (and_from _ _ (le-leb 1 c.step typed.2.0) (lt-ltb c.step (2 ^ 31) typed.2.1)) (and_from _ _ (le-leb 1 c.par typed.3.0) (le-leb c.par 16 (omega (arith, one, few))))))
         (counters_right (after is_early_bound (after is_early_bound r c.from) c.until) loops others typed.4 (λ v u. f v (or_right (uses (only v) c.from || uses (only v) c.until) (counters_use (only v) loops) u)) (omega (arith, two, few)))
-
-    -- each word that doesn't cross reads no SRAM and no line buffer
-    abbrev pub Quiet : (PlainExpr → Bool) → List PlainExpr → Type 0
-    Quiet crosses [] = Unit {0}
-    Quiet crosses (e ∷ es) = (crosses e ≡ false → (tally e).arrays ≡ false) × Quiet crosses es
 
     -- slices
     pub spans_right : (crosses : PlainExpr → Bool) (r : ℕ) (spans : List PlainSpan) → Registers_at crosses r (parts_of spans) → Quiet crosses (parts_of spans) → SpansTyped p scope spans → ((v : ℕ) → spans_use (only v) spans ≡ true → needed v ≡ true)
@@ -140,17 +140,17 @@ module _ (p : PlainProgram) (core : PlainCore) (h : HasMemories p core) (around 
 
 -- what the spans of a slice are, whatever crosses
 module _ (mems : List PlainMem) (sources : Sources) (crosses : PlainExpr → Bool) where
-  spans_length : (r : ℕ) (spans : List PlainSpan) → length (spans_from mems sources crosses r spans) ≡ length spans
+  pub spans_length : (r : ℕ) (spans : List PlainSpan) → length (spans_from mems sources crosses r spans) ≡ length spans
   spans_length r [] = refl
   spans_length r (single e ∷ spans) = ap suc (spans_length (after crosses r e) spans)
   spans_length r (range a b par ∷ spans) = ap suc (spans_length (after crosses (after crosses r a) b) spans)
 
-  spans_ranges : (r : ℕ) (spans : List PlainSpan) → node_rules.range_count (spans_from mems sources crosses r spans) ≡ typing.range_count spans
+  pub spans_ranges : (r : ℕ) (spans : List PlainSpan) → node_rules.range_count (spans_from mems sources crosses r spans) ≡ typing.range_count spans
   spans_ranges r [] = refl
   spans_ranges r (single e ∷ spans) = spans_ranges (after crosses r e) spans
   spans_ranges r (range a b par ∷ spans) = ap (λ n. 1 + n) (spans_ranges (after crosses (after crosses r a) b) spans)
 
-  spans_end : (r : ℕ) (spans : List PlainSpan) → EndsInRange spans → (node_rules.ends_in_range (spans_from mems sources crosses r spans) ≡ true) × (node_rules.range_count (spans_from mems sources crosses r spans) ≡ 1)
+  pub spans_end : (r : ℕ) (spans : List PlainSpan) → EndsInRange spans → (node_rules.ends_in_range (spans_from mems sources crosses r spans) ≡ true) × (node_rules.range_count (spans_from mems sources crosses r spans) ≡ 1)
   spans_end r [] e = absurd e
   spans_end r (single x ∷ []) e = absurd e
   spans_end r (single x ∷ single y ∷ spans) e = spans_end (after crosses r x) (single y ∷ spans) e
@@ -163,7 +163,7 @@ module _ (mems : List PlainMem) (sources : Sources) (crosses : PlainExpr → Boo
 dram_cons : (x : PlainMem) (xs : List PlainMem) (m : ℕ) → dram_number (x ∷ xs) (suc m) ≡ cond (is_on_dram x) 1 0 + dram_number xs m
 dram_cons x xs m = sum_by-cons (λ y. cond (is_on_dram y) 1 0) x (take m xs)
 
-abbrev dram_ports : List PlainMem → List PlainPort
+abbrev pub dram_ports : List PlainMem → List PlainPort
 dram_ports l = map port_of (filter (λ (m : PlainMem). is_dram m.kind) l)
 
 pub dram_at : (l : List PlainMem) (m : ℕ) → m < length l → is_dram (slice_index_or l m no_mem).kind ≡ true → (slice_index_or (dram_ports l) (dram_number l m) core_tree.no_port ≡ port_of (slice_index_or l m no_mem)) × (dram_number l m < length (dram_ports l))

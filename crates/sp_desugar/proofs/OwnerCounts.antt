@@ -44,7 +44,7 @@ count_split k n (suc a) b =
     ∙ omega arith
 
 -- a controller or a transfer
-abbrev IsStageKind : PlainStmtKind → Type 0
+abbrev pub IsStageKind : PlainStmtKind → Type 0
 IsStageKind (declare m) = ⊥
 IsStageKind (name v e) = ⊥
 IsStageKind (set_reg m e) = ⊥

@@ -52,7 +52,7 @@ numbers_among k n (suc len) le lt = either (n == k)
     above : (n k : ℕ) → n ≤ k → (n ≡ k → ⊥) → suc n ≤ k
     above n k le ne = omega (arith, ne)
 
-below_out : (m n : ℕ) → n ≤ m → count_of m (tree.numbers_below n) ≡ 0
+pub below_out : (m n : ℕ) → n ≤ m → count_of m (tree.numbers_below n) ≡ 0
 below_out m zero le = refl
 below_out m (suc n) le =
     let e : one_if (n == m) ≡ 0 = ap one_if (ne_eqb n m (λ e. absurd (omega (arith, e)))) in
@@ -81,7 +81,7 @@ ports_before is [] first m lt = refl
 ports_before is (x ∷ mems) first m lt =
     omega (arith, count_append m (if is x.kind then first ∷ [] else []) (numbers_of is (suc first) mems), if_other (is x.kind) first m (λ e. absurd (omega (arith, e))), ports_before is mems (suc first) m (omega arith))
 
-port_count : (is : Kind → Bool) (mems : List PlainMem) (first j m : ℕ) → j < length mems → first + j ≡ m → count_of m (numbers_of is first mems) ≡ one_if (is (slice_index_or mems j no_mem).kind)
+pub port_count : (is : Kind → Bool) (mems : List PlainMem) (first j m : ℕ) → j < length mems → first + j ≡ m → count_of m (numbers_of is first mems) ≡ one_if (is (slice_index_or mems j no_mem).kind)
 port_count is [] first j m lt same = absurd (omega arith)
 port_count is (x ∷ mems) first zero m lt same =
     omega (arith, count_append m (if is x.kind then first ∷ [] else []) (numbers_of is (suc first) mems), if_same (is x.kind) first m (omega (arith, same)), ports_before is mems (suc first) m (omega (arith, same)))
@@ -98,10 +98,10 @@ numbered_memory (x ∷ mems) (suc k) lt = either (is_off_dram x)
     (λ e. let f = numbered_memory mems k (omega (arith, ap length (written_kept x mems e))) in (suc f.0, omega (arith, f.1), f.2, number_kept x mems f.0 e ∙ ap suc f.3))
     (λ e. let f = numbered_memory mems (suc k) (omega (arith, ap length (written_skipped x mems e))) in (suc f.0, omega (arith, f.1), f.2, number_skipped x mems f.0 e ∙ f.3))
 
-self_count : (x : ℕ) (xs : List ℕ) → 1 ≤ count_of x (x ∷ xs)
+pub self_count : (x : ℕ) (xs : List ℕ) → 1 ≤ count_of x (x ∷ xs)
 self_count x xs = let e : one_if (x == x) ≡ 1 = ap one_if (eq-eqb x x refl) in omega (arith, e)
 
-later_count : (k x : ℕ) (xs : List ℕ) → 1 ≤ count_of k xs → 1 ≤ count_of k (x ∷ xs)
+pub later_count : (k x : ℕ) (xs : List ℕ) → 1 ≤ count_of k xs → 1 ≤ count_of k (x ∷ xs)
 later_count k x xs c = omega arith
 
 map_none : (f : ℕ → ℕ) (k : ℕ) (xs : List ℕ) → ((x : ℕ) → 1 ≤ count_of x xs → f x ≡ k → ⊥) → count_of k (map f xs) ≡ 0
@@ -180,7 +180,7 @@ module _ (p : PlainProgram) (h : IsProgram p) where
       let e : count_of m (numbers_of is_port 0 p.mems ++ mems_declared p.body) ≡ 1 = ap (count_of m) h.mem_numbers ∙ below_in m (length p.mems) lt in
       omega (arith, e, count_append m (numbers_of is_port 0 p.mems) (mems_declared p.body), port_count is_port p.mems 0 m m lt (omega arith))
 
-  declared_is : (m : ℕ) → 1 ≤ count_of m (mems_declared p.body) → (m < length p.mems) × (is_port (kind_of m) ≡ false)
+  pub declared_is : (m : ℕ) → 1 ≤ count_of m (mems_declared p.body) → (m < length p.mems) × (is_port (kind_of m) ≡ false)
   declared_is m c = either (nat_lt m (length p.mems))
       (λ e. let lt : m < length p.mems = ltb-true m (length p.mems) e in
       (lt, false_from_ne_true (is_port (kind_of m)) (λ f. let g : one_if (is_port (kind_of m)) ≡ 1 = ap one_if f in absurd (omega (arith, g, c, declared_once m lt)))))
@@ -188,7 +188,7 @@ module _ (p : PlainProgram) (h : IsProgram p) where
       let f : count_of m (numbers_of is_port 0 p.mems ++ mems_declared p.body) ≡ 0 = ap (count_of m) h.mem_numbers ∙ below_out m (length p.mems) le in
       absurd (omega (arith, c, f, count_append m (numbers_of is_port 0 p.mems) (mems_declared p.body))))
 
-  off_dram : (m : ℕ) → is_port (kind_of m) ≡ false → is_off_dram (expressions.mem p.mems m) ≡ true
+  pub off_dram : (m : ℕ) → is_port (kind_of m) ≡ false → is_off_dram (expressions.mem p.mems m) ≡ true
   off_dram m e = ap not (dram_is_port (kind_of m) e)
 
   abbrev declared_number : ℕ → ℕ

@@ -5,6 +5,7 @@ ghost use Rattle.sp_tree.specs.PlainExpression.{PlainExpr};
 ghost use Rattle.sp_tree.specs.PlainProgram.{PlainProgram};
 ghost use Rattle.sp_tree.specs.PlainStatement.{PlainStmts};
 ghost use Rattle.sp_tree.specs.Invariant.{IsProgram};
+ghost use Rattle.sp_core.specs.Invariant.{IsCore};
 ghost use Rattle.sp_core.specs.PlainCore.{PlainCore};
 ghost use Rattle.sp_desugar.specs.Core.{core_of};
 ghost use Rattle.sp_desugar.specs.Laws.{IsFollowed, IsInnerRun, KeepsRules, HaveOneOwner, AreDeclaredRight, IsSmallEnough, IsInnerNode, AreElementsRight};
@@ -47,4 +48,9 @@ pub fn inner_bodies_keep_rules()
 /// The combination of the elements of a part keeps the rules of cores where the part and the accumulator may be used.
 pub fn element_loops_keep_rules()
     ensures { (p : PlainProgram) (core : PlainCore) (part : ℕ) → AreElementsRight p core part }
+{}
+
+/// The core of a program is a core: it keeps every rule of cores.
+pub fn programs_become_cores()
+    ensures { (p : PlainProgram) → IsProgram p → IsCore (core_of p) }
 {}
