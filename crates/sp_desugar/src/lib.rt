@@ -6,6 +6,7 @@ mod laws;
 
 pub use examples::{worked_cores, worked_cores_are_right, worked_meanings};
 pub use laws::{
-    cores_are_small, declarations_are_right, expressions_are_followed, expressions_keep_rules,
-    inner_runs_are_followed, memories_have_owners,
+    cores_are_small, declarations_are_right, element_loops_keep_rules, expressions_are_followed,
+    expressions_keep_rules, inner_bodies_keep_rules, inner_runs_are_followed, memories_have_owners,
+    programs_become_cores,
 };
