@@ -1,0 +1,5 @@
+pub mod Nets
+pub mod Runs
+pub mod Grows
+pub mod Bits
+pub mod Laws
