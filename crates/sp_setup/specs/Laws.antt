@@ -1,9 +1,10 @@
 -- How the reading of a setup ends, seen over a longer time: what may have failed and which calls were made.
-use Rattle.std.specs.Prelude.{◌≡◌, ◌≢◌, ℕ, List, [], ◌∷◌, ◌++◌, map, option_to_list, Option, Some, Ok, Err, String, refl}
-use Rattle.std.proofs.Common.{inl, inr, subst, sym, ap, ◌∙◌, append_assoc}
+use Rattle.std.specs.Prelude.{◌≡◌, ◌≢◌, ℕ, List, [], ◌∷◌, ◌++◌, map, option_to_list, Option, Some, Ok, Err, String, Contains, refl}
+use Rattle.std.proofs.Common.{inl, inr, subst, sym, ap, ◌∙◌, append_assoc, lit<}
+use Rattle.std.proofs.lemmas.List.Elements.{Contains-append_left, Contains-append_right}
 use Rattle.std.specs.declared.alloc.Global.{Global}
 use Rattle.toml.specs.Data.{Members}
-use Rattle.sp_edges.specs.Standing.{Standing}
+use Rattle.sp_edges.specs.Standing.{Standing, Holds}
 use Rattle.sp_edges.specs.Calls.{Call, given, refused, AreUnfaulted, WantsMemory}
 use Rattle.sp_edges.specs.declared.input.InputFault.TheVariants as fault
 use Rattle.sp_setup.specs.declared.error.SetupError.{SetupError}
@@ -11,7 +12,8 @@ use Rattle.sp_words.specs.Ports.{PlainPort, PlainPorts}
 use Rattle.sp_setup.specs.declared.error.SetupEnd.{SetupEnd}
 use Rattle.sp_setup.specs.declared.error.SetupEnd.TheVariants.{Refused, ReadFault, TooLong, Memory}
 use Rattle.sp_setup.specs.Drams.{NamedEnds, FirstEnds, DramsEnd, file_of, files_of}
-use Rattle.sp_setup.specs.Setup.{FileStops, SetupEnds, PlainSetup, IsSetup}
+use Rattle.sp_setup.specs.Checks.{dram_section}
+use Rattle.sp_setup.specs.Setup.{FileStops, SetupEnds, PlainSetup, IsSetup, files_in, files_named}
 
 pub WantsMemory-wide : (now then : List Call → Type 0) (names : List (List ℕ)) → ((calls : List Call) → now calls → then calls) → WantsMemory now names → WantsMemory then names
 WantsMemory-wide now then names wide wants = (wants.0, wants.1, wide wants.0 wants.2)
@@ -128,3 +130,37 @@ module _ (told : List ℕ → Standing) (failed : List ℕ → Type 0) (asked : 
         passes = stops.passes;
         ends = FirstEnds-memory _ _ (TooLong name) stops.ends (refused stops.ends.name fault.TooLong) refl (λ same. cc) stops.ends.ends.0;
       })
+
+-- ---- the files that are named
+
+-- what stands under each of these names is told
+abbrev pub AreTold : (List ℕ → Standing) → List (List ℕ) → Type 0
+AreTold told names = (name : List ℕ) → Contains names name → (held : List ℕ) × (told name ≡ Holds held)
+
+-- the file of a DRAM is one of those of the DRAMs around it
+pub Contains-file : (files : Members) (before after : List PlainPort) (port : PlainPort) (name : List ℕ) → file_of files port ≡ Some name
+    → Contains (files_of files (before ++ (port ∷ after))) name
+Contains-file files before after port name is =
+    let one : Contains (name ∷ []) name = (0, lit< tt, refl) in
+    let P : Option (List ℕ) → Type 0 = λ file. Contains (option_to_list file) name in
+    let here : Contains (option_to_list (file_of files port)) name = subst P (sym is) one in
+    let more : Contains (files_of files (port ∷ after)) name = Contains-append_left (option_to_list (file_of files port)) (files_of files after) name here in
+    let Q : List (List ℕ) → Type 0 = λ all. Contains all name in
+    subst Q (sym (files_of-append files before (port ∷ after))) (Contains-append_right (files_of files before) (files_of files (port ∷ after)) name more)
+
+-- the file at which a reading ends is one that the document names
+module _ (told : List ℕ → Standing) (failed : List ℕ → Type 0) (asked : List Call → Type 0) (ports : PlainPorts) (bytes : List ℕ) (end : SetupEnd) where
+  pub named_first : (top : Members) (first : FirstEnds told failed asked (dram_section top) ports.drams end) → Contains (files_of (dram_section top) ports.drams) first.name
+  named_first top first =
+      let Q : List PlainPort → Type 0 = λ all. Contains (files_of (dram_section top) all) first.name in
+      subst Q (sym first.reached.stands) (Contains-file (dram_section top) first.reached.before first.reached.after first.port first.name first.named)
+
+  pub named_in : (stops : FileStops told failed asked ports bytes end) (name : List ℕ) → Contains (files_of (dram_section stops.top) ports.drams) name → Contains (files_named ports bytes) name
+  named_in stops name there =
+      let P : Option Members → Type 0 = λ top. Contains (files_in ports top) name in subst P (sym stops.document.document) there
+
+-- Where a file couldn't be read, that was one which the document names.
+pub SetupEnds-read_fault : (told : List ℕ → Standing) (failed : List ℕ → Type 0) (asked : List Call → Type 0) (ports : PlainPorts) (bytes : List ℕ)
+    → SetupEnds told failed asked ports bytes ReadFault → (name : List ℕ) × Contains (files_named ports bytes) name × failed name
+SetupEnds-read_fault told failed asked ports bytes stops =
+    (stops.ends.name, named_in told failed asked ports bytes ReadFault stops stops.ends.name (named_first told failed asked ports bytes ReadFault stops.top stops.ends), stops.ends.ends.1)

@@ -5,6 +5,7 @@ use Rattle.sp_edges.specs.Standing.{Standing, Holds, IsAllOf, BeginsWith}
 use Rattle.sp_top.specs.Form.{Line, IsStraight, BreaksAt}
 use Rattle.sp_top.specs.Status.{PlainStatus, done, words, setup_refused, read_fault, write_fault, memory, listing_refused, conflict, cycles_spent, too_long, unbuilt}
 use Rattle.sp_edges.specs.Calls.{Call}
+use Rattle.sp_top.specs.Reads.{IsPastText}
 use Rattle.sp_top.specs.Compile.{longest_program, CompileRefuses}
 use Rattle.sp_top.specs.Commands.{Command, compile, verilog, simulate, waves, IsCommand, MayRefuse, Refuses, MayEnd, NotRefused}
 use Rattle.sp_top.specs.Record.{SinkChange, Records}
@@ -35,15 +36,14 @@ no_words said program (inl is) none = none (compile program) is
 no_words said program (inr is) none = none (verilog program) is
 
 -- no more bytes than these stand there
-not_past : (bytes more : List ℕ) → length bytes ≤ longest_program → length more ≡ longest_program + 1 → more ≡ take (length more) bytes → ⊥
-not_past bytes more small long begins = omega (arith, ap length begins, length-take (length more) bytes)
+not_past : (most : ℕ) (bytes more : List ℕ) → length bytes ≤ most → length more ≡ most + 1 → more ≡ take (length more) bytes → ⊥
+not_past most bytes more small long begins = omega (arith, ap length begins, length-take (length more) bytes)
 
-past : (standing : Standing) (bytes : List ℕ) → standing ≡ Holds bytes → length bytes ≤ longest_program
-    → (more : List ℕ) × (length more ≡ longest_program + 1) × BeginsWith standing more → ⊥
-past standing bytes told small long =
-    not_past bytes long.0 small long.1 (subst (λ (s : Standing). BeginsWith s long.0) told long.2)
+pub past : (most : ℕ) (standing : Standing) (bytes : List ℕ) → standing ≡ Holds bytes → length bytes ≤ most → IsPastText standing most → ⊥
+past most standing bytes told small long =
+    not_past most bytes long.0 small long.1 (subst (λ (s : Standing). BeginsWith s long.0) told long.2)
 
-same_bytes : (standing : Standing) (bytes others : List ℕ) → standing ≡ Holds bytes → IsAllOf standing others → others ≡ bytes
+pub same_bytes : (standing : Standing) (bytes others : List ℕ) → standing ≡ Holds bytes → IsAllOf standing others → others ≡ bytes
 same_bytes standing bytes others told all = subst (λ (s : Standing). IsAllOf s others) told all
 
 -- words that are that command refuse as it does
@@ -60,6 +60,22 @@ only_compile said told failed asked program status (simulate listing setup) (inr
 only_compile said told failed asked program status (waves listing setup) (inl is) also refuses = let a = is.0 in let b = also.0 in absurd (cc)
 only_compile said told failed asked program status (waves listing setup) (inr is) also refuses = let a = is.0 in let b = also.0 in absurd (cc)
 
+-- a call isn't refused where its words are a command which is refused in no way but for want of memory
+pub ends_well : (said : List (List ℕ)) (told : List ℕ → Standing) (failed : List ℕ → Type 0) (asked : List Call → Type 0) → (((command : Command) → IsCommand said command → ⊥) → ⊥)
+    → ((status : PlainStatus) → Refuses said told failed asked status → NotRefused status) → (out aside : SinkChange) (result : PlainStatus) → Records (MayEnd said told failed asked) out aside result
+    → NotRefused result
+ends_well said told failed asked is fine out aside done records = tt
+ends_well said told failed asked is fine out aside memory records = tt
+ends_well said told failed asked is fine out aside (write_fault which) records = tt
+ends_well said told failed asked is fine out aside words records = is records.2.0
+ends_well said told failed asked is fine out aside (setup_refused refusal) records = fine (setup_refused refusal) records.2.0
+ends_well said told failed asked is fine out aside read_fault records = fine read_fault records.2.0
+ends_well said told failed asked is fine out aside (listing_refused error) records = fine (listing_refused error) records.2.0
+ends_well said told failed asked is fine out aside (conflict cycle bank port) records = fine (conflict cycle bank port) records.2.0
+ends_well said told failed asked is fine out aside (cycles_spent cycles) records = fine (cycles_spent cycles) records.2.0
+ends_well said told failed asked is fine out aside (too_long name) records = fine (too_long name) records.2.0
+ends_well said told failed asked is fine out aside (unbuilt line) records = fine (unbuilt line) records.2.0
+
 module _ (told : List ℕ → Standing) (failed : List ℕ → Type 0) (asked : List Call → Type 0) (program bytes : List ℕ) (lines : List Line) where
   -- a program of the form under a sure name isn't refused
   compiles : (status : PlainStatus) → (failed program → ⊥) → told program ≡ Holds bytes → length bytes ≤ longest_program → IsStraight bytes lines
@@ -73,7 +89,7 @@ module _ (told : List ℕ → Standing) (failed : List ℕ → Type 0) (asked : 
   compiles (listing_refused error) read holds small straight refuses = absurd refuses
   compiles (conflict cycle bank port) read holds small straight refuses = absurd refuses
   compiles (cycles_spent cycles) read holds small straight refuses = absurd refuses
-  compiles (too_long name) read holds small straight refuses = absurd (past (told program) bytes holds small refuses.2)
+  compiles (too_long name) read holds small straight refuses = absurd (past longest_program (told program) bytes holds small refuses.2)
   compiles (unbuilt line) read holds small straight refuses =
       let same : refuses.bytes ≡ bytes = same_bytes (told program) bytes refuses.bytes holds refuses.gives.all in
       absurd (breaks_or_reads bytes line lines (subst (λ (b : List ℕ). BreaksAt b line) same refuses.breaks) straight)
@@ -85,14 +101,5 @@ module _ (told : List ℕ → Standing) (failed : List ℕ → Type 0) (asked : 
   pub complete : (said : List (List ℕ)) (out aside : SinkChange) (result : PlainStatus) → Records (MayEnd said told failed asked) out aside result
       → IsTranslation said program → (failed program → ⊥) → told program ≡ Holds bytes → length bytes ≤ longest_program → IsStraight bytes lines
       → NotRefused result
-  complete said out aside done records is read holds small straight = tt
-  complete said out aside memory records is read holds small straight = tt
-  complete said out aside (write_fault which) records is read holds small straight = tt
-  complete said out aside words records is read holds small straight = no_words said program is records.2.0
-  complete said out aside (setup_refused refusal) records is read holds small straight = refused_so said (setup_refused refusal) is read holds small straight records.2.0
-  complete said out aside read_fault records is read holds small straight = refused_so said read_fault is read holds small straight records.2.0
-  complete said out aside (listing_refused error) records is read holds small straight = refused_so said (listing_refused error) is read holds small straight records.2.0
-  complete said out aside (conflict cycle bank port) records is read holds small straight = refused_so said (conflict cycle bank port) is read holds small straight records.2.0
-  complete said out aside (cycles_spent cycles) records is read holds small straight = refused_so said (cycles_spent cycles) is read holds small straight records.2.0
-  complete said out aside (too_long name) records is read holds small straight = refused_so said (too_long name) is read holds small straight records.2.0
-  complete said out aside (unbuilt line) records is read holds small straight = refused_so said (unbuilt line) is read holds small straight records.2.0
+  complete said out aside result records is read holds small straight =
+      ends_well said told failed asked (no_words said program is) (λ status refuses. refused_so said status is read holds small straight refuses) out aside result records

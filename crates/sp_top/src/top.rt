@@ -5,6 +5,9 @@ ghost use Rattle.sp_top.specs.Status.{plain_status};
 ghost use Rattle.sp_edges.specs.Standing.{Holds};
 ghost use Rattle.sp_top.specs.Form.{Line, IsStraight};
 ghost use Rattle.sp_top.specs.Commands.{IsCommand, DoneTexts, MayRefuse, MayEnd, NotRefused};
+ghost use Rattle.sp_netlist.specs.Cells.{PlainCell};
+ghost use Rattle.sp_setup.specs.Setup.{PlainSetup};
+ghost use Rattle.sp_top.specs.Complete.{IsRunnable, IsDoneInTime};
 ghost use Rattle.sp_top.specs.Compile.{longest_program};
 ghost use Rattle.sp_top.specs.Commands as commands;
 ghost use Rattle.sp_top.specs.Said.{plain_command};
@@ -16,6 +19,9 @@ use crate::simulate::{View, simulate};
 use crate::sinks::{Texts, deliver, refuse};
 use crate::status::Status;
 use sp_edges::{Inputs, Sink};
+use sp_listing::{listing_breaks_nowhere, listing_has_one_reading};
+use sp_netlist::{one_ending, refusals_exact};
+use sp_setup::{setups_are_not_refused, setups_are_one};
 use std::alloc::Global;
 
 // The texts of a command, or why it refuses.
@@ -73,6 +79,17 @@ pub fn spatialc<I: Inputs, K: Sink, A: Sink>(
     // A program of the form under a sure name isn't refused.
     ensures complete { (program bytes : List ℕ) (lines : List Line) → IsCommand (map string_bytes words.now) (commands.compile program) ⊎ IsCommand (map string_bytes words.now) (commands.verilog program) → I.sure inputs.old program
         → I.told inputs.old program ≡ Holds bytes → length bytes ≤ longest_program → IsStraight bytes lines → NotRefused (plain_status result) }
+    // Nor is the simulation of a listing that is done within its setup's cycles, nor the dump of any run.
+    ensures simulates { (listing setup : List ℕ) (cells : List PlainCell) (plain : PlainSetup) → IsCommand (map string_bytes words.now) (commands.simulate listing setup)
+        → IsRunnable (I.told inputs.old) (I.sure inputs.old) listing setup cells plain → IsDoneInTime cells plain → NotRefused (plain_status result) }
+    ensures dumps { (listing setup : List ℕ) (cells : List PlainCell) (plain : PlainSetup) → IsCommand (map string_bytes words.now) (commands.waves listing setup)
+        → IsRunnable (I.told inputs.old) (I.sure inputs.old) listing setup cells plain → NotRefused (plain_status result) }
 {
+    listing_has_one_reading();
+    listing_breaks_nowhere();
+    refusals_exact();
+    one_ending();
+    setups_are_not_refused();
+    setups_are_one();
     answer(alloc, words, inputs, out, aside)
 }
