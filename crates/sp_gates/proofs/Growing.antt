@@ -1,17 +1,14 @@
 -- How a draft grows by a gate, and by parts one after the other.
-use Rattle.std.proofs.Common.{◌≡◌, ◌≢◌, ◌↔◌, ◌⊎◌, ℕ, zero, suc, ◌+◌, ◌<◌, ◌≤◌, ◌==◌, Bool, true, false, cond, List, [], ◌∷◌, ◌++◌, length, count_by, Contains, Option, Some, None, option_map, slice_get, refl, sym, ap, ap₂, subst, ◌∙◌, inl, inr, ⊎_elim, arith, eq-eqb, ne_eqb, append_assoc}
-use Rattle.std.specs.List.{list_any}
+use Rattle.std.proofs.Common.{◌≡◌, ◌≢◌, ◌↔◌, ◌⊎◌, ℕ, zero, suc, ◌+◌, ◌<◌, ◌≤◌, ◌==◌, false, cond, List, [], ◌∷◌, ◌++◌, length, count_by, Contains, refl, sym, ap, subst, ◌∙◌, inl, inr, ⊎_elim, arith, eq-eqb, ne_eqb, append_assoc}
 use Rattle.std.proofs.lemmas.List.{append-nil}
 use Rattle.std.proofs.lemmas.List.Elements.{Contains-append_right, Contains-append_left, Contains-append_cases}
 use Rattle.std.proofs.lemmas.List.Sums.{sum_by-append, sum_by-cons}
 use Rattle.std.proofs.lemmas.Bool.{cases_eq}
 use Rattle.sp_netlist.specs.Cells.{PlainCell}
 use Rattle.sp_netlist.specs.Rules.{is_bank, is_done}
-use Rattle.sp_netlist.specs.Signals.{Signals}
-use Rattle.sp_netlist.specs.Draft.{Draft, IsDraft, IsComplete, Keeps, driver_count, net_count, promised_width, IsKept}
-use Rattle.sp_netlist.specs.Parts.{NoCell, names_bank}
+use Rattle.sp_netlist.specs.Draft.{Draft, IsDraft, IsComplete, Keeps, driver_count, net_count}
+use Rattle.sp_netlist.specs.Parts.{names_bank}
 use Rattle.sp_gates.specs.Nets.{HasNet, IsOpen, Awaits}
-use Rattle.sp_gates.specs.Runs.{RunsOn}
 use Rattle.sp_gates.specs.Grows.{Grows, Fills, Opens}
 use Rattle.sp_gates.specs.Bits.{HasBit, IsOne}
 use Rattle.sp_gates.proofs.Running.{none_joined, runs_earlier}

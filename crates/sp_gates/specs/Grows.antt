@@ -1,5 +1,5 @@
 -- How a builder's draft grows while a part of a circuit is emitted.
-use Rattle.std.specs.Prelude.{◌≡◌, ◌≢◌, ℕ, ◌<◌, List, [], ◌++◌, length, count_by, Contains}
+use Rattle.std.specs.Prelude.{◌≡◌, ◌≢◌, ℕ, ◌<◌, List, ◌++◌, length, count_by, Contains}
 use Rattle.sp_netlist.specs.Cells.{PlainCell}
 use Rattle.sp_netlist.specs.Rules.{is_bank, is_done}
 use Rattle.sp_netlist.specs.Draft.{Draft, IsDraft, Keeps}

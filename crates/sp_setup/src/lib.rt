@@ -16,5 +16,7 @@ mod tests;
 pub use cells::{MOST_WORDS, dram_sizes_fit};
 pub use drams::LONGEST_FILE;
 pub use error::{SetupEnd, SetupError};
-pub use laws::{documents_are_told_apart, number_texts_have_parts, setups_are_not_refused, setups_are_one};
+pub use laws::{
+    documents_are_told_apart, number_texts_have_parts, setups_are_not_refused, setups_are_one,
+};
 pub use setup::{Setup, read};

@@ -1,6 +1,4 @@
-use Rattle.std.proofs.Common.{◌≡◌, ℕ, ◌≤◌, max, subst, sym, ◌∙◌}
-use Rattle.sp_netlist.specs.Signals.{Signals}
-use Rattle.sp_gates.specs.Runs.{RunsOn}
+use Rattle.std.proofs.Common.{ℕ, ◌≤◌, subst, sym, ◌∙◌}
 use Rattle.sp_gates.proofs.Running.{runs_earlier}
 use Rattle.sp_gates.proofs.Words.{or_bits, max_bit}
 use Rattle.sp_gates.proofs.bits.either.Goals as goal

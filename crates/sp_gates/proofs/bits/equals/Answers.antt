@@ -1,4 +1,4 @@
-use Rattle.std.proofs.Common.{◌≡◌, ℕ, ◌≤◌, ◌==◌, [], subst, sym, ◌∙◌}
+use Rattle.std.proofs.Common.{ℕ, ◌≤◌, ◌==◌, [], subst, sym, ◌∙◌}
 use Rattle.sp_gates.proofs.Growing.{Fills-join, HasNet-stays}
 use Rattle.sp_gates.proofs.Running.{runs_earlier}
 use Rattle.sp_gates.proofs.Words.{equal_word, chosen_bit}

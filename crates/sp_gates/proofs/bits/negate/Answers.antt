@@ -1,4 +1,4 @@
-use Rattle.std.proofs.Common.{◌≡◌, ℕ, ◌≤◌, ◌-◌, arith, ◌∙◌}
+use Rattle.std.proofs.Common.{arith, ◌∙◌}
 use Rattle.sp_gates.proofs.Words.{not_bit}
 use Rattle.sp_gates.proofs.bits.negate.Goals as goal
 

@@ -1,4 +1,4 @@
-use Rattle.std.proofs.Common.{◌≡◌, ℕ, [], arith, refl, ap, ◌+◌, ◌<◌}
+use Rattle.std.proofs.Common.{◌≡◌, [], arith, ap, ◌+◌}
 use Rattle.sp_gates.proofs.Growing.{Fills-none, Fills-join, IsOne-stays}
 use Rattle.sp_gates.proofs.Running.{runs_earlier}
 use Rattle.sp_gates.proofs.Words.{later_step, before_step}
