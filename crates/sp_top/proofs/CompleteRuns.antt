@@ -4,13 +4,9 @@ use Rattle.std.specs.Prelude.{⊤}
 use Rattle.std.specs.declared.alloc.Global.{Global}
 use Rattle.sp_edges.specs.Standing.{Standing, Holds, IsAllOf}
 use Rattle.sp_edges.specs.Calls.{Call, given}
-use Rattle.sp_netlist.specs.declared.error.NetError.{NetError}
-use Rattle.sp_netlist.specs.declared.error.NetError.TheVariants as net
-use Rattle.sp_netlist.specs.declared.cell.Port.{Port}
 use Rattle.sp_netlist.specs.Cells.{PlainCell}
 use Rattle.sp_netlist.specs.Ports.{ports_of}
 use Rattle.sp_netlist.specs.Refusals as netlist
-use Rattle.sp_netlist.specs.Cycle.{Ending, Ends, done_in, conflict_in, not_yet}
 use Rattle.sp_netlist.specs.Laws.{HasOneEnding, RefusalsExact}
 use Rattle.sp_listing.specs.declared.error.ListError.{ListError}
 use Rattle.sp_listing.specs.declared.error.ListError.TheVariants as list
@@ -25,8 +21,8 @@ use Rattle.sp_setup.specs.Laws.{AreTold, SetupEnds-wide, SetupEnds-read_fault}
 use Rattle.sp_words.specs.Ports.{PlainPorts}
 use Rattle.sp_top.specs.Status.{PlainStatus, done, words, setup_refused, read_fault, write_fault, memory, listing_refused, conflict, cycles_spent, too_long, unbuilt}
 use Rattle.sp_top.specs.Reads.{ReadRefuses}
-use Rattle.sp_top.specs.Simulate.{longest_listing, longest_setup, setting_of, end_status, GivesNetlist, RefusesListing, ListingRefuses, SetupRefuses, RunEnds, DumpEnds, RefusesSetup, RefusesRun, SimulateRefuses}
-use Rattle.sp_top.specs.Commands.{Command, compile, verilog, simulate, waves, IsCommand, MayRefuse, Refuses, MayEnd, NotRefused}
+use Rattle.sp_top.specs.Simulate.{longest_listing, longest_setup, setting_of, end_status, GivesNetlist, RefusesListing, ListingRefuses, SetupRefuses, RunEnds, DumpEnds, SimulateRefuses}
+use Rattle.sp_top.specs.Commands.{Command, compile, verilog, simulate, waves, IsCommand, MayRefuse, MayEnd, NotRefused}
 use Rattle.sp_top.specs.Complete.{IsRunnable, IsDoneInTime}
 use Rattle.sp_top.specs.Record.{SinkChange, Records}
 use Rattle.sp_top.proofs.CompleteLemmas.{past, same_bytes, ends_well}
