@@ -1,0 +1,11 @@
+use Rattle.std.proofs.Common.{◌≡◌, ℕ, ◌-◌, List, length, sum}
+use Rattle.std.specs.List.{All}
+use Rattle.sp_modulo.specs.Times.{IsObeyed, IsNoLater}
+use Rattle.sp_modulo.proofs.Rising.{IsSettling}
+use Rattle.sp_modulo.proofs.least.settle.Given as goal
+
+abbrev pub invariant-loop : goal.invariant-loop
+invariant-loop l = IsSettling l.interval l.limits l.orders l.initial.times l.times
+
+abbrev pub decreases-loop : goal.decreases-loop
+decreases-loop l = sum l.limits - sum l.times

@@ -1,0 +1,13 @@
+//! Times of operations that are done once in each group of iterations, where groups begin at a fixed interval.
+#![tactic(auto)]
+
+mod least;
+mod order;
+mod schedule;
+#[cfg(test)]
+mod tests;
+
+pub use least::least_within;
+pub use order::Order;
+pub use schedule::{Schedule, end_of, least_schedule};
+pub use std::alloc::AllocError as NoMemory;
