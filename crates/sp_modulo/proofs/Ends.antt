@@ -1,7 +1,6 @@
 -- When the last operation is over.
-use Rattle.std.proofs.Common.{◌≡◌, ℕ, zero, suc, ◌+◌, ◌-◌, ◌<◌, ◌≤◌, max, List, [], ◌∷◌, length, slice_index, take, map, arith, ap, refl, add-one}
-use Rattle.std.proofs.lemmas.List.{get_or-map, get_or_past, length-map}
-use Rattle.sp_modulo.specs.Times.{IsNoLater, end_of}
+use Rattle.std.proofs.Common.{◌≡◌, ℕ, zero, suc, ◌+◌, ◌<◌, ◌≤◌, max, List, [], ◌∷◌, length, slice_index, take, arith, add-one}
+use Rattle.sp_modulo.specs.Times.{end_of}
 
 end_of-suc : (ls ts : List ℕ) (k : ℕ) → k < length ls → k < length ts →
     end_of (take (suc k) ls) (take (suc k) ts) ≡ max (end_of (take k ls) (take k ts)) (slice_index ts k + slice_index ls k)

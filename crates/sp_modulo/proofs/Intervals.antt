@@ -1,9 +1,8 @@
 -- Where the least interval lies.
-use Rattle.std.proofs.Common.{◌≡◌, ℕ, ◌+◌, ◌*◌, ◌-◌, ◌<◌, ◌≤◌, List, length, arith, mul-le-mul_left}
-use Rattle.std.specs.List.{All}
+use Rattle.std.proofs.Common.{ℕ, ◌+◌, ◌*◌, ◌≤◌, List, arith, mul-le-mul_left}
 use Rattle.sp_modulo.specs.declared.order.Order.{Order}
 use Rattle.sp_modulo.specs.Searching.{IsWithin, IsLeastInterval}
-use Rattle.sp_modulo.specs.Times.{Obey, IsObeyed, IsNoLater}
+use Rattle.sp_modulo.specs.Times.{IsObeyed}
 
 pub record IsBetween (limits : List ℕ) (orders : List Order) (low high : ℕ) : Type 0 where
   pub some : 1 ≤ low

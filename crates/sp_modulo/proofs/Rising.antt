@@ -1,5 +1,5 @@
 -- What is known of times that were raised as some orders ask.
-use Rattle.std.proofs.Common.{◌≡◌, ℕ, ◌+◌, ◌<◌, ◌≤◌, List, sum, slice_index_or, arith, below_more, sym, ◌∙◌, ap, subst, length, refl, suc, [], ◌∷◌, zero}
+use Rattle.std.proofs.Common.{◌≡◌, ℕ, ◌+◌, ◌<◌, ◌≤◌, List, sum, slice_index_or, arith, below_more, sym, ◌∙◌, ap, subst, length, refl, suc, [], ◌∷◌}
 use Rattle.std.proofs.lemmas.List.Sums.{sum_by-cons}
 use Rattle.std.specs.List.{All}
 use Rattle.sp_modulo.specs.Times.{IsObeyed, IsNoLater}

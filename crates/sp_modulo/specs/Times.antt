@@ -8,6 +8,10 @@ use Rattle.sp_modulo.specs.declared.order.Order.{Order}
 abbrev pub IsAmong : (count : ℕ) → Order → Type 0
 IsAmong count o = (o.first < count) × (o.second < count)
 
+-- they are there, and the gap is no longer than the first one takes
+abbrev pub IsFitting : (latencies : List ℕ) → Order → Type 0
+IsFitting latencies o = (o.first < length latencies) × (o.second < length latencies) × (o.gap ≤ slice_index latencies o.first)
+
 -- the second operation, that many groups later, is at least the gap after the first
 abbrev pub IsObeyed : (interval : ℕ) → (times : List ℕ) → Order → Type 0
 IsObeyed interval times o = slice_index times o.first + o.gap ≤ slice_index times o.second + o.distance * interval

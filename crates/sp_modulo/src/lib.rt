@@ -9,5 +9,5 @@ mod tests;
 
 pub use least::least_within;
 pub use order::Order;
-pub use schedule::{Schedule, end_of, least_schedule};
+pub use schedule::{Schedule, are_fitting, end_of, least_schedule};
 pub use std::alloc::AllocError as NoMemory;

@@ -1,8 +1,8 @@
 //! The least latency, interval and times of a body.
-ghost use Rattle.std.specs.Prelude.{◌≡◌, ℕ, List, ◌<◌, ◌≤◌, ◌-◌, ◌*◌, ◌^◌, length, slice_index, map, true, false, IfOk, IfSome, IfNone};
+ghost use Rattle.std.specs.Prelude.{◌≡◌, ◌↔◌, ℕ, List, ◌<◌, ◌≤◌, ◌-◌, ◌*◌, ◌^◌, length, slice_index, map, true, false, IsTrue, IfOk, IfSome, IfNone};
 ghost use Rattle.std.specs.List.{All};
 ghost use Rattle.sp_modulo.specs.Searching.{IsWithin, IsLeastInterval};
-ghost use Rattle.sp_modulo.specs.Times.{IsAmong, Obey, IsNoLater, IsLeast, end_of, in_group, InTime, IsLatency, IsSchedule};
+ghost use Rattle.sp_modulo.specs.Times.{IsAmong, IsFitting, Obey, IsNoLater, IsLeast, end_of, in_group, InTime, IsLatency, IsSchedule};
 
 use crate::NoMemory;
 use crate::least::least_within;
@@ -144,10 +144,24 @@ fn fit(
     })
 }
 
+fn is_fitting(latencies: &[u32], order: Order) -> bool
+    ensures { IsTrue result ↔ IsFitting latencies.now order }
+{
+    let (first, second) = (order.first as usize, order.second as usize);
+    first < latencies.len() && second < latencies.len() && order.gap <= latencies[first]
+}
+
+/// Whether each order is one of two of these operations, with a gap of no more than the first one's latency.
+pub fn are_fitting(latencies: &[u32], orders: &[Order]) -> bool
+    ensures { IsTrue result ↔ All (IsFitting latencies.now) orders.now }
+{
+    orders.iter().all(|o| is_fitting(latencies, *o))
+}
+
 /// The least latency of operations by the orders within one group, for it the least interval by all orders, and for both
 /// the least times. None where no times obey the orders within one group.
 ///
-/// An operation takes up to 4 cycles, and no order has a gap of more than its first operation takes.
+/// An operation takes up to 4 cycles. `are_fitting` tests the orders.
 pub fn least_schedule(
     alloc: Global,
     latencies: &[u32],
@@ -155,8 +169,7 @@ pub fn least_schedule(
 ) -> Result<Option<Schedule>, NoMemory>
     requires few { length latencies.now ≤ 2 ^ 29 }
     requires short { All (λ l. l ≤ LONGEST) latencies.now }
-    requires among { All (IsAmong (length latencies.now)) orders.now }
-    requires gaps { All (λ o. o.gap ≤ slice_index latencies.now o.first) orders.now }
+    requires fitting { All (IsFitting latencies.now) orders.now }
     ensures schedule { IfOk result (λ found. IfSome found (λ s. IsSchedule latencies.now orders.now s.latency s.interval s.times.items)) }
     ensures over { IfOk result (λ found. IfSome found (λ s. end_of latencies.now s.times.items ≡ s.latency)) }
     ensures none { IfOk result (λ found. IfNone found ((times : List ℕ) → ¬ Obey (length latencies.now) (in_group orders.now) 0 times)) }

@@ -47,12 +47,6 @@ fn parts(rt: &impl Abort, alloc: Global, found: &Option<Schedule>) -> Vec<u32> {
     parts
 }
 
-// Whether an order is one of operations of these latencies, and asks for no more than the first one's.
-fn is_among(latencies: &[u32], order: Order) -> bool {
-    let (first, second) = (order.first as usize, order.second as usize);
-    first < latencies.len() && second < latencies.len() && order.gap <= latencies[first]
-}
-
 // Latencies; orders, by first, second, gap and distance; and the interval, the latency and the times of the least
 // schedule, if there is one, which another program found by trying every interval. The first is a histogram's loop.
 const SCHEDULES: &str = "\
@@ -76,10 +70,7 @@ fn least_schedules(rt: HostRuntime) {
         let latencies = numbers(&rt, rt.alloc(), latencies);
         let orders = orders_from(&rt, rt.alloc(), orders);
         assert!(rt; latencies.len() < 100 && latencies.iter().all(|l| *l <= 4));
-        assert!(rt;
-            orders.iter().all(|o| is_among(&latencies, *o)),
-            "at {line}"
-        );
+        assert!(rt; are_fitting(&latencies, &orders), "at {line}");
         let found = least_schedule(rt.alloc(), &latencies, &orders)
             .ok()
             .expect(&rt, "memory");

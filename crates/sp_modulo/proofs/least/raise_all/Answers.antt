@@ -1,5 +1,5 @@
 use Rattle.std.proofs.lemmas.List.{get_or_default}
-use Rattle.sp_modulo.proofs.Rising.{after_same, after_raised, after_late}
+use Rattle.sp_modulo.proofs.Rising.{after_same, after_raised}
 use Rattle.sp_modulo.proofs.least.raise_all.Goals as goal
 use Rattle.sp_modulo.proofs.least.raise_all.Goals.{in-Same, in-Raised}
 

@@ -1,4 +1,4 @@
-use Rattle.std.proofs.Common.{◌≡◌, ◌<◌, ◌≤◌, length, sum, arith}
+use Rattle.std.proofs.Common.{◌<◌, sum, arith}
 use Rattle.sp_modulo.proofs.Rising.{sum-within}
 use Rattle.sp_modulo.proofs.least.settle.Goals as goal
 

@@ -1,6 +1,4 @@
-use Rattle.std.proofs.Common.{◌≡◌, ℕ, ◌-◌, List, length, sum}
-use Rattle.std.specs.List.{All}
-use Rattle.sp_modulo.specs.Times.{IsObeyed, IsNoLater}
+use Rattle.std.proofs.Common.{◌-◌, sum}
 use Rattle.sp_modulo.proofs.Rising.{IsSettling}
 use Rattle.sp_modulo.proofs.least.settle.Given as goal
 

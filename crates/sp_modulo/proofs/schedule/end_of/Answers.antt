@@ -1,4 +1,4 @@
-use Rattle.std.proofs.Common.{◌≡◌, ◌+◌, max, take, sym, ◌∙◌, ap, arith, rules}
+use Rattle.std.proofs.Common.{◌≡◌, ◌+◌, take, arith, rules}
 use Rattle.sp_modulo.specs.Times.{end_of}
 use Rattle.sp_modulo.proofs.Ends.{end_of-more}
 use Rattle.sp_modulo.proofs.schedule.end_of.Goals as goal

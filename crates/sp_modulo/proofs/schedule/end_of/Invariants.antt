@@ -1,4 +1,4 @@
-use Rattle.std.proofs.Common.{◌≡◌, take, ◌≤◌, ◌+◌}
+use Rattle.std.proofs.Common.{◌≡◌, take}
 use Rattle.sp_modulo.specs.Times.{end_of}
 use Rattle.sp_modulo.proofs.schedule.end_of.Given as goal
 

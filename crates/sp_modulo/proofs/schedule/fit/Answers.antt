@@ -1,5 +1,4 @@
-use Rattle.std.proofs.Common.{◌≡◌, ℕ, ◌-◌, List, max, map, rules, sym, subst}
-use Rattle.sp_modulo.specs.Searching.{IsWithin}
+use Rattle.std.proofs.Common.{◌≡◌, ◌-◌, max, map, rules}
 use Rattle.sp_modulo.proofs.Fitting.{possible, scheduled_by}
 use Rattle.sp_modulo.proofs.schedule.fit.Goals as goal
 

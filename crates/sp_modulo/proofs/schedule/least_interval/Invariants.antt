@@ -1,4 +1,4 @@
-use Rattle.std.proofs.Common.{ℕ, ◌-◌, List}
+use Rattle.std.proofs.Common.{◌-◌}
 use Rattle.sp_modulo.proofs.Intervals.{IsBetween}
 use Rattle.sp_modulo.proofs.schedule.least_interval.Given as goal
 
