@@ -1,0 +1,11 @@
+pub mod Bodies
+pub mod Copies
+pub mod Groups
+pub mod Named
+pub mod Nodes
+pub mod Orders
+pub mod Plain
+pub mod PlainPlan
+pub mod Ports
+pub mod Slots
+pub mod Validity
