@@ -1,5 +1,6 @@
 pub mod Bodies
 pub mod Copies
+pub mod ExamplePlans
 pub mod Groups
 pub mod Named
 pub mod Nodes
