@@ -2,7 +2,10 @@
 #![tactic(auto)]
 
 mod examples;
+mod operations;
 mod plan;
+mod size;
 
 pub use examples::{worked_plans, worked_wrong_plans};
+pub use operations::{has_banks, is_change, is_serial, kind, latency, share_port};
 pub use plan::{MemPlan, NodePlan, Plan};
