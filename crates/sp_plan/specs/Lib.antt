@@ -8,5 +8,6 @@ pub mod Orders
 pub mod Plain
 pub mod PlainPlan
 pub mod Ports
+pub mod Sites
 pub mod Slots
 pub mod Validity

@@ -4,6 +4,7 @@
 mod examples;
 mod operations;
 mod plan;
+mod site;
 mod size;
 
 pub use examples::{worked_plans, worked_wrong_plans};
