@@ -1,0 +1,2 @@
+pub mod OrderLists
+pub mod Turns
