@@ -1,2 +1,6 @@
+pub mod BodyAt
+pub mod Earlier
+pub mod Fits
 pub mod OrderLists
+pub mod Sizes
 pub mod Turns

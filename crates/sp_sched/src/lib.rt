@@ -3,5 +3,7 @@
 
 mod body;
 mod orders;
+mod least;
 
+pub use least::schedule;
 pub use std::alloc::AllocError as NoMemory;
