@@ -1,2 +1,5 @@
+pub mod Kept
+pub mod OuterKind
 pub mod SiteLemmas
 pub mod Trees
+pub mod Turns

@@ -1,5 +1,6 @@
 -- The plain value of each part of a plan as it is declared.
-use Rattle.std.specs.Prelude.{map}
+use Rattle.std.specs.Prelude.{List, Option, map}
+use Rattle.sp_bank.specs.Banking.{Banking}
 use Rattle.sp_plan.specs.declared.plan.MemPlan.{MemPlan}
 use Rattle.sp_plan.specs.declared.plan.NodePlan.{NodePlan}
 use Rattle.sp_plan.specs.declared.plan.NodePlan.TheVariants.{Inner, Outer, Other}
@@ -16,3 +17,7 @@ plain_node_plan Other = other_plan
 
 abbrev pub plain_plan : Plan → PlainPlan
 plain_plan p = record { mems = map plain_mem_plan p.mems.items; nodes = map plain_node_plan p.nodes.items }
+
+-- the schemes of memories, by number
+abbrev pub schemes_in : List MemPlan → List (Option Banking)
+schemes_in mems = map (λ (m : MemPlan). m.scheme) mems

@@ -31,29 +31,31 @@ abbrev pub stage_count : PlainStages → ℕ
 stage_count no_stage = 0
 stage_count (more_stage first last comb node rest) = 1 + stage_count rest
 
+-- a slot and a chain for each stage, and none of a `Stream` block
+abbrev pub has_slots : (stream : Bool) → (stages slots chains : ℕ) → Bool
+has_slots true n slots chains = (slots == 0) && (chains == 0)
+has_slots false n slots chains = (slots == n) && (chains == n)
+
+-- a node's plan is of its kind; an inner body has a time for each operation
+abbrev pub is_kind_of : PlainNode → PlainNodePlan → Bool
+is_kind_of (inner counters owned ops comb) (inner_plan times ii latency serial) = length times == length ops
+is_kind_of (outer counters style owned stages) (outer_plan slots chains) = has_slots (is_stream style) (stage_count stages) (length slots) (length chains)
+is_kind_of (inner counters owned ops comb) _ = false
+is_kind_of (outer counters style owned stages) _ = false
+is_kind_of node other_plan = true
+is_kind_of node _ = false
+
+-- a scheme is one of a memory with banks, of its rank
+abbrev pub fits_scheme : PlainCore → (mem : ℕ) → Option Banking → Bool
+fits_scheme core m None = true
+fits_scheme core m (Some b) = has_rank (mem core m).kind (length (mem core m).dims) (length b.alpha)
+
 module _ (core : PlainCore) (forms : PlainForms) (meets : List Meet) (plan : PlainPlan) where
-  -- a scheme is one of a memory with banks, of its rank
-  abbrev pub fits_mem : ℕ → Option Banking → Bool
-  fits_mem m None = true
-  fits_mem m (Some b) = has_rank (mem core m).kind (length (mem core m).dims) (length b.alpha)
-
   abbrev pub is_scheme_right : ℕ → Bool
-  is_scheme_right m = fits_mem m (mem_plan plan m).scheme
-
-  -- a node's plan is of its kind: an inner body has a time for each operation, an outer one a slot and a chain for each stage,
-  -- and a `Stream` block none
-  abbrev pub is_of_kind : PlainNode → PlainNodePlan → Bool
-  is_of_kind (inner counters owned ops comb) (inner_plan times ii latency serial) = length times == length ops
-  is_of_kind (outer counters style owned stages) (outer_plan slots chains) =
-      if is_stream style then (length slots == 0) && (length chains == 0)
-      else (length slots == stage_count stages) && (length chains == stage_count stages)
-  is_of_kind (inner counters owned ops comb) _ = false
-  is_of_kind (outer counters style owned stages) _ = false
-  is_of_kind node other_plan = true
-  is_of_kind node _ = false
+  is_scheme_right m = fits_scheme core m (mem_plan plan m).scheme
 
   abbrev pub kind_rule : NodeRule
-  kind_rule k n streamed node = is_of_kind node (node_plan plan k)
+  kind_rule k n streamed node = is_kind_of node (node_plan plan k)
 
   abbrev pub group_rule : NodeRule
   group_rule k n streamed (inner counters owned ops comb) = are_grouped core forms (schemes_of plan) (n + counters_size counters) ops

@@ -100,7 +100,7 @@ fn is_one_port(a: OpKind, b: OpKind) -> bool
 }
 
 /// Whether two operations name one memory.
-fn is_one_mem(a: Option<u32>, b: Option<u32>) -> bool
+pub(crate) fn is_one_mem(a: Option<u32>, b: Option<u32>) -> bool
     ensures { result ≡ is_one_mem a b }
 {
     match a {

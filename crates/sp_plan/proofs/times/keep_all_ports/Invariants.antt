@@ -1,0 +1,12 @@
+use Rattle.std.proofs.Common.{◌≡◌, map}
+use Rattle.std.specs.List.{flat_map, list_all}
+use Rattle.sp_core.specs.CoreParts.{plain_core}
+use Rattle.sp_core.specs.Elements.{numbers_below}
+use Rattle.sp_core.specs.Plain.{plain_op}
+use Rattle.sp_plan.specs.Bodies.{is_kept}
+use Rattle.sp_plan.specs.Orders.{all_port_orders}
+use Rattle.sp_plan.specs.Plain.{schemes_in}
+use Rattle.sp_plan.proofs.times.keep_all_ports.Given as goal
+
+abbrev pub invariant-loop-j : goal.invariant-loop-j
+invariant-loop-j l = l.kept ≡ list_all (is_kept l.ii l.times) (flat_map (all_port_orders (plain_core l.core) (map plain_op l.ops) (schemes_in l.mems)) (numbers_below l.j))
