@@ -1,5 +1,5 @@
 -- The plan of an outer body, by how many stages the body has.
-use Rattle.std.proofs.Common.{◌≡◌, ℕ, List, [], ◌∷◌, length, map, Vec, Global, refl, ap, sym, ◌∙◌, arith}
+use Rattle.std.proofs.Common.{◌≡◌, ℕ, List, [], ◌∷◌, length, Vec, Global, refl, ap, sym, ◌∙◌, arith}
 use Rattle.sp_core.specs.declared.node.CoreCounter.{CoreCounter}
 use Rattle.sp_core.specs.declared.node.Node.{Node, Outer}
 use Rattle.sp_core.specs.declared.node.Stage.{Stage}

@@ -1,5 +1,5 @@
 -- Sites, node by node.
-use Rattle.std.proofs.Common.{◌≡◌, ◌≢◌, ℕ, zero, suc, ◌+◌, ◌-◌, ◌<◌, ◌≤◌, ltb, Bool, true, false, cond, List, Option, length, arith, ap, refl, sym, ◌∙◌, lt-ltb, le-ltb}
+use Rattle.std.proofs.Common.{◌≡◌, ◌≢◌, ℕ, zero, suc, ◌+◌, ◌-◌, ◌<◌, ◌≤◌, ltb, Bool, false, cond, List, Option, length, arith, ap, refl, sym, ◌∙◌, lt-ltb, le-ltb}
 use Rattle.sp_core.specs.Declarations.{is_stream}
 use Rattle.sp_core.specs.Numbering.{node_count, counters_size, number_count}
 use Rattle.sp_core.specs.PlainCore.{PlainOp, PlainCounter, PlainNode, PlainStages, outer, fsm, branch}

@@ -1,5 +1,5 @@
 -- The plain value of an outer body, by its parts.
-use Rattle.std.proofs.Common.{◌≡◌, List, [], ◌∷◌, map, Vec, Global, refl, ◌∙◌, ap, ℕ}
+use Rattle.std.proofs.Common.{◌≡◌, map, Vec, Global, refl, ◌∙◌, ap, ℕ}
 use mathlib.Core.Former.{Count}
 use Rattle.sp_words.specs.declared.kind.Style.{Style}
 use Rattle.sp_core.specs.declared.node.CoreCounter.{CoreCounter}

@@ -1,5 +1,5 @@
 -- Times of operations one after the other.
-use Rattle.std.proofs.Common.{◌≡◌, ◌≢◌, ℕ, suc, ◌+◌, ◌==◌, ◌&&◌, Bool, true, false, List, [], ◌∷◌, length, refl, ap, arith}
+use Rattle.std.proofs.Common.{◌≡◌, ◌≢◌, ℕ, suc, ◌+◌, ◌==◌, ◌&&◌, Bool, true, false, List, [], ◌∷◌, length, refl, ap}
 use Rattle.sp_core.specs.Latency.{latency}
 use Rattle.sp_core.specs.PlainCore.{PlainCore, PlainOp}
 use Rattle.sp_plan.specs.Bodies.{are_in_turn}

@@ -1,13 +1,12 @@
 -- Plans of worked cores, worked out by hand, and which rules they keep.
-use Rattle.std.specs.Prelude.{ℕ, ℤ, pos, ◌+◌, Bool, true, false, List, [], ◌∷◌, ◌++◌, replicate, length, Option, Some, None, codes}
+use Rattle.std.specs.Prelude.{ℕ, pos, Bool, true, false, List, [], ◌∷◌, ◌++◌, replicate, length, Option, Some, None, codes}
 use Rattle.std.specs.List.{list_all}
 use Rattle.sp_affine.specs.Affine.{Affine}
-use Rattle.sp_bank.specs.Banking.{Banking}
 use Rattle.sp_core.specs.declared.access.Meet.{Meet}
 use Rattle.sp_core.specs.Elements.{numbers_below}
-use Rattle.sp_core.specs.ExampleForms.{count, two, lit, read, write, below, stages, mem_of, core, meet, form}
+use Rattle.sp_core.specs.ExampleForms.{count, two, read, write, below, stages, mem_of, core, meet, form}
 use Rattle.sp_core.specs.Forms.{PlainForms}
-use Rattle.sp_core.specs.PlainCore.{PlainCore, PlainNode, PlainOp, inner, outer}
+use Rattle.sp_core.specs.PlainCore.{PlainCore, inner, outer}
 use Rattle.sp_plan.specs.Copies.{is_single, is_duplicated}
 use Rattle.sp_plan.specs.Nodes.{NodeRule, holds_of_each}
 use Rattle.sp_plan.specs.PlainPlan.{PlainMemPlan, PlainNodePlan, inner_plan, outer_plan, other_plan, PlainPlan}

@@ -1,5 +1,5 @@
 -- Which accesses of an inner body form a group, and when a scheme keeps a group apart.
-use Rattle.std.specs.Prelude.{◌≡◌, ℕ, ◌+◌, ◌-◌, ◌==◌, ◌<◌, pos, Bool, true, false, ◌&&◌, ◌||◌, not, IsTrue, List, [], ◌∷◌, ◌++◌, length, drop, replicate, Option, Some, None, is_some, slice_index_or, if◌then◌else◌}
+use Rattle.std.specs.Prelude.{◌≡◌, ℕ, ◌+◌, ◌-◌, ◌==◌, ◌<◌, pos, Bool, true, false, ◌&&◌, ◌||◌, not, IsTrue, List, [], ◌∷◌, ◌++◌, length, replicate, Option, Some, None, slice_index_or, if◌then◌else◌}
 use Rattle.std.specs.List.{list_all}
 use Rattle.sp_affine.specs.Affine.{Affine}
 use Rattle.sp_affine.specs.Equality.{linear_parts_equal}
@@ -10,7 +10,7 @@ use Rattle.sp_core.specs.declared.node.SparseKind.TheVariants.{WideLoad, WideSto
 use Rattle.sp_core.specs.Declarations.{mem}
 use Rattle.sp_core.specs.Elements.{numbers_below}
 use Rattle.sp_core.specs.Forms.{PlainForms, form_at}
-use Rattle.sp_core.specs.Numbering.{node_count, counters_size, number_count}
+use Rattle.sp_core.specs.Numbering.{counters_size, number_count}
 use Rattle.sp_core.specs.PlainCore.{PlainOp, PlainNode, PlainStages, inner, outer, fsm, branch, sparse, no_stage, more_stage, PlainCore}
 use Rattle.sp_plan.specs.Orders.{op_at}
 use Rattle.sp_plan.specs.Ports.{share_port, is_serial, scheme_at}

@@ -1,9 +1,9 @@
 -- What holds of each node of a core, by the node's number, the number of its first operation, and whether it is a stage of a
 -- `Stream` block.
-use Rattle.std.specs.Prelude.{ℕ, zero, suc, ◌+◌, ◌-◌, nat_lt, Bool, true, false, ◌&&◌, List, length, Option, Some, None, if◌then◌else◌}
+use Rattle.std.specs.Prelude.{ℕ, zero, suc, ◌+◌, ◌-◌, nat_lt, Bool, true, false, ◌&&◌, length, Option, Some, None, if◌then◌else◌}
 use Rattle.sp_core.specs.Declarations.{is_stream}
 use Rattle.sp_core.specs.Numbering.{node_count, counters_size, number_count}
-use Rattle.sp_core.specs.PlainCore.{PlainNode, PlainStages, inner, outer, fsm, branch, no_stage, more_stage}
+use Rattle.sp_core.specs.PlainCore.{PlainNode, PlainStages, outer, fsm, branch, no_stage, more_stage}
 
 abbrev pub NodeRule : Type 0
 NodeRule = (node number : ℕ) → (streamed : Bool) → PlainNode → Bool

@@ -2,7 +2,6 @@
 use Rattle.std.specs.Prelude.{ℕ, ◌+◌, ◌-◌, ◌*◌, ◌==◌, nat_le, nat_lt, Bool, true, false, ◌&&◌, ◌||◌, not, List, [], ◌∷◌, length, filter, slice_index, slice_index_or, None, if◌then◌else◌}
 use Rattle.std.specs.List.{list_all, list_any}
 use Rattle.sp_core.specs.declared.access.Meet.{Meet}
-use Rattle.sp_core.specs.Declarations.{is_stream}
 use Rattle.sp_core.specs.Elements.{numbers_below}
 use Rattle.sp_core.specs.Meeting.{is_parallel, least_of}
 use Rattle.sp_core.specs.Numbering.{number_count}

@@ -17,5 +17,5 @@ pub use operations::{has_banks, is_change, is_serial, kind, latency, share_port}
 pub use orders::{is_in_body, latency_at, meet_order, order, use_order};
 pub use plan::{MemPlan, NodePlan, Plan};
 pub use site::{Site, is_stream, site_at};
-pub use times::are_times_right;
 pub use size::{count_nodes, count_numbers, counters_size, spans_size};
+pub use times::are_times_right;

@@ -28,6 +28,9 @@ pub enum NodePlan {
         serial: bool,
     },
     /// For each stage its slot, and its chain among those of that slot. None of a `Stream` block.
-    Outer { slots: Vec<u32>, chains: Vec<u32> },
+    Outer {
+        slots: Vec<u32>,
+        chains: Vec<u32>,
+    },
     Other,
 }

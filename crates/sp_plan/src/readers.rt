@@ -76,7 +76,10 @@ fn count_readers(core: &Core, m: u32, node: &Node) -> u64
         Node::Load { .. } => 0,
         Node::Store { mem, .. } => u64::from(*mem == m),
         Node::Sparse {
-            kind, mem, index, ..
+            kind,
+            mem,
+            index,
+            ..
         } => u64::from(sparse_reads(core, *kind, *mem, *index, m)),
     }
 }

@@ -62,7 +62,10 @@ pub fn site_at<'a>(wanted: u32, number: u32, streamed: bool, node: &'a Node) -> 
             None
         }
         Node::Fsm {
-            start, test, body, ..
+            start,
+            test,
+            body,
+            ..
         } => {
             let before = (start.len() + test.len()) as u32;
             site_at(wanted - 1, number + before, false, body)

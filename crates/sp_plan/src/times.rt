@@ -75,14 +75,7 @@ fn keep_meet(core: &Core, ops: &[Op], number: u32, times: &[u32], ii: u32, meet:
     }
 }
 
-fn keep_meets(
-    core: &Core,
-    ops: &[Op],
-    number: u32,
-    times: &[u32],
-    ii: u32,
-    meets: &[Meet],
-) -> bool
+fn keep_meets(core: &Core, ops: &[Op], number: u32, times: &[u32], ii: u32, meets: &[Meet]) -> bool
     ensures { result ≡ list_all (is_kept ii times.now) (flat_map (meet_orders (plain_core core.now) (map plain_op ops.now) number) meets.now) }
 {
     for meet in meets {
@@ -133,14 +126,7 @@ fn keep_port(
 }
 
 /// Whether they keep those of an access and of those before it to its port.
-fn keep_ports(
-    core: &Core,
-    mems: &[MemPlan],
-    ops: &[Op],
-    times: &[u32],
-    ii: u32,
-    j: u32,
-) -> bool
+fn keep_ports(core: &Core, mems: &[MemPlan], ops: &[Op], times: &[u32], ii: u32, j: u32) -> bool
     requires { j < length ops.now }
     ensures { result ≡ list_all (is_kept ii times.now) (all_port_orders (plain_core core.now) (map plain_op ops.now) (schemes_in mems.now) j) }
 {

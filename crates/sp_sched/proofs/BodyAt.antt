@@ -1,5 +1,5 @@
 -- What is known of an inner body of a core.
-use Rattle.std.proofs.Common.{◌≡◌, ℕ, ◌+◌, ◌≤◌, ◌^◌, ◌<◌, false, true, List, [], length, Option, Some, None, refl, ap, sym, ◌∙◌, subst, arith}
+use Rattle.std.proofs.Common.{◌≡◌, ℕ, ◌+◌, ◌≤◌, ◌^◌, false, true, List, [], length, Option, Some, ap, subst, arith}
 use Rattle.std.specs.List.{All}
 use Rattle.sp_bank.specs.Banking.{Banking}
 use Rattle.sp_core.specs.declared.access.Meet.{Meet}
@@ -12,7 +12,7 @@ use Rattle.sp_modulo.specs.Times.{IsFitting}
 use Rattle.sp_plan.specs.Bodies.{latencies}
 use Rattle.sp_plan.specs.Nodes.{Site, site_at}
 use Rattle.sp_plan.specs.Orders.{body_orders}
-use Rattle.sp_sched.proofs.Earlier.{and_parts, IsRightAt, right_site, each-earlier}
+use Rattle.sp_sched.proofs.Earlier.{and_parts, right_site, each-earlier}
 use Rattle.sp_sched.proofs.Fits.{orders_fit}
 use Rattle.sp_sched.proofs.Sizes.{small, site_within}
 

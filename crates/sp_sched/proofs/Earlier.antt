@@ -1,12 +1,12 @@
 -- In a core the operands and the mask of an operation stand before it.
-use Rattle.std.proofs.Common.{◌≡◌, ℕ, zero, suc, ◌+◌, ◌-◌, ◌<◌, ◌≤◌, nat_lt, ◌&&◌, Bool, true, false, cond, IsTrue, List, [], ◌∷◌, ◌++◌, map, length, slice_index_or, Option, Some, None, refl, ap, sym, ◌∙◌, subst, length-append, arith}
+use Rattle.std.proofs.Common.{◌≡◌, ℕ, zero, suc, ◌+◌, ◌-◌, ◌<◌, nat_lt, ◌&&◌, Bool, true, false, cond, List, [], ◌∷◌, ◌++◌, length, slice_index_or, Option, Some, None, refl, subst, length-append, arith}
 use Rattle.sp_core.specs.Around.{Around, within}
 use Rattle.sp_core.specs.Invariant.{is_right_here, IsRight, AreRight, owned_in}
-use Rattle.sp_core.specs.NodeRules.{with_state, is_node_right, is_owned_once, owned_by, are_counters_right}
-use Rattle.sp_core.specs.Numbering.{node_count, counters_size, number_count}
-use Rattle.sp_core.specs.OperationRules.{are_operations_right, are_operations_right_after, is_operation_right, is_in_range, names_rightly, indices_of, is_mask}
-use Rattle.sp_core.specs.PlainCore.{PlainCounter, PlainOp, PlainNode, PlainStages, inner, outer, fsm, branch, load, store, sparse, no_stage, more_stage, PlainCore}
-use Rattle.sp_core.specs.Typed.{Given, given_type, is_given, gives, give_all, taken_types}
+use Rattle.sp_core.specs.NodeRules.{with_state, is_node_right}
+use Rattle.sp_core.specs.Numbering.{node_count, number_count}
+use Rattle.sp_core.specs.OperationRules.{are_operations_right_after, is_operation_right, is_in_range, names_rightly, indices_of, is_mask}
+use Rattle.sp_core.specs.PlainCore.{PlainOp, PlainNode, PlainStages, inner, outer, fsm, branch, load, store, sparse, no_stage, more_stage, PlainCore}
+use Rattle.sp_core.specs.Typed.{Given, given_type, gives, give_all, taken_types}
 use Rattle.sp_plan.specs.Nodes.{Site, site_at, stage_site_at}
 use Rattle.sp_plan.specs.Orders.{no_op}
 use Rattle.sp_words.specs.declared.types.Ty.{Ty}

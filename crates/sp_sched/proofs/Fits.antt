@@ -1,5 +1,5 @@
 -- The orders of a body are orders of its operations, with gaps no longer than the first one takes.
-use Rattle.std.proofs.Common.{◌≡◌, ℕ, zero, suc, ◌+◌, ◌-◌, ◌<◌, ◌≤◌, nat_le, nat_lt, ◌&&◌, Bool, true, false, cond, List, [], ◌∷◌, ◌++◌, map, length, slice_index, slice_index_or, Option, Some, None, refl, ap, sym, ◌∙◌, subst, ltb-true, arith}
+use Rattle.std.proofs.Common.{◌≡◌, ℕ, zero, suc, ◌-◌, ◌<◌, ◌≤◌, nat_le, ◌&&◌, Bool, true, false, cond, List, [], ◌∷◌, map, length, slice_index, Option, Some, None, refl, sym, subst, ltb-true, arith}
 use Rattle.std.proofs.lemmas.List.{get_or-map, length-map}
 use Rattle.std.proofs.lemmas.List.Elements.{All-append, All-cons, All-nil}
 use Rattle.std.specs.List.{All, flat_map}
@@ -16,7 +16,7 @@ use Rattle.sp_modulo.specs.declared.order.Order.{Order}
 use Rattle.sp_modulo.specs.Times.{IsFitting}
 use Rattle.sp_plan.specs.Bodies.{latencies}
 use Rattle.sp_plan.specs.Orders.{order, no_op, op_at, use_order, mask_orders, use_orders, is_in_body, change_gap, meet_order, meet_orders, same_time, in_turn, port_orders, all_port_orders, body_orders}
-use Rattle.sp_plan.specs.Ports.{is_change, is_one_port, is_one_mem, is_in_banks, share_port, is_serial}
+use Rattle.sp_plan.specs.Ports.{is_change, is_one_port, is_one_mem, share_port, is_serial}
 use Rattle.sp_sched.proofs.Earlier.{and_parts, AllBelow, MaskBelow, IsEarlier}
 use Rattle.sp_sched.proofs.OrderLists.{flat_map-suc}
 use Rattle.sp_words.specs.declared.kind.Kind.{Kind}
@@ -145,9 +145,9 @@ module _ (core : PlainCore) (ops : List PlainOp) where
   meet_fits : (number : ℕ) (m : Meet) → All Fits (meet_orders core ops number m)
   meet_fits number m = All-if Fits (is_in_body core ops number m.first && is_in_body core ops number m.second) (meet_order core ops number m ∷ []) []
       (λ e.
-        let parts = and_parts (is_in_body core ops number m.first) _ e in
-        let op = op_at core ops (m.first - number) in
-        All-cons Fits (meet_order core ops number m) [] (fits (m.first - number) (m.second - number) (change_gap core ops number op) (least_of core [] m) (in_body number m.first parts.0) (in_body number m.second parts.1) (some_change op.kind (read_of core op.mem))) (All-nil Fits))
+      let parts = and_parts (is_in_body core ops number m.first) _ e in
+      let op = op_at core ops (m.first - number) in
+      All-cons Fits (meet_order core ops number m) [] (fits (m.first - number) (m.second - number) (change_gap core ops number op) (least_of core [] m) (in_body number m.first parts.0) (in_body number m.second parts.1) (some_change op.kind (read_of core op.mem))) (All-nil Fits))
       (All-nil Fits)
 
   some_read_of : (m : Option ℕ) → 1 ≤ read_of core m
@@ -160,12 +160,12 @@ module _ (core : PlainCore) (ops : List PlainOp) where
       let b = op_at core ops j in
       All-if Fits (share_port core a b) _ []
       (λ e.
-        let port = (and_parts (is_one_port a.kind b.kind) (is_one_mem a.mem b.mem) (and_parts (is_one_port a.kind b.kind && is_one_mem a.mem b.mem) _ e).0).0 in
-        let first : 1 ≤ latency core a = some_port a.kind b.kind (read_of core a.mem) (some_read_of a.mem) port in
-        let second : 1 ≤ latency core b = some_port b.kind a.kind (read_of core b.mem) (some_read_of b.mem) (one_port-back a.kind b.kind port) in
-        All-if Fits (is_serial schemes a.mem) (in_turn core ops schemes i j) (same_time core ops schemes i j)
-        (λ _. All-two Fits _ _ (fits i j 1 0 (omega arith) h first) (fits j i 1 1 h (omega arith) second))
-        (All-two Fits _ _ (fits i j 0 0 (omega arith) h (omega arith)) (fits j i 0 0 h (omega arith) (omega arith))))
+      let port = (and_parts (is_one_port a.kind b.kind) (is_one_mem a.mem b.mem) (and_parts (is_one_port a.kind b.kind && is_one_mem a.mem b.mem) _ e).0).0 in
+      let first : 1 ≤ latency core a = some_port a.kind b.kind (read_of core a.mem) (some_read_of a.mem) port in
+      let second : 1 ≤ latency core b = some_port b.kind a.kind (read_of core b.mem) (some_read_of b.mem) (one_port-back a.kind b.kind port) in
+      All-if Fits (is_serial schemes a.mem) (in_turn core ops schemes i j) (same_time core ops schemes i j)
+      (λ _. All-two Fits _ _ (fits i j 1 0 (omega arith) h first) (fits j i 1 1 h (omega arith) second))
+      (All-two Fits _ _ (fits i j 0 0 (omega arith) h (omega arith)) (fits j i 0 0 h (omega arith) (omega arith))))
       (All-nil Fits)
 
   pub orders_fit : (schemes : List (Option Banking)) (number : ℕ) (meets : List Meet) → ((j : ℕ) → j < length ops → IsEarlier j (op_at core ops j)) → All Fits (body_orders core ops schemes number meets)

@@ -1,11 +1,11 @@
 -- Lists of orders as they grow.
-use Rattle.std.proofs.Common.{◌≡◌, ℕ, zero, suc, ◌+◌, ◌<◌, List, [], ◌∷◌, ◌++◌, map, take, length, slice_index_or, refl, ap, sym, ◌∙◌, append_assoc, add-one, arith}
+use Rattle.std.proofs.Common.{◌≡◌, ℕ, suc, ◌+◌, ◌<◌, List, [], ◌∷◌, ◌++◌, map, length, slice_index_or, refl, ap, sym, ◌∙◌, append_assoc, add-one}
 use Rattle.std.specs.List.{flat_map}
 use Rattle.std.proofs.lemmas.List.{get_or-map}
 use Rattle.sp_core.specs.declared.operation.Op.{Op}
 use Rattle.sp_core.specs.Elements.{numbers_below}
 use Rattle.sp_core.specs.Plain.{plain_op}
-use Rattle.sp_core.specs.PlainCore.{PlainCore, PlainOp}
+use Rattle.sp_core.specs.PlainCore.{PlainCore}
 use Rattle.sp_plan.specs.Orders.{op_at, no_op}
 
 pub op_at-is : (core : PlainCore) (ops : List Op) (j : ℕ) (d : Op) → j < length ops → op_at core (map plain_op ops) j ≡ plain_op (slice_index_or ops j d)

@@ -1,16 +1,16 @@
 -- The times of least plans are right.
-use Rattle.std.proofs.Common.{◌≡◌, ℕ, zero, suc, ◌+◌, ◌*◌, ◌<◌, ◌≤◌, ◌==◌, nat_le, ◌&&◌, max, Bool, true, false, not, IsTrue, List, [], ◌∷◌, length, slice_index, slice_index_or, Option, refl, ap, sym, ◌∙◌, eq-eqb, le-leb, arith}
+use Rattle.std.proofs.Common.{◌≡◌, ℕ, nat_le, ◌&&◌, Bool, true, false, IsTrue, List, [], ◌∷◌, Option, refl, sym, eq-eqb, le-leb, arith}
 use Rattle.std.specs.List.{All, list_all}
 use Rattle.std.proofs.lemmas.List.Elements.{All-head, All-tail}
 use Rattle.sp_bank.specs.Banking.{Banking}
 use Rattle.sp_core.specs.declared.access.Meet.{Meet}
 use Rattle.sp_core.specs.PlainCore.{PlainCore, PlainOp}
 use Rattle.sp_modulo.specs.declared.order.Order.{Order}
-use Rattle.sp_modulo.specs.Times.{IsObeyed, end_of}
-use Rattle.sp_plan.specs.Bodies.{is_kept, latencies, are_in_turn, keep_orders, are_times_right}
+use Rattle.sp_modulo.specs.Times.{IsObeyed}
+use Rattle.sp_plan.specs.Bodies.{is_kept, are_in_turn, are_times_right}
 use Rattle.sp_plan.specs.Orders.{body_orders}
 use Rattle.sp_plan.specs.PlainPlan.{inner_plan}
-use Rattle.sp_sched.specs.Least.{IsInTurn, IsPipelined, IsLeastBody}
+use Rattle.sp_sched.specs.Least.{IsLeastBody}
 
 both : (a b : Bool) → a ≡ true → b ≡ true → (a && b) ≡ true
 both true b e f = f

@@ -1,8 +1,8 @@
 -- Numbers of operations are small.
-use Rattle.std.proofs.Common.{◌≡◌, ℕ, zero, suc, ◌+◌, ◌-◌, ◌<◌, ◌≤◌, ◌^◌, nat_lt, Bool, true, false, cond, List, length, Option, Some, None, refl, ap, sym, ◌∙◌, subst, ltb-true, arith}
+use Rattle.std.proofs.Common.{◌≡◌, ℕ, zero, suc, ◌+◌, ◌-◌, ◌<◌, ◌≤◌, ◌^◌, nat_lt, Bool, true, false, cond, length, Option, Some, None, subst, ltb-true, arith}
 use Rattle.sp_core.specs.Declarations.{is_stream}
 use Rattle.sp_core.specs.Invariant.{IsCore}
-use Rattle.sp_core.specs.Numbering.{node_count, node_count_in, counters_size, spans_size, number_count, number_count_in, operation_count, operation_count_in, core_size}
+use Rattle.sp_core.specs.Numbering.{node_count, node_count_in, counters_size, number_count, number_count_in, operation_count, operation_count_in, core_size}
 use Rattle.sp_core.specs.PlainCore.{PlainNode, PlainStages, inner, outer, fsm, branch, load, store, sparse, no_stage, more_stage, PlainCore}
 use Rattle.sp_plan.specs.Nodes.{Site, site_at, stage_site_at}
 

@@ -1,6 +1,6 @@
 -- The least plan of an inner body: the least latency, for it the least interval, and for both the least times; or its
 -- operations one after the other.
-use Rattle.std.specs.Prelude.{◌≡◌, ℕ, ◌+◌, max, Bool, true, false, ◌⊎◌, IsTrue, List, length, map, Option, Some, None}
+use Rattle.std.specs.Prelude.{◌≡◌, ℕ, ◌+◌, max, Bool, true, false, ◌⊎◌, IsTrue, List, length, Option, Some, None}
 use Rattle.sp_bank.specs.Banking.{Banking}
 use Rattle.sp_core.specs.declared.access.Meet.{Meet}
 use Rattle.sp_core.specs.Numbering.{counters_size}
@@ -9,7 +9,7 @@ use Rattle.sp_modulo.specs.Times.{Obey, in_group, end_of, IsSchedule}
 use Rattle.sp_plan.specs.Bodies.{latencies, are_in_turn}
 use Rattle.sp_plan.specs.Nodes.{Site, site_at}
 use Rattle.sp_plan.specs.Orders.{body_orders}
-use Rattle.sp_plan.specs.PlainPlan.{PlainNodePlan, inner_plan, outer_plan, other_plan}
+use Rattle.sp_plan.specs.PlainPlan.{PlainNodePlan, inner_plan, other_plan}
 
 -- operations one after the other, and a group when the last one is over
 pub record IsInTurn (core : PlainCore) (ops : List PlainOp) (times : List ℕ) (ii latency : ℕ) : Type 0 where

@@ -32,7 +32,15 @@ pub fn schedule(
         Some(site) => match site.node {
             Node::Inner { counters, ops, .. } => {
                 let number = site.number + counters_size(counters);
-                plan_body(alloc, core, ops, number, site.streamed, &meets.pairs, schemes)
+                plan_body(
+                    alloc,
+                    core,
+                    ops,
+                    number,
+                    site.streamed,
+                    &meets.pairs,
+                    schemes,
+                )
             }
             _ => Ok(NodePlan::Other),
         },

@@ -2,9 +2,11 @@
 #![tactic(auto)]
 
 mod body;
-mod orders;
 mod laws;
 mod least;
+mod orders;
+#[cfg(test)]
+mod tests;
 
 pub use laws::least_plans_are_right;
 pub use least::schedule;

@@ -1,8 +1,8 @@
-use Rattle.std.proofs.Common.{◌≡◌, ◌+◌, ◌-◌, false, map, length, ap, ◌∙◌, sym, arith, rules}
+use Rattle.std.proofs.Common.{◌≡◌, ◌+◌, ◌-◌, false, map, length, ap, ◌∙◌, arith}
 use Rattle.std.proofs.lemmas.List.{length-map}
 use Rattle.sp_core.specs.Numbering.{node_count, node_count_in, number_count, number_count_in, counters_size}
 use Rattle.sp_core.specs.Plain.{plain_op, plain_counter, plain_node, plain_stage_list}
-use Rattle.sp_plan.specs.Nodes.{site_at, stage_site_at}
+use Rattle.sp_plan.specs.Nodes.{site_at}
 use Rattle.sp_plan.proofs.SiteLemmas.{site_in_outer, site_in_fsm, site_in_first, site_in_second}
 use Rattle.sp_plan.proofs.Trees.{plain_outer}
 use Rattle.sp_plan.proofs.site.+site_at.Goals as goal
@@ -16,9 +16,11 @@ loop-stage-init t c =
     let stage_nodes = ap node_count_in stages in
     let stage_numbers = ap number_count_in stages in
     let counters = ap (λ xs. counters_size (map plain_counter xs)) c.deref.ensures.value in
-    let next : c.args.number + c.counters_size.result ≡ c.args.number + counters_size (map plain_counter c.in-Outer.counters.items) = omega (arith, counters) in
-    (site_in_outer c.args.wanted c.args.number _ c.args.streamed _ c.in-Outer.style _ _ _ _ is c.if-wanted-eq0.false next stages,
-    omega (arith, numbers, stage_numbers, counters), omega (arith, nodes, stage_nodes))
+    let next : c.args.number + c.counters_size.result ≡ c.args.number + counters_size (map plain_counter c.in-Outer.counters.items) = omega (arith, counters) in (
+      site_in_outer c.args.wanted c.args.number _ c.args.streamed _ c.in-Outer.style _ _ _ _ is c.if-wanted-eq0.false next stages,
+      omega (arith, numbers, stage_numbers, counters),
+      omega (arith, nodes, stage_nodes),
+    )
 
 pub returns-in-Fsm : goal.returns-in-Fsm
 returns-in-Fsm t c =

@@ -1,6 +1,6 @@
 use Rattle.std.proofs.Common.{◌≡◌, ◌+◌, ◌≤◌, ◌^◌, drop}
 use Rattle.sp_core.specs.Declarations.{is_stream}
-use Rattle.sp_core.specs.Numbering.{node_count, node_count_in, number_count_in}
+use Rattle.sp_core.specs.Numbering.{node_count_in, number_count_in}
 use Rattle.sp_core.specs.Plain.{plain_node, plain_stage_list}
 use Rattle.sp_plan.specs.Nodes.{site_at, stage_site_at}
 use Rattle.sp_plan.proofs.site.+site_at.Given as goal

@@ -1,4 +1,4 @@
-use Rattle.std.proofs.Common.{◌≡◌, ◌≢◌, length, map, sym, arith}
+use Rattle.std.proofs.Common.{◌≢◌, length, map, sym, arith}
 use Rattle.std.proofs.lemmas.List.{length-map}
 use Rattle.sp_core.specs.CoreParts.{plain_core}
 use Rattle.sp_core.specs.Plain.{plain_op}

@@ -5,5 +5,6 @@ use Rattle.sp_plan.proofs.times.keep_all_uses.Goals.{then-kept, else-kept}
 
 pub loop-j-preserved : goal.loop-j-preserved
 loop-j-preserved c = elim c.if-kept.branch [
-  then-kept w ↦ then_more _ _ c.loop-j.j c.loop-j.kept _ c.loop-j.invariant w.if-kept.true (w.kept-is ∙ w.keep_uses-kept.ensures)
-  | else-kept w ↦ else_more _ _ c.loop-j.j c.loop-j.kept _ c.loop-j.invariant w.if-kept.false (w.kept-is ∙ w.if-kept.false) ]
+  | then-kept w ↦ then_more _ _ c.loop-j.j c.loop-j.kept _ c.loop-j.invariant w.if-kept.true (w.kept-is ∙ w.keep_uses-kept.ensures)
+  | else-kept w ↦ else_more _ _ c.loop-j.j c.loop-j.kept _ c.loop-j.invariant w.if-kept.false (w.kept-is ∙ w.if-kept.false)
+]

@@ -5,7 +5,6 @@ use Rattle.sp_core.specs.Elements.{numbers_below}
 use Rattle.sp_core.specs.Plain.{plain_op}
 use Rattle.sp_plan.specs.Bodies.{is_kept}
 use Rattle.sp_plan.specs.Orders.{use_orders}
-use Rattle.sp_plan.specs.Plain.{schemes_in}
 use Rattle.sp_plan.proofs.times.keep_all_uses.Given as goal
 
 abbrev pub invariant-loop-j : goal.invariant-loop-j

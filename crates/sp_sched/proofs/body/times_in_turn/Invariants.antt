@@ -1,7 +1,4 @@
-use Rattle.std.proofs.Common.{◌≡◌, ◌≤◌, ◌*◌, ◌^◌, map, take, length}
-use Rattle.std.specs.List.{All}
 use Rattle.sp_core.specs.CoreParts.{plain_core}
-use Rattle.sp_core.specs.Plain.{plain_op}
 use Rattle.sp_sched.proofs.Turns.{TurnsUpTo}
 use Rattle.sp_sched.proofs.body.times_in_turn.Given as goal
 

@@ -1,12 +1,11 @@
-use Rattle.std.proofs.Common.{◌≡◌, ◌≤◌, ◌<◌, ◌+◌, ◌^◌, ℕ, false, map, length, Option, Some, ap, sym, ◌∙◌, subst, arith, rules}
+use Rattle.std.proofs.Common.{◌+◌, false, map, length, ap, sym, ◌∙◌, arith}
 use Rattle.std.proofs.lemmas.List.{length-map}
 use Rattle.sp_core.specs.CoreParts.{plain_core}
 use Rattle.sp_core.specs.Numbering.{counters_size, number_count}
 use Rattle.sp_core.specs.Plain.{plain_op, plain_counter, plain_node}
-use Rattle.sp_core.specs.PlainCore.{PlainCore, PlainNode, PlainCounter, PlainOp}
 use Rattle.sp_plan.specs.Nodes.{site_at}
 use Rattle.sp_plan.specs.Sites.{plain_site}
-use Rattle.sp_sched.proofs.BodyAt.{IsBody, body_at}
+use Rattle.sp_sched.proofs.BodyAt.{body_at}
 use Rattle.sp_sched.proofs.Sizes.{small}
 use Rattle.sp_sched.proofs.least.schedule.Goals as goal
 
