@@ -3,3 +3,4 @@ pub mod OuterKind
 pub mod SiteLemmas
 pub mod Trees
 pub mod Turns
+pub mod UsedNames

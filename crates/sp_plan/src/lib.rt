@@ -3,6 +3,7 @@
 
 mod examples;
 mod kinds;
+mod naming;
 mod operations;
 mod orders;
 mod plan;
@@ -16,6 +17,8 @@ pub use kinds::{fits_scheme, is_of_kind};
 pub use operations::{has_banks, is_change, is_serial, kind, latency, share_port};
 pub use orders::{is_in_body, latency_at, meet_order, order, use_order};
 pub use plan::{MemPlan, NodePlan, Plan};
+pub use readers::duplicates;
 pub use site::{Site, is_stream, site_at};
 pub use size::{count_nodes, count_numbers, counters_size, spans_size};
 pub use times::are_times_right;
+pub use naming::uses;

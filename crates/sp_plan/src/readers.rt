@@ -4,9 +4,9 @@ ghost use Rattle.std.specs.Prelude.{◌≡◌, ◌≤◌, ◌^◌, ◌*◌, map}
 ghost use Rattle.sp_core.specs.Numbering.{node_count};
 ghost use Rattle.sp_core.specs.CoreParts.{plain_core};
 ghost use Rattle.sp_core.specs.Plain.{plain_op, plain_node};
-ghost use Rattle.sp_plan.specs.Copies.{one_if, is_read, reads, sparse_reads, readers};
+ghost use Rattle.sp_plan.specs.Copies.{one_if, is_read, reads, sparse_reads, readers, duplicates};
 
-use crate::operations::is_one_mem;
+use crate::operations::{has_banks, is_one_mem, kind};
 use sp_core::{Core, Node, Op, OpKind, SparseKind};
 
 fn is_read(core: &Core, kind: OpKind) -> bool
@@ -81,5 +81,16 @@ fn count_readers(core: &Core, m: u32, node: &Node) -> u64
             index,
             ..
         } => u64::from(sparse_reads(core, *kind, *mem, *index, m)),
+    }
+}
+
+/// How many duplicates a memory has: one for each reader, and at least one; one where it has no banks.
+pub fn duplicates(core: &Core, m: u32) -> u64
+    ensures { result ≡ duplicates (plain_core core.now) m }
+{
+    if has_banks(kind(core, m)) {
+        count_readers(core, m, core.root()).max(1)
+    } else {
+        1
     }
 }
