@@ -1,0 +1,6 @@
+pub mod Access
+pub mod Bounds
+pub mod Classes
+pub mod Distances
+pub mod Examples
+pub mod Sums

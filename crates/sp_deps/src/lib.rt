@@ -1,0 +1,12 @@
+//! Which accesses of a loop may touch one element, and how many groups of iterations apart.
+#![tactic(auto)]
+
+mod access;
+mod divisor;
+mod examples;
+mod sum;
+mod terms;
+mod value;
+
+pub use access::{Access, Dist, Footprint, LoopRange};
+pub use examples::{worked_earlier_counters, worked_steps};
