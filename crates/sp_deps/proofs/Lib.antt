@@ -1,3 +1,6 @@
+pub mod Clamped
 pub mod Divisors
+pub mod Integers
+pub mod Multiples
 pub mod Onto
 pub mod Within

@@ -5,16 +5,13 @@ use Rattle.std.specs.Prelude.{ℕ, zero, suc, ◌+◌, ◌-◌, ◌*◌, ◌==�
 use Rattle.std.specs.Option.{option_eq}
 use Rattle.sp_affine.specs.Affine.{Affine}
 use Rattle.sp_deps.specs.declared.access.LoopRange.{LoopRange}
+use Rattle.sp_deps.specs.declared.class.Class.{Class}
+use Rattle.sp_deps.specs.declared.class.Class.TheVariants.{Same, Steps, Earlier}
 use Rattle.sp_deps.specs.declared.sum.Range.{Range}
 use Rattle.sp_deps.specs.declared.sum.Term.{Term}
 use Rattle.sp_deps.specs.declared.sum.Sum.{Sum}
 use Rattle.sp_deps.specs.Access.{range_of, steps_of, advance}
 use Rattle.sp_deps.specs.Sums.{sum_of, may_be}
-
-pub data Class : Type 0 where
-  same_group : Class
-  steps_on : (t : ℕ) → Class
-  earlier : (counter : ℕ) → Class
 
 -- the counters of the loop over which two accesses are compared, and those of each access alone
 pub record Loops : Type 0 where
@@ -76,6 +73,12 @@ of_common common own xs = take (length common) (of_inside common own xs)
 abbrev pub of_own : List LoopRange → List LoopRange → List ℤ → List ℤ
 of_own common own xs = drop (length common) (of_inside common own xs)
 
+-- the terms of the loop's counters, by the coefficients of both accesses; in the same group nothing is known of them
+abbrev pub inside_of : Class → List ℤ → List ℤ → List LoopRange → List Term
+inside_of Same xs ys loops = outside xs ys
+inside_of (Steps t) xs ys loops = shared xs ys loops
+inside_of (Earlier i) xs ys loops = stepping i xs ys loops
+
 module _ (loops : Loops) (f g : Affine) where
   abbrev pub first_common : List ℤ
   first_common = of_common loops.common loops.first f.coefs
@@ -89,14 +92,12 @@ module _ (loops : Loops) (f g : Affine) where
       outside (of_outside loops.common loops.first f.coefs) (of_outside loops.common loops.second g.coefs)
       ++ (inside ++ (own_first (of_own loops.common loops.first f.coefs) loops.first ++ own_second (of_own loops.common loops.second g.coefs) loops.second))
 
-  -- the terms of the difference; in the same group nothing is known of the loop's counters either
+  -- the terms of the difference
   abbrev pub terms_of : Class → List Term
-  terms_of same_group = around (outside first_common second_common)
-  terms_of (steps_on t) = around (shared first_common second_common loops.common)
-  terms_of (earlier i) = around (stepping i first_common second_common loops.common)
+  terms_of class = around (inside_of class first_common second_common loops.common)
 
   abbrev pub constant_of : Class → ℤ
-  constant_of (steps_on t) = (g.constant -ℤ f.constant) +ℤ (last_step second_common loops.common *ℤ pos t)
+  constant_of (Steps t) = (g.constant -ℤ f.constant) +ℤ (last_step second_common loops.common *ℤ pos t)
   constant_of _ = g.constant -ℤ f.constant
 
   abbrev pub is_ruled_out : Class → Bool
@@ -105,15 +106,15 @@ module _ (loops : Loops) (f g : Affine) where
 abbrev pub same_symbol : Affine → Affine → Bool
 same_symbol f g = option_eq nat_eq f.symbol g.symbol
 
+abbrev pub have_same_symbols : List Affine → List Affine → Bool
+have_same_symbols (f ∷ fs) (g ∷ gs) = same_symbol f g && have_same_symbols fs gs
+have_same_symbols _ _ = true
+
 module _ (loops : Loops) (class : Class) where
   -- in no dimension is the class ruled out
   abbrev pub is_open : List Affine → List Affine → Bool
   is_open (f ∷ fs) (g ∷ gs) = not (is_ruled_out loops f g class) && is_open fs gs
   is_open _ _ = true
-
-  abbrev pub have_same_symbols : List Affine → List Affine → Bool
-  have_same_symbols (f ∷ fs) (g ∷ gs) = same_symbol f g && have_same_symbols fs gs
-  have_same_symbols _ _ = true
 
   -- an unknown index and another symbol, in whatever dimension, keep every class
   abbrev pub may_meet : Option (List Affine) → Option (List Affine) → Bool

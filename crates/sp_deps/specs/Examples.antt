@@ -2,7 +2,9 @@
 use Rattle.std.specs.Prelude.{ℕ, ℤ, Bool, List, [], ◌∷◌, map, Some, None}
 use Rattle.sp_affine.specs.Affine.{Affine}
 use Rattle.sp_deps.specs.declared.access.LoopRange.{LoopRange}
-use Rattle.sp_deps.specs.Classes.{Class, same_group, steps_on, may_meet}
+use Rattle.sp_deps.specs.declared.class.Class.{Class}
+use Rattle.sp_deps.specs.declared.class.Class.TheVariants.{Same, Steps}
+use Rattle.sp_deps.specs.Classes.{may_meet}
 use Rattle.sp_deps.specs.Distances.{all_common}
 
 abbrev pub form : List ℤ → ℤ → Affine
@@ -25,7 +27,7 @@ meet_in loops class fs gs = may_meet (all_common loops) class (Some fs) (Some gs
 
 -- the same group, and one to five steps of the last counter
 abbrev pub first_classes : List Class
-first_classes = same_group ∷ steps_on 1 ∷ steps_on 2 ∷ steps_on 3 ∷ steps_on 4 ∷ steps_on 5 ∷ []
+first_classes = Same ∷ Steps 1 ∷ Steps 2 ∷ Steps 3 ∷ Steps 4 ∷ Steps 5 ∷ []
 
 abbrev pub meet_in_each : List LoopRange → List Affine → List Affine → List Bool
 meet_in_each loops fs gs = map (λ class. meet_in loops class fs gs) first_classes

@@ -1,8 +1,9 @@
 //! Worked pairs of accesses. Each function does nothing: what it ensures was worked out by hand.
 
 ghost use Rattle.std.specs.Prelude.{◌≡◌, [], ◌∷◌, true, false, pos, negsuc, Some, None};
-ghost use Rattle.sp_deps.specs.Classes.{same_group, steps_on, earlier, may_meet};
-ghost use Rattle.sp_deps.specs.Distances.{all_common, earlier_may_meet};
+ghost use Rattle.sp_deps.specs.declared.class.Class.TheVariants.{Earlier};
+ghost use Rattle.sp_deps.specs.Classes.{may_meet};
+ghost use Rattle.sp_deps.specs.Distances.{all_common};
 ghost use Rattle.sp_deps.specs.Examples.{form, with_symbol, between, somewhere, meet_in, meet_in_each};
 
 /// Whether two accesses may meet in one group, and one to five steps of the last counter apart.
@@ -41,20 +42,20 @@ pub fn worked_steps()
 /// Whether two accesses may meet where an earlier counter has gone on.
 pub fn worked_earlier_counters()
     // m(i, j), for i and j below 4 in four lanes of j: a later i is another row.
-    ensures another_row { meet_in (between (pos 0) (pos 3) 1 1 ∷ between (pos 0) (pos 3) 1 4 ∷ []) (earlier 0) (form (pos 1 ∷ pos 0 ∷ []) (pos 0) ∷ form (pos 0 ∷ pos 1 ∷ []) (pos 2) ∷ []) (form (pos 1 ∷ pos 0 ∷ []) (pos 0) ∷ form (pos 0 ∷ pos 1 ∷ []) (pos 1) ∷ []) ≡ false }
+    ensures another_row { meet_in (between (pos 0) (pos 3) 1 1 ∷ between (pos 0) (pos 3) 1 4 ∷ []) (Earlier 0) (form (pos 1 ∷ pos 0 ∷ []) (pos 0) ∷ form (pos 0 ∷ pos 1 ∷ []) (pos 2) ∷ []) (form (pos 1 ∷ pos 0 ∷ []) (pos 0) ∷ form (pos 0 ∷ pos 1 ∷ []) (pos 1) ∷ []) ≡ false }
     // o(4 j + i): the least difference is 4 - 3, and for lanes 1 and 0 one less.
-    ensures next_row { meet_in (between (pos 0) (pos 3) 1 1 ∷ between (pos 0) (pos 3) 1 4 ∷ []) (earlier 0) (form (pos 4 ∷ pos 1 ∷ []) (pos 0) ∷ []) (form (pos 4 ∷ pos 1 ∷ []) (pos 0) ∷ []) ≡ false }
-    ensures lane_before { meet_in (between (pos 0) (pos 3) 1 1 ∷ between (pos 0) (pos 3) 1 4 ∷ []) (earlier 0) (form (pos 4 ∷ pos 1 ∷ []) (pos 1) ∷ []) (form (pos 4 ∷ pos 1 ∷ []) (pos 0) ∷ []) ≡ true }
+    ensures next_row { meet_in (between (pos 0) (pos 3) 1 1 ∷ between (pos 0) (pos 3) 1 4 ∷ []) (Earlier 0) (form (pos 4 ∷ pos 1 ∷ []) (pos 0) ∷ []) (form (pos 4 ∷ pos 1 ∷ []) (pos 0) ∷ []) ≡ false }
+    ensures lane_before { meet_in (between (pos 0) (pos 3) 1 1 ∷ between (pos 0) (pos 3) 1 4 ∷ []) (Earlier 0) (form (pos 4 ∷ pos 1 ∷ []) (pos 1) ∷ []) (form (pos 4 ∷ pos 1 ∷ []) (pos 0) ∷ []) ≡ true }
     // s(j) in a loop over i and j: every later i.
-    ensures same_column { meet_in (between (pos 0) (pos 3) 1 1 ∷ between (pos 0) (pos 3) 1 1 ∷ []) (earlier 0) (form (pos 0 ∷ pos 1 ∷ []) (pos 0) ∷ []) (form (pos 0 ∷ pos 1 ∷ []) (pos 0) ∷ []) ≡ true }
+    ensures same_column { meet_in (between (pos 0) (pos 3) 1 1 ∷ between (pos 0) (pos 3) 1 1 ∷ []) (Earlier 0) (form (pos 0 ∷ pos 1 ∷ []) (pos 0) ∷ []) (form (pos 0 ∷ pos 1 ∷ []) (pos 0) ∷ []) ≡ true }
     // s(i) and s(i + 6), and s(i - 6) and s(i): with i from 0 to 3 in steps of 1 at most three steps are made, and in
     // steps of 6 one, so the rest of 6 isn't reached or is.
-    ensures three_steps { meet_in (between (pos 0) (pos 3) 1 1 ∷ between (pos 0) (pos 3) 1 1 ∷ []) (earlier 0) (form (pos 1 ∷ pos 0 ∷ []) (pos 6) ∷ []) (form (pos 1 ∷ pos 0 ∷ []) (pos 0) ∷ []) ≡ false }
-    ensures long_step { meet_in (between (pos 0) (pos 3) 6 1 ∷ between (pos 0) (pos 3) 1 1 ∷ []) (earlier 0) (form (pos 1 ∷ pos 0 ∷ []) (pos 6) ∷ []) (form (pos 1 ∷ pos 0 ∷ []) (pos 0) ∷ []) ≡ true }
-    ensures steps_without_end { meet_in (somewhere 1 1 ∷ between (pos 0) (pos 3) 1 1 ∷ []) (earlier 0) (form (pos 1 ∷ pos 0 ∷ []) (pos 6) ∷ []) (form (pos 1 ∷ pos 0 ∷ []) (pos 0) ∷ []) ≡ true }
-    ensures no_step_back { meet_in (somewhere 1 1 ∷ between (pos 0) (pos 3) 1 1 ∷ []) (earlier 0) (form (pos 1 ∷ pos 0 ∷ []) (pos 0) ∷ []) (form (pos 1 ∷ pos 0 ∷ []) (pos 6) ∷ []) ≡ false }
+    ensures three_steps { meet_in (between (pos 0) (pos 3) 1 1 ∷ between (pos 0) (pos 3) 1 1 ∷ []) (Earlier 0) (form (pos 1 ∷ pos 0 ∷ []) (pos 6) ∷ []) (form (pos 1 ∷ pos 0 ∷ []) (pos 0) ∷ []) ≡ false }
+    ensures long_step { meet_in (between (pos 0) (pos 3) 6 1 ∷ between (pos 0) (pos 3) 1 1 ∷ []) (Earlier 0) (form (pos 1 ∷ pos 0 ∷ []) (pos 6) ∷ []) (form (pos 1 ∷ pos 0 ∷ []) (pos 0) ∷ []) ≡ true }
+    ensures steps_without_end { meet_in (somewhere 1 1 ∷ between (pos 0) (pos 3) 1 1 ∷ []) (Earlier 0) (form (pos 1 ∷ pos 0 ∷ []) (pos 6) ∷ []) (form (pos 1 ∷ pos 0 ∷ []) (pos 0) ∷ []) ≡ true }
+    ensures no_step_back { meet_in (somewhere 1 1 ∷ between (pos 0) (pos 3) 1 1 ∷ []) (Earlier 0) (form (pos 1 ∷ pos 0 ∷ []) (pos 0) ∷ []) (form (pos 1 ∷ pos 0 ∷ []) (pos 6) ∷ []) ≡ false }
     // Of the first two of three counters, the second one: the first one agrees.
-    ensures second_of_three { meet_in (between (pos 0) (pos 3) 1 1 ∷ between (pos 0) (pos 3) 1 1 ∷ between (pos 0) (pos 3) 1 1 ∷ []) (earlier 1) (form (pos 100 ∷ pos 10 ∷ pos 1 ∷ []) (pos 10) ∷ []) (form (pos 100 ∷ pos 10 ∷ pos 1 ∷ []) (pos 0) ∷ []) ≡ true }
+    ensures second_of_three { meet_in (between (pos 0) (pos 3) 1 1 ∷ between (pos 0) (pos 3) 1 1 ∷ between (pos 0) (pos 3) 1 1 ∷ []) (Earlier 1) (form (pos 100 ∷ pos 10 ∷ pos 1 ∷ []) (pos 10) ∷ []) (form (pos 100 ∷ pos 10 ∷ pos 1 ∷ []) (pos 0) ∷ []) ≡ true }
     // An unknown index keeps the class.
-    ensures unknown { may_meet (all_common (between (pos 0) (pos 3) 1 1 ∷ between (pos 0) (pos 3) 1 1 ∷ [])) (earlier 0) None (Some (form (pos 1 ∷ pos 0 ∷ []) (pos 0) ∷ [])) ≡ true }
+    ensures unknown { may_meet (all_common (between (pos 0) (pos 3) 1 1 ∷ between (pos 0) (pos 3) 1 1 ∷ [])) (Earlier 0) None (Some (form (pos 1 ∷ pos 0 ∷ []) (pos 0) ∷ [])) ≡ true }
 {}

@@ -2,6 +2,7 @@
 #![tactic(auto)]
 
 mod access;
+mod class;
 mod divisor;
 mod examples;
 mod sum;

@@ -187,7 +187,8 @@ fn step_term(y: &i64, l: &LoopRange) -> Term
     }
 }
 
-fn difference(x: &i64, y: &i64) -> i128
+/// The second number less the first.
+pub fn difference(x: &i64, y: &i64) -> i128
     ensures value { result ≡ y.now -ℤ x.now }
     ensures small { unsigned_abs result < 2 ^ 64 }
 {
