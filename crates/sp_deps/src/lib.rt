@@ -3,11 +3,14 @@
 
 mod access;
 mod class;
+
 mod divisor;
 mod examples;
+mod pairs;
 mod sum;
 mod terms;
 mod value;
 
 pub use access::{Access, Dist, Footprint, LoopRange};
+pub use pairs::distance;
 pub use examples::{worked_earlier_counters, worked_steps};
