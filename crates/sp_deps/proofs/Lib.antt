@@ -1,7 +1,11 @@
 pub mod Clamped
 pub mod Divisors
 pub mod Integers
+pub mod Least
 pub mod Multiples
 pub mod Onto
+pub mod Open
 pub mod Parallel
+pub mod Reaching
+pub mod Sound
 pub mod Within

@@ -39,13 +39,13 @@ multiple_of q d h =
     let same : q * d / d * d + q * d % d ≡ q * d + 0 = omega (arith, split) in
     (same_from_place (q * d / d) (q * d % d) q 0 d small h same).1
 
-times_it : (z : ℤ) (d : ℕ) → 0 < d → (q : ℤ) → z ≡ q *ℤ pos d → unsigned_abs z % d ≡ 0
+pub times_it : (z : ℤ) (d : ℕ) → 0 < d → (q : ℤ) → z ≡ q *ℤ pos d → unsigned_abs z % d ≡ 0
 times_it z d h q e =
     let size : unsigned_abs z ≡ unsigned_abs q * d = ap unsigned_abs e ∙ unsigned_abs-mul q (pos d) in
     ap (λ n. n % d) size ∙ multiple_of (unsigned_abs q) d h
 
 -- a whole number whose size is a multiple is one
-quotient : (z : ℤ) (d : ℕ) → unsigned_abs z % d ≡ 0 → (q : ℤ) × (z ≡ q *ℤ pos d)
+pub quotient : (z : ℤ) (d : ℕ) → unsigned_abs z % d ≡ 0 → (q : ℤ) × (z ≡ q *ℤ pos d)
 quotient (pos a) d h = let split = div-add-mod' a d in (pos (a / d), omega (arith, ints, split, h))
 quotient (negsuc a) d h = let split = div-add-mod' (suc a) d in (pos 0 -ℤ pos (suc a / d), omega (arith, ints, split, h, sub-mul_ℤ (pos 0) (pos (suc a / d)) (pos d)))
 

@@ -3,4 +3,5 @@ pub mod Bounds
 pub mod Classes
 pub mod Distances
 pub mod Examples
+pub mod Groups
 pub mod Sums

@@ -3,14 +3,15 @@
 
 mod access;
 mod class;
-
 mod divisor;
 mod examples;
+mod laws;
 mod pairs;
 mod sum;
 mod terms;
 mod value;
 
+pub use laws::distances_are_sound;
 pub use access::{Access, Dist, Footprint, LoopRange};
 pub use pairs::distance;
 pub use examples::{worked_earlier_counters, worked_steps};
