@@ -142,4 +142,4 @@ sound a b (l ∷ ls) d is k some t = by_class (touching_moves (all_common (l ∷
     by_class (inl met) = by_steps (l ∷ ls) a.forms b.forms d k (is.together t.can) more (some more) met
     by_class (inr (i, less, met)) =
         let inside : i < length (l ∷ ls) - 1 = omega arith in
-        one_within d k ((is.together t.can).by_earlier more (among_earlier a.forms b.forms (l ∷ ls) (length (l ∷ ls) - 1) i inside met)) (some more)
+        one_within d k ((is.together t.can).by_earlier more (among_earlier (all_common (l ∷ ls)) a.forms b.forms (length (l ∷ ls) - 1) i inside met)) (some more)

@@ -9,8 +9,10 @@ use Rattle.sp_deps.specs.declared.access.LoopRange.{LoopRange}
 use Rattle.sp_deps.specs.declared.class.Class.TheVariants.{Steps, Earlier}
 use Rattle.sp_deps.specs.declared.sum.Sum.{Sum}
 use Rattle.sp_deps.specs.declared.sum.Term.{Term}
-use Rattle.sp_deps.specs.Classes.{outside, shared, own_first, own_second, last_step, of_common, of_outside, of_own, is_ruled_out, terms_of, constant_of, may_meet}
+use Rattle.sp_deps.specs.Access.{PlainAccess}
+use Rattle.sp_deps.specs.Classes.{Loops, outside, shared, own_first, own_second, last_step, of_common, of_outside, of_own, is_ruled_out, terms_of, constant_of, may_meet}
 use Rattle.sp_deps.specs.Distances.{all_common, earlier_may_meet}
+use Rattle.sp_deps.specs.Stages.{meets_up_to}
 use Rattle.sp_deps.specs.Sums.{gcd, gcd_within, onto, nothing, sum_of, may_be, is_multiple}
 use Rattle.sp_deps.proofs.Onto.{onto_append}
 
@@ -119,9 +121,16 @@ or_else n i true b g k h = refl
 or_else n i false true g k h = refl
 or_else n i false false g k h = by_order n i g k h
 
-pub among_earlier : (first second : Option (List Affine)) (ls : List LoopRange) (n i : ℕ) → i < n → may_meet (all_common ls) (Earlier i) first second ≡ true →
-    earlier_may_meet (all_common ls) first second n ≡ true
-among_earlier first second ls zero i h m = absurd (omega arith)
-among_earlier first second ls (suc n) i h m =
-    or_else n i (earlier_may_meet (all_common ls) first second n) (may_meet (all_common ls) (Earlier n) first second)
-    (λ less. among_earlier first second ls n i less m) (λ same. ap (λ j. may_meet (all_common ls) (Earlier j) first second) (sym same) ∙ m) h
+pub among_earlier : (loops : Loops) (first second : Option (List Affine)) (n i : ℕ) → i < n → may_meet loops (Earlier i) first second ≡ true →
+    earlier_may_meet loops first second n ≡ true
+among_earlier loops first second zero i h m = absurd (omega arith)
+among_earlier loops first second (suc n) i h m =
+    or_else n i (earlier_may_meet loops first second n) (may_meet loops (Earlier n) first second)
+    (λ less. among_earlier loops first second n i less m) (λ same. ap (λ j. may_meet loops (Earlier j) first second) (sym same) ∙ m) h
+
+-- a number of steps among the first n
+pub among_steps : (loops : Loops) (a b : PlainAccess) (n t : ℕ) → t < n → may_meet loops (Steps (suc t)) a.forms b.forms ≡ true → meets_up_to loops a b n ≡ true
+among_steps loops a b zero t h m = absurd (omega arith)
+among_steps loops a b (suc n) t h m =
+    or_else n t (meets_up_to loops a b n) (may_meet loops (Steps (suc n)) a.forms b.forms)
+    (λ less. among_steps loops a b n t less m) (λ same. ap (λ j. may_meet loops (Steps (suc j)) a.forms b.forms) (sym same) ∙ m) h

@@ -4,4 +4,5 @@ pub mod Classes
 pub mod Distances
 pub mod Examples
 pub mod Groups
+pub mod Stages
 pub mod Sums
