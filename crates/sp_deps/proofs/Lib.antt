@@ -8,4 +8,5 @@ pub mod Open
 pub mod Parallel
 pub mod Reaching
 pub mod Sound
+pub mod StagesSound
 pub mod Within

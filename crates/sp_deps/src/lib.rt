@@ -12,7 +12,7 @@ mod sum;
 mod terms;
 mod value;
 
-pub use laws::distances_are_sound;
+pub use laws::{distances_are_sound, stages_are_sound};
 pub use access::{Access, Dist, Footprint, LoopRange};
 pub use pairs::distance;
 pub use stages::stage_meet;
