@@ -61,10 +61,10 @@ same_multiple zero z q n h e = absurd (omega arith)
 same_multiple (suc d) z q n h e =
     same_test (n % suc d) (unsigned_abs (neg_ℤ z) % suc d)
     (λ rest. ap (λ v. v % suc d) (size_of_opposite z) ∙
-        (let (p, is_n) = quotient (pos n) (suc d) rest in
-        times_it z (suc d) h (q +ℤ p) (e ∙ ap (λ v. (q *ℤ pos (suc d)) +ℤ v) is_n ∙ sym (add-mul_ℤ q p (pos (suc d))))))
+    (let (p, is_n) = quotient (pos n) (suc d) rest in
+    times_it z (suc d) h (q +ℤ p) (e ∙ ap (λ v. (q *ℤ pos (suc d)) +ℤ v) is_n ∙ sym (add-mul_ℤ q p (pos (suc d))))))
     (λ rest. let (p, is_z) = quotient z (suc d) (ap (λ v. v % suc d) (sym (size_of_opposite z)) ∙ rest) in
-        times_it (pos n) (suc d) h (p -ℤ q) (less n (q *ℤ pos (suc d)) (p *ℤ pos (suc d)) z e is_z ∙ sym (sub-mul_ℤ p q (pos (suc d)))))
+    times_it (pos n) (suc d) h (p -ℤ q) (less n (q *ℤ pos (suc d)) (p *ℤ pos (suc d)) z e is_z ∙ sym (sub-mul_ℤ p q (pos (suc d)))))
   where
     less : (n : ℕ) (qd pd z : ℤ) → z ≡ qd +ℤ pos n → z ≡ pd → pos n ≡ pd -ℤ qd
     less n qd pd z e f = omega (arith, ints)

@@ -44,7 +44,7 @@ module _ (common own : List LoopRange) (o cs : List ℤ) where
       dot_append cs o (x ++ u)
       ∙ ap (λ n. dot (take n cs) o +ℤ dot (drop n cs) (x ++ u)) (outer_length e)
       ∙ ap (λ z. dot (of_outside common own cs) o +ℤ z) (dot_append (of_inside common own cs) x u
-          ∙ ap (λ m. dot (take m (of_inside common own cs)) x +ℤ dot (drop m (of_inside common own cs)) u) f)
+      ∙ ap (λ m. dot (take m (of_inside common own cs)) x +ℤ dot (drop m (of_inside common own cs)) u) f)
 
 -- two indices at values of the counters: those outside, those of the loop, and each access's own
 pub record Setting (loops : Loops) (f g : Affine) (o x y u v : List ℤ) (symbols : ℕ → ℤ) : Type 0 where
@@ -96,7 +96,7 @@ module _ (loops : Loops) (f g : Affine) (o x y u v : List ℤ) (symbols : ℕ �
   open_steps k a hx =
       opened (Steps k) (last_step (of_common loops.common loops.second g.coefs) loops.common *ℤ pos k) _
       (reach_shared (of_common loops.common loops.first f.coefs) (of_common loops.common loops.second g.coefs) x loops.common
-        (length_common loops.common loops.first o f.coefs s.first_length ∙ sym s.x_length) (length_common loops.common loops.second o g.coefs s.second_length ∙ sym s.x_length) hx)
+      (length_common loops.common loops.first o f.coefs s.first_length ∙ sym s.x_length) (length_common loops.common loops.second o g.coefs s.second_length ∙ sym s.x_length) hx)
       (less _ _ _ (dot (of_common loops.common loops.first f.coefs) x) (a (of_common loops.common loops.second g.coefs) (length_common loops.common loops.second o g.coefs s.second_length))) refl
     where
       less : (p q r t : ℤ) → q ≡ p +ℤ r → p -ℤ t ≡ (q -ℤ r) -ℤ t
@@ -118,7 +118,7 @@ module _ (loops : Loops) (f g : Affine) (o x y u v : List ℤ) (symbols : ℕ �
   open_same e =
       opened Same (pos 0) _
       (reach_outside (of_common loops.common loops.first f.coefs) (of_common loops.common loops.second g.coefs) x
-        (length_common loops.common loops.first o f.coefs s.first_length ∙ sym s.x_length) (length_common loops.common loops.second o g.coefs s.second_length ∙ sym s.x_length))
+      (length_common loops.common loops.first o f.coefs s.first_length ∙ sym s.x_length) (length_common loops.common loops.second o g.coefs s.second_length ∙ sym s.x_length))
       (ap (λ w. dot (of_common loops.common loops.second g.coefs) w -ℤ dot (of_common loops.common loops.first f.coefs) x) e ∙ less (dot (of_common loops.common loops.second g.coefs) y) (dot (of_common loops.common loops.first f.coefs) x)) (more _)
     where
       less : (p t : ℤ) → p -ℤ t ≡ (p -ℤ pos 0) -ℤ t

@@ -67,9 +67,9 @@ open_means_equal : (ls : List LoopRange) (f g : Affine) (t : ℕ) → f.coefs �
     constant_of (all_common ls) f g (Steps t) ≡ pos 0
 open_means_equal ls f g t e h =
     let P : List ℤ → Type 0 = λ xs. (sum_of (outside (of_outside ls [] xs) (of_outside ls [] g.coefs)
-        ++ (shared (of_common ls [] xs) (of_common ls [] g.coefs) ls ++ (own_first (of_own ls [] xs) [] ++ own_second (of_own ls [] g.coefs) [])))).divisor ≡ 0 in
+    ++ (shared (of_common ls [] xs) (of_common ls [] g.coefs) ls ++ (own_first (of_own ls [] xs) [] ++ own_second (of_own ls [] g.coefs) [])))).divisor ≡ 0 in
     let none : (sum_of (terms_of (all_common ls) f g (Steps t))).divisor ≡ 0 =
-        subst P (sym e) (whole_divisor (of_outside ls [] g.coefs) (of_common ls [] g.coefs) (of_own ls [] g.coefs) (of_own ls [] g.coefs) ls) in
+    subst P (sym e) (whole_divisor (of_outside ls [] g.coefs) (of_common ls [] g.coefs) (of_own ls [] g.coefs) (of_own ls [] g.coefs) ls) in
     zero_alone _ (constant_of (all_common ls) f g (Steps t)) none (first_of_both _ _ h)
 
 pub alone : (ls : List LoopRange) (f g : Affine) (k t : ℕ) → f.coefs ≡ g.coefs →

@@ -142,9 +142,13 @@ here l m ls x y xs ys k by (steps, some, is) more hx hy hxs hys [] ds g h = absu
 here l m ls x y xs ys k by (steps, some, is) more hx hy hxs hys (c ∷ cs) [] g h = absurd (omega arith)
 here l m ls x y xs ys k by (steps, some, is) more hx hy hxs hys (c ∷ cs) (d ∷ ds) g h =
     let lx = lengths_of_values (m ∷ ls) xs hxs in
-    let ly = lengths_of_values (m ∷ ls) ys hys in
-    (x, _, within l x hx, (pos steps, _, few_steps l x y steps by some is hx hy, reach_free cs ds xs ys (m ∷ ls) (omega arith) (omega arith) hxs hys, refl),
-      total (c *ℤ x) (d *ℤ x) (d *ℤ y) ((d -ℤ c) *ℤ x) ((d *ℤ pos l.by) *ℤ pos steps) (dot cs xs) (dot ds ys) (sub-mul_ℤ d c x) (moved d x y l.by steps is))
+    let ly = lengths_of_values (m ∷ ls) ys hys in (
+      x,
+      _,
+      within l x hx,
+      (pos steps, _, few_steps l x y steps by some is hx hy, reach_free cs ds xs ys (m ∷ ls) (omega arith) (omega arith) hxs hys, refl),
+      total (c *ℤ x) (d *ℤ x) (d *ℤ y) ((d -ℤ c) *ℤ x) ((d *ℤ pos l.by) *ℤ pos steps) (dot cs xs) (dot ds ys) (sub-mul_ℤ d c x) (moved d x y l.by steps is),
+    )
   where
     moved : (d x y : ℤ) (by steps : ℕ) → y ≡ x +ℤ pos (steps * by) → d *ℤ y ≡ (d *ℤ x) +ℤ ((d *ℤ pos by) *ℤ pos steps)
     moved d x y by steps e =

@@ -2,6 +2,7 @@
 #![tactic(auto)]
 
 mod access;
+mod checks;
 mod class;
 mod divisor;
 mod examples;
@@ -12,8 +13,14 @@ mod sum;
 mod terms;
 mod value;
 
-pub use laws::{distances_are_sound, stages_are_sound};
 pub use access::{Access, Dist, Footprint, LoopRange};
+pub use checks::{are_loop_ranges, has_counters, is_footprint};
+pub use examples::{worked_earlier_counters, worked_steps};
+pub use laws::{distances_are_sound, stages_are_sound};
 pub use pairs::distance;
 pub use stages::stage_meet;
-pub use examples::{worked_earlier_counters, worked_steps};
+
+#[cfg(test)]
+mod rows;
+#[cfg(test)]
+mod tests;

@@ -8,7 +8,7 @@ ghost use Rattle.sp_deps.specs.Classes.{is_ruled_out, is_open, may_meet};
 ghost use Rattle.sp_deps.specs.Distances.{all_common, earlier_may_meet, steps_may_meet, IsLeast, IsLeastUpTo, AreParallel, IsDistance, IsDistanceOver};
 
 use crate::access::{Access, Dist, LoopRange};
-use crate::class::{last_step, may_meet, parts, Class};
+use crate::class::{Class, last_step, may_meet, parts};
 use crate::terms::difference;
 use sp_affine::Form;
 

@@ -8,7 +8,7 @@ ghost use Rattle.sp_deps.specs.Distances.{earlier_may_meet};
 ghost use Rattle.sp_deps.specs.Stages.{loops_between, plain_accesses, meets_up_to, meet_later, meet_within, stages_meet, IsFootprint};
 
 use crate::access::{Access, Footprint, LoopRange};
-use crate::class::{may_meet, Class};
+use crate::class::{Class, may_meet};
 use crate::pairs::can_meet;
 use sp_affine::Form;
 
