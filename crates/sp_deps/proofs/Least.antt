@@ -1,5 +1,5 @@
 -- The distance of two accesses is no greater than that at which they touch one element.
-use Rattle.std.proofs.Common.{◌≡◌, inl, inr, ℕ, zero, suc, ◌+◌, ◌-◌, ◌*◌, ◌<◌, ◌≤◌, Bool, true, false, ℤ, pos, ◌+ℤ◌, List, [], ◌∷◌, ◌++◌, length, refl, ap, sym, ◌∙◌, subst, arith}
+use Rattle.std.proofs.Common.{◌≡◌, inl, inr, ℕ, suc, ◌+◌, ◌-◌, ◌*◌, ◌<◌, ◌≤◌, Bool, true, false, ℤ, pos, ◌+ℤ◌, List, [], ◌∷◌, ◌++◌, length, refl, ap, sym, ◌∙◌, subst, arith}
 use Rattle.std.specs.Prelude.{◌⊎◌, Option, Some, None, if◌then◌else◌}
 use Rattle.std.specs.Bool.{Decides}
 use Rattle.std.proofs.lemmas.Int.{ints}
@@ -12,8 +12,8 @@ use Rattle.sp_deps.specs.declared.class.Class.TheVariants.{Same, Steps, Earlier}
 use Rattle.sp_deps.specs.Access.{PlainAccess, advance}
 use Rattle.sp_deps.specs.Classes.{Loops, may_meet}
 use Rattle.sp_deps.specs.Distances.{all_common, IsLeast, IsLeastUpTo, AreParallel, ArePresentAndParallel, IsDistance, IsDistanceOver, earlier_may_meet, steps_may_meet}
-use Rattle.sp_deps.specs.Groups.{HaveValues, AreGroupsOn, TouchOne, HaveLength, GoOn, IsWithinDistance, AreTouching, IsSound}
-use Rattle.sp_deps.proofs.Open.{Setting, open_steps, open_earlier, open_same, never_out, Values}
+use Rattle.sp_deps.specs.Groups.{HaveValues, AreGroupsOn, TouchOne, HaveLength, IsWithinDistance, AreTouching, IsSound}
+use Rattle.sp_deps.proofs.Open.{open_steps, open_earlier, open_same, never_out, Values}
 use Rattle.sp_deps.proofs.Parallel.{among_earlier}
 use Rattle.sp_deps.proofs.Sound.{lengths_of_values, Along, Jumps, Moves, moves}
 

@@ -1,6 +1,6 @@
 -- Where two accesses touch one element, the class of the groups between them isn't ruled out.
-use Rattle.std.proofs.Common.{◌≡◌, inl, inr, ℕ, zero, suc, ◌+◌, ◌-◌, ◌*◌, ◌<◌, ◌≤◌, Bool, true, false, not, ◌&&◌, ℤ, pos, neg_ℤ, ◌+ℤ◌, ◌-ℤ◌, ◌*ℤ◌, List, [], ◌∷◌, ◌++◌, length, take, drop, refl, ap, sym, ◌∙◌, subst, arith, length-take-le, length-drop}
-use Rattle.std.specs.Prelude.{◌||◌, ◌⊎◌, Option, Some, None, nat_eq}
+use Rattle.std.proofs.Common.{◌≡◌, ℕ, suc, ◌+◌, ◌-◌, ◌≤◌, Bool, true, false, not, ◌&&◌, ℤ, pos, neg_ℤ, ◌+ℤ◌, ◌-ℤ◌, ◌*ℤ◌, List, [], ◌∷◌, ◌++◌, length, take, drop, refl, ap, sym, ◌∙◌, arith, length-take-le, length-drop}
+use Rattle.std.specs.Prelude.{◌||◌, Option, Some, None, nat_eq}
 use Rattle.std.specs.List.{All}
 use Rattle.std.specs.Option.{option_eq}
 use Rattle.std.proofs.lemmas.Int.{ints}
@@ -9,12 +9,10 @@ use Rattle.sp_affine.specs.Equality.{Decides-option_eq}
 use Rattle.sp_deps.specs.declared.access.LoopRange.{LoopRange}
 use Rattle.sp_deps.specs.declared.class.Class.{Class}
 use Rattle.sp_deps.specs.declared.class.Class.TheVariants.{Same, Steps, Earlier}
-use Rattle.sp_deps.specs.declared.sum.Term.{Term}
-use Rattle.sp_deps.specs.Classes.{Loops, outside, shared, own_first, own_second, stepping, last_step, of_outside, of_inside, of_common, of_own, inside_of, terms_of, constant_of, is_ruled_out, is_open, have_same_symbols, same_symbol, may_meet}
-use Rattle.sp_deps.specs.Groups.{HaveValues, AreGroupsOn, AreOneElement, TouchOne, HaveLength, GoOn}
-use Rattle.sp_deps.specs.Sums.{sum_of, may_be}
+use Rattle.sp_deps.specs.Classes.{Loops, outside, own_first, own_second, last_step, of_outside, of_inside, of_common, of_own, inside_of, terms_of, constant_of, is_ruled_out, is_open, have_same_symbols, same_symbol, may_meet}
+use Rattle.sp_deps.specs.Groups.{HaveValues, AreOneElement, TouchOne, HaveLength}
 use Rattle.sp_deps.proofs.Reaching.{Reaches, reach_append, reached_may_be}
-use Rattle.sp_deps.proofs.Sound.{dot_append, reach_outside, reach_shared, reach_first, reach_second, lengths_of_values, Along, Jumps, Moves, moves}
+use Rattle.sp_deps.proofs.Sound.{dot_append, reach_outside, reach_shared, reach_first, reach_second, lengths_of_values, Along, Jumps}
 
 -- the parts of a form's coefficients, where it has one for each counter
 module _ (common own : List LoopRange) (o cs : List ℤ) where

@@ -1,6 +1,6 @@
 -- Indices with equal linear parts: whether a number of steps is ruled out.
-use Rattle.std.proofs.Common.{◌≡◌, ◌≢◌, ℕ, zero, suc, ◌+◌, ◌*◌, ◌/◌, ◌%◌, ◌<◌, ◌≤◌, Bool, true, false, not, ◌&&◌, ℤ, pos, negsuc, neg_ℤ, ◌+ℤ◌, ◌-ℤ◌, ◌*ℤ◌, List, [], ◌∷◌, ◌++◌, refl, ap, sym, ◌∙◌, subst, arith, max, unsigned_abs}
-use Rattle.std.specs.Prelude.{◌||◌, Option, Some}
+use Rattle.std.proofs.Common.{◌≡◌, ◌≢◌, ℕ, zero, suc, ◌+◌, ◌*◌, ◌/◌, ◌%◌, ◌<◌, ◌≤◌, Bool, true, false, not, ◌&&◌, ℤ, pos, neg_ℤ, ◌+ℤ◌, ◌-ℤ◌, ◌*ℤ◌, List, [], ◌∷◌, ◌++◌, refl, ap, sym, ◌∙◌, subst, arith, max, unsigned_abs}
+use Rattle.std.specs.Prelude.{◌||◌, Option}
 use Rattle.std.proofs.lemmas.Int.{ints, unsigned_abs-mul}
 use Rattle.std.proofs.lemmas.Nat.{div-add-mod', mod_below, same_from_place}
 use Rattle.std.proofs.lemmas.Bool.Decides.{Decides-eqb}
@@ -8,7 +8,6 @@ use Rattle.sp_affine.specs.Affine.{Affine}
 use Rattle.sp_deps.specs.declared.access.LoopRange.{LoopRange}
 use Rattle.sp_deps.specs.declared.class.Class.TheVariants.{Steps, Earlier}
 use Rattle.sp_deps.specs.declared.sum.Sum.{Sum}
-use Rattle.sp_deps.specs.declared.sum.Term.{Term}
 use Rattle.sp_deps.specs.Access.{PlainAccess}
 use Rattle.sp_deps.specs.Classes.{Loops, outside, shared, own_first, own_second, last_step, of_common, of_outside, of_own, is_ruled_out, terms_of, constant_of, may_meet}
 use Rattle.sp_deps.specs.Distances.{all_common, earlier_may_meet}

@@ -1,15 +1,14 @@
 -- Values that a sum of terms has are values that it may have.
-use Rattle.std.proofs.Common.{◌≡◌, ℕ, zero, suc, ◌+◌, ◌-◌, ◌*◌, ◌/◌, ◌%◌, ◌<◌, ◌≤◌, Bool, true, false, not, ◌&&◌, ℤ, pos, negsuc, neg_ℤ, ◌+ℤ◌, ◌-ℤ◌, ◌*ℤ◌, ◌≤ℤ◌, ◌<ℤ◌, List, [], ◌∷◌, ◌++◌, length, refl, ap, sym, ◌∙◌, subst, arith, max, unsigned_abs}
-use Rattle.std.specs.Prelude.{◌==◌, Option, Some, None, int_lt, if◌then◌else◌}
-use Rattle.std.specs.Int.{IsGcd, ◌∣◌}
+use Rattle.std.proofs.Common.{◌≡◌, ℕ, zero, suc, ◌+◌, ◌*◌, ◌/◌, ◌%◌, Bool, true, false, not, ◌&&◌, ℤ, pos, negsuc, ◌+ℤ◌, ◌*ℤ◌, ◌≤ℤ◌, ◌<ℤ◌, List, [], ◌∷◌, ◌++◌, refl, ap, sym, ◌∙◌, subst, arith, unsigned_abs}
+use Rattle.std.specs.Prelude.{Option, Some, None, int_lt, if◌then◌else◌}
+use Rattle.std.specs.Int.{◌∣◌}
 use Rattle.std.proofs.lemmas.Int.{ints, unsigned_abs-mul}
-use Rattle.std.proofs.lemmas.Nat.{div-add-mod', mod_below}
+use Rattle.std.proofs.lemmas.Nat.{div-add-mod'}
 use Rattle.std.proofs.lemmas.Nat.Gcd.{mod-eq-zero_of_dvd}
 use Rattle.std.proofs.lemmas.Bool.Decides.{Decides-eqb}
 use Rattle.sp_deps.specs.declared.sum.Range.{Range}
 use Rattle.sp_deps.specs.declared.sum.Term.{Term}
-use Rattle.sp_deps.specs.declared.sum.Sum.{Sum}
-use Rattle.sp_deps.specs.Sums.{gcd, times, least_of, greatest_of, add_ends, plus, onto, nothing, sum_of, is_multiple, is_from, is_up_to, may_be}
+use Rattle.sp_deps.specs.Sums.{gcd, times, least_of, greatest_of, add_ends, sum_of, is_multiple, is_from, is_up_to, may_be}
 use Rattle.sp_deps.proofs.Divisors.{gcd_is}
 use Rattle.sp_deps.proofs.Integers.{add-mul_ℤ, mul_assoc_ℤ, mul_right_comm_ℤ, mul-le_ℤ, mul-le_down_ℤ}
 use Rattle.sp_deps.proofs.Multiples.{quotient, times_it}

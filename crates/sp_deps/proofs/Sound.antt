@@ -1,21 +1,17 @@
 -- Accesses that touch one element some groups apart are not ruled out there.
-use Rattle.std.proofs.Common.{◌≡◌, inl, inr, ℕ, zero, suc, ◌+◌, ◌-◌, ◌*◌, ◌/◌, ◌%◌, ◌<◌, ◌≤◌, Bool, true, false, not, ◌&&◌, ℤ, pos, negsuc, neg_ℤ, ◌+ℤ◌, ◌-ℤ◌, ◌*ℤ◌, ◌≤ℤ◌, ◌<ℤ◌, List, [], ◌∷◌, ◌++◌, length, take, drop, refl, ap, sym, ◌∙◌, subst, arith, max, unsigned_abs}
-use Rattle.std.specs.Prelude.{◌==◌, ◌||◌, ◌⊎◌, Option, Some, None, if◌then◌else◌}
+use Rattle.std.proofs.Common.{◌≡◌, inl, inr, ℕ, suc, ◌-◌, ◌*◌, ◌/◌, ◌<◌, ◌≤◌, true, false, ℤ, pos, neg_ℤ, ◌+ℤ◌, ◌-ℤ◌, ◌*ℤ◌, ◌≤ℤ◌, List, [], ◌∷◌, ◌++◌, length, take, drop, refl, ap, sym, ◌∙◌, subst, arith, max, unsigned_abs}
+use Rattle.std.specs.Prelude.{◌==◌, ◌⊎◌, Option, Some, None, if◌then◌else◌}
 use Rattle.std.proofs.lemmas.Int.{ints}
 use Rattle.std.proofs.lemmas.Nat.{le-div}
-use Rattle.std.proofs.lemmas.Bool.Decides.{Decides-eqb}
-use Rattle.sp_affine.specs.Affine.{Affine, dot, value_of, symbol_value}
+use Rattle.sp_affine.specs.Affine.{dot}
 use Rattle.sp_deps.specs.declared.access.LoopRange.{LoopRange}
-use Rattle.sp_deps.specs.declared.class.Class.{Class}
-use Rattle.sp_deps.specs.declared.class.Class.TheVariants.{Same, Steps, Earlier}
-use Rattle.sp_deps.specs.declared.sum.Range.{Range}
 use Rattle.sp_deps.specs.declared.sum.Term.{Term}
 use Rattle.sp_deps.specs.Access.{range_of, range_between, steps_of, most_steps, advance}
-use Rattle.sp_deps.specs.Classes.{Loops, term, unknown, outside, shared, own_first, own_second, stepped, stepping, last_step, of_outside, of_inside, of_common, of_own, inside_of, terms_of, constant_of, is_ruled_out, is_open, have_same_symbols, same_symbol, may_meet}
-use Rattle.sp_deps.specs.Sums.{is_up_to, sum_of, may_be}
-use Rattle.sp_deps.specs.Groups.{HasValue, HaveValues, IsLater, AreGroupsOn, AreOneElement, TouchOne, HaveLength, GoOn}
-use Rattle.sp_deps.proofs.Integers.{mul-add_ℤ, sub-mul_ℤ, mul_assoc_ℤ, mul_right_comm_ℤ, add-mul_ℤ}
-use Rattle.sp_deps.proofs.Reaching.{IsIn, Reaches, reach_append, reached_may_be, at_least}
+use Rattle.sp_deps.specs.Classes.{term, unknown, outside, shared, own_first, own_second, stepped, stepping, last_step}
+use Rattle.sp_deps.specs.Sums.{is_up_to}
+use Rattle.sp_deps.specs.Groups.{HasValue, HaveValues, IsLater, AreGroupsOn, GoOn}
+use Rattle.sp_deps.proofs.Integers.{mul-add_ℤ, sub-mul_ℤ, mul_assoc_ℤ}
+use Rattle.sp_deps.proofs.Reaching.{IsIn, Reaches, reach_append, at_least}
 
 -- values put together
 pub dot_append : (cs p q : List ℤ) → dot cs (p ++ q) ≡ dot (take (length p) cs) p +ℤ dot (drop (length p) cs) q

@@ -1,10 +1,9 @@
 -- How far sums of terms go.
-use Rattle.std.proofs.Common.{◌≡◌, ℕ, zero, suc, ◌+◌, ◌-◌, ◌*◌, ◌/◌, ◌^◌, ◌<◌, ◌≤◌, Bool, true, false, ℤ, pos, negsuc, neg_ℤ, ◌+ℤ◌, ◌-ℤ◌, ◌*ℤ◌, ◌≤ℤ◌, List, [], ◌∷◌, ◌++◌, refl, ap, sym, ◌∙◌, subst, arith, max, unsigned_abs, FitsSigned}
+use Rattle.std.proofs.Common.{◌≡◌, ℕ, zero, suc, ◌+◌, ◌*◌, ◌/◌, ◌^◌, ◌<◌, ◌≤◌, Bool, true, false, ℤ, pos, neg_ℤ, ◌+ℤ◌, ◌-ℤ◌, ◌*ℤ◌, ◌≤ℤ◌, ap, arith, max, unsigned_abs, FitsSigned}
 use Rattle.std.specs.Int.{w64}
-use Rattle.std.specs.Prelude.{Option, Some, None, int_lt, if◌then◌else◌}
+use Rattle.std.specs.Prelude.{Option, Some, None, if◌then◌else◌}
 use Rattle.std.proofs.lemmas.Int.{ints, unsigned_abs-mul}
-use Rattle.std.proofs.lemmas.Nat.{mul-le, mod_below, div-add-mod'}
-use Rattle.sp_affine.specs.Interval.{IsCounterRange}
+use Rattle.std.proofs.lemmas.Nat.{mul-le, div-add-mod'}
 use Rattle.sp_deps.specs.declared.access.LoopRange.{LoopRange}
 use Rattle.sp_deps.specs.declared.sum.Range.{Range}
 use Rattle.sp_deps.specs.declared.sum.Term.{Term}
@@ -12,7 +11,7 @@ use Rattle.sp_deps.specs.declared.sum.Sum.{Sum}
 use Rattle.sp_deps.specs.Access.{HasRange, range_of, range_between, steps_of, most_steps}
 use Rattle.sp_deps.specs.Bounds.{IsEndWithin, IsWithin, IsTermWithin}
 use Rattle.sp_deps.specs.Classes.{unknown}
-use Rattle.sp_deps.specs.Sums.{times, least_of, greatest_of, add_ends, plus, onto}
+use Rattle.sp_deps.specs.Sums.{times, least_of, greatest_of, add_ends, plus}
 
 pub weaker_end : (n m : ℕ) (e : Option ℤ) → n ≤ m → IsEndWithin n e → IsEndWithin m e
 weaker_end n m None h w = w

@@ -1,5 +1,5 @@
 -- Accesses, and the ranges of counters, as plain values.
-use Rattle.std.specs.Prelude.{◌≡◌, ℕ, ◌+◌, ◌*◌, ◌/◌, ◌==◌, Bool, ◌&&◌, ◌||◌, ℤ, pos, ◌-ℤ◌, List, length, Option, Some, None, option_map, IfSome, max, unsigned_abs}
+use Rattle.std.specs.Prelude.{ℕ, ◌*◌, ◌/◌, ◌==◌, Bool, ◌&&◌, ◌||◌, ℤ, pos, ◌-ℤ◌, List, Option, Some, None, option_map, IfSome, max, unsigned_abs}
 use Rattle.sp_affine.specs.Affine.{Affine}
 use Rattle.sp_affine.specs.Interval.{IsCounterRange}
 use Rattle.sp_deps.specs.declared.access.Access.{Access}

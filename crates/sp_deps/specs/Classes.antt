@@ -1,7 +1,7 @@
 -- Classes of distances, and which of them two forms rule out.
 --
 -- Two accesses are compared over the counters of a loop. The second one stands in the same group of iterations as the first, or some groups after it. In the class of the same group all counters agree. In that of t steps the last counter is t steps further on, and the others agree. In the class of an earlier counter, that counter is any positive number of steps further on, those before it agree, and those after it are free. In each class the index of the second access less that of the first is a sum of terms and a constant, and the class is ruled out where that sum is never the constant's opposite, by its divisor or by its interval.
-use Rattle.std.specs.Prelude.{ℕ, zero, suc, ◌+◌, ◌-◌, ◌*◌, ◌==◌, Bool, true, ◌&&◌, ◌||◌, not, if◌then◌else◌, ℤ, pos, neg_ℤ, ◌+ℤ◌, ◌-ℤ◌, ◌*ℤ◌, List, [], ◌∷◌, ◌++◌, length, take, drop, Option, Some, None, nat_eq}
+use Rattle.std.specs.Prelude.{ℕ, ◌+◌, ◌-◌, ◌==◌, Bool, true, ◌&&◌, ◌||◌, not, if◌then◌else◌, ℤ, pos, neg_ℤ, ◌+ℤ◌, ◌-ℤ◌, ◌*ℤ◌, List, [], ◌∷◌, ◌++◌, length, take, drop, Option, Some, None, nat_eq}
 use Rattle.std.specs.Option.{option_eq}
 use Rattle.sp_affine.specs.Affine.{Affine}
 use Rattle.sp_deps.specs.declared.access.LoopRange.{LoopRange}
@@ -9,7 +9,6 @@ use Rattle.sp_deps.specs.declared.class.Class.{Class}
 use Rattle.sp_deps.specs.declared.class.Class.TheVariants.{Same, Steps, Earlier}
 use Rattle.sp_deps.specs.declared.sum.Range.{Range}
 use Rattle.sp_deps.specs.declared.sum.Term.{Term}
-use Rattle.sp_deps.specs.declared.sum.Sum.{Sum}
 use Rattle.sp_deps.specs.Access.{range_of, steps_of, advance}
 use Rattle.sp_deps.specs.Sums.{sum_of, may_be}
 

@@ -1,5 +1,5 @@
 -- The least distance at which two accesses may meet, in groups of the iterations of a loop.
-use Rattle.std.specs.Prelude.{◌≡◌, ℕ, zero, suc, ◌+◌, ◌-◌, ◌<◌, ◌≤◌, Bool, true, false, ◌||◌, if◌then◌else◌, List, [], ◌∷◌, length, Option, Some, None}
+use Rattle.std.specs.Prelude.{◌≡◌, ℕ, zero, suc, ◌+◌, ◌-◌, ◌<◌, ◌≤◌, Bool, true, false, ◌||◌, if◌then◌else◌, List, [], ◌∷◌, length, Option, Some}
 use Rattle.sp_affine.specs.Affine.{Affine}
 use Rattle.sp_deps.specs.declared.access.Dist.{Dist}
 use Rattle.sp_deps.specs.declared.access.Dist.TheVariants.{Never, AtLeast}

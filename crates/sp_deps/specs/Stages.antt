@@ -1,9 +1,7 @@
 -- Whether two parts of a loop's body may meet at some distances.
-use Rattle.std.specs.Prelude.{◌≡◌, ℕ, zero, suc, ◌+◌, ◌-◌, ◌≤◌, ◌==◌, Bool, true, false, ◌&&◌, ◌||◌, not, if◌then◌else◌, List, length, map, take, drop, IfSome}
+use Rattle.std.specs.Prelude.{ℕ, zero, suc, ◌-◌, ◌≤◌, ◌==◌, Bool, false, ◌&&◌, ◌||◌, not, if◌then◌else◌, List, length, map, take, drop, IfSome}
 use Rattle.std.specs.List.{All, list_any}
-use Rattle.sp_deps.specs.declared.access.Access.{Access}
 use Rattle.sp_deps.specs.declared.access.Footprint.{Footprint}
-use Rattle.sp_deps.specs.declared.access.LoopRange.{LoopRange}
 use Rattle.sp_deps.specs.declared.class.Class.TheVariants.{Same, Steps}
 use Rattle.sp_deps.specs.Access.{PlainAccess, plain_access, can_meet, HasRange}
 use Rattle.sp_deps.specs.Bounds.{HasCounters}

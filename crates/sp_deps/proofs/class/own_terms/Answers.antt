@@ -1,4 +1,4 @@
-use Rattle.std.proofs.Common.{◌≡◌, sym, ◌∙◌, ap}
+use Rattle.std.proofs.Common.{sym, ◌∙◌, ap}
 use Rattle.sp_deps.specs.Classes.{own_first, own_second}
 use Rattle.sp_deps.specs.Sums.{onto, nothing}
 use Rattle.sp_deps.proofs.Onto.{onto_append}

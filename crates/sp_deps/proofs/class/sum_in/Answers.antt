@@ -1,6 +1,6 @@
 use Rattle.std.proofs.Common.{◌≡◌, ◌++◌, ◌∙◌, ap, List, ℤ}
 use Rattle.sp_deps.specs.declared.sum.Term.{Term}
-use Rattle.sp_deps.specs.Classes.{of_outside, of_common, of_own, own_first, own_second, outside, inside_of}
+use Rattle.sp_deps.specs.Classes.{own_first, own_second, outside, inside_of}
 use Rattle.sp_deps.proofs.Onto.{stacked}
 use Rattle.sp_deps.proofs.class.sum_in.Goals as goal
 

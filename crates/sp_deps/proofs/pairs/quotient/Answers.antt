@@ -1,4 +1,4 @@
-use Rattle.std.proofs.Common.{◌≡◌, ◌∙◌, sym, ap, max, FitsSigned, rules, arith}
+use Rattle.std.proofs.Common.{◌∙◌, sym, FitsSigned, rules}
 use Rattle.std.specs.Int.{w128}
 use Rattle.std.proofs.lemmas.Int.{to_z-of_z}
 use Rattle.sp_deps.proofs.Parallel.{solution, turned_max}

@@ -1,4 +1,4 @@
-use Rattle.std.proofs.Common.{◌≡◌, ◌<◌, ◌+◌, sym, ◌∙◌, arith, add-one}
+use Rattle.std.proofs.Common.{◌<◌, sym, ◌∙◌, arith}
 use Rattle.sp_deps.specs.Access.{plain_access}
 use Rattle.sp_deps.proofs.Parallel.{among_earlier}
 use Rattle.sp_deps.proofs.stages.earlier_meet.Goals as goal

@@ -1,4 +1,4 @@
-use Rattle.std.proofs.Common.{◌≡◌, ◌<◌, ◌+◌, sym, ◌∙◌, arith, add-one}
+use Rattle.std.proofs.Common.{◌<◌, sym, ◌∙◌, arith, add-one}
 use Rattle.sp_deps.specs.Access.{plain_access}
 use Rattle.sp_deps.proofs.Parallel.{among_steps}
 use Rattle.sp_deps.proofs.stages.steps_meet.Goals as goal

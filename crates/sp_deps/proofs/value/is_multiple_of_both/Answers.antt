@@ -1,4 +1,4 @@
-use Rattle.std.proofs.Common.{◌≡◌, ◌<◌, ◌+◌, ◌*◌, ◌∙◌, arith, rules}
+use Rattle.std.proofs.Common.{◌<◌, arith}
 use Rattle.sp_deps.proofs.Multiples.{combined, same_multiple}
 use Rattle.sp_deps.proofs.value.is_multiple_of_both.Goals as goal
 
