@@ -11,3 +11,6 @@ mod shape;
 
 pub use forms::forms_of;
 pub use place::CounterPlace;
+
+#[cfg(test)]
+mod tests;
