@@ -1,7 +1,6 @@
 -- What a word of `Int` stands for, the length of a sum of forms, and one operation more.
-use Rattle.std.proofs.Common.{◌≡◌, ℕ, zero, suc, ◌+◌, ◌-◌, ◌^◌, ◌<◌, ◌≤◌, Bool, true, false, ℤ, pos, ◌+ℤ◌, ◌-ℤ◌, List, [], ◌∷◌, ◌++◌, length, take, get_or, refl, ap, sym, ◌∙◌, arith, append_assoc, subst}
-use Rattle.std.specs.Prelude.{Option, Some, None, nat_le, if◌then◌else◌, IfSome}
-use Rattle.std.proofs.lemmas.Int.{ints}
+use Rattle.std.proofs.Common.{◌≡◌, ℕ, zero, suc, ◌+◌, ◌^◌, ◌<◌, ◌≤◌, true, false, ℤ, pos, ◌-ℤ◌, List, [], ◌∷◌, ◌++◌, length, take, get_or, refl, ap, sym, ◌∙◌, arith, append_assoc, subst}
+use Rattle.std.specs.Prelude.{Option, nat_le, if◌then◌else◌, IfSome}
 use Rattle.sp_words.specs.Types.{int_type}
 use Rattle.sp_words.specs.Words.{value_of, has_sign}
 use Rattle.sp_affine.specs.Affine.{Affine}

@@ -1,4 +1,4 @@
-use Rattle.std.proofs.Common.{◌≡◌, ◌∙◌, ap, length}
+use Rattle.std.proofs.Common.{◌∙◌, ap, length}
 use Rattle.sp_patterns.proofs.Values.{length_differences}
 use Rattle.sp_patterns.proofs.combine.difference.Goals as goal
 
