@@ -1,0 +1,14 @@
+pub mod StillWords
+pub mod StillOps
+pub mod WordsTaken
+pub mod Quietly
+pub mod SliceTwins
+pub mod SpansTaken
+pub mod Places
+pub mod LaneCounts
+pub mod MoveLemmas
+pub mod Moves
+pub mod SlicesMoved
+pub mod SliceNodes
+pub mod Picks
+pub mod PickNodes

@@ -1,0 +1,46 @@
+-- What it means that a node of a core does what a statement of its program does.
+use Rattle.std.specs.Prelude.{◌≡◌, ℕ, ◌<◌, ◌≤◌, Bool, true, List, [], ◌∷◌, Some}
+use Rattle.sp_words.specs.Memory.{cells}
+use Rattle.sp_tree.specs.Expressions.{word}
+use Rattle.sp_tree.specs.PlainExpression.{PlainExpr}
+use Rattle.sp_tree.specs.PlainProgram.{PlainProgram}
+use Rattle.sp_tree.specs.Shape as program_shape
+use Rattle.sp_tree.specs.Shape.{shapes}
+use Rattle.sp_tree.specs.Step as program_step
+use Rattle.sp_tree.specs.Store as program_store
+use Rattle.sp_core.specs.History.{History}
+use Rattle.sp_core.specs.PlainCore.{PlainNode, PlainCore}
+use Rattle.sp_core.specs.Scope.{plainly}
+use Rattle.sp_core.specs.Sequential.{run}
+use Rattle.sp_core.specs.Shape.{shape_of}
+use Rattle.sp_core.specs.Step.{went}
+use Rattle.sp_core.specs.Store as store
+use Rattle.sp_desugar.specs.Agreement.{View, IsAdded, Agree}
+use Rattle.sp_desugar.specs.Early.{after}
+use Rattle.sp_same.specs.Counts.{Count, counts_in_all, counts_of}
+
+module _ (p : PlainProgram) (core : PlainCore) where
+  -- a register that the compiler added holds a word
+  abbrev pub HoldsWord : store.Store → (register word : ℕ) → Type 0
+  HoldsWord t r w = IsAdded p core r × (t r ≡ Some (cells (Some w ∷ [])))
+
+  -- the registers from a number on, one for each expression that crosses, hold the words of these
+  abbrev pub AreReady : (PlainExpr → Bool) → (left : ℕ) → program_store.Store → store.Store → (register : ℕ) → List PlainExpr → Type 0
+  AreReady crosses left s t r [] = Unit {0}
+  AreReady crosses left s t r (e ∷ es) =
+      (crosses e ≡ true → (w : ℕ) → word p.mems e left s ≡ program_step.went w left s → HoldsWord t r w)
+      × AreReady crosses left s t (after crosses r e) es
+
+  -- the registers that were added before a number hold what they held
+  abbrev pub LeavesBefore : (first : ℕ) → (before after : store.Store) → Type 0
+  LeavesBefore first t u = (r : ℕ) → IsAdded p core r → r < first → u r ≡ t r
+
+  -- a node goes on, at most so many turns to each FSM, to a store that agrees with that of the program, leaves the registers
+  -- before a number, and does all as often as the program did
+  pub record NodeGoes (most : ℕ) (view : View) (first : ℕ) (node : PlainNode) (t : store.Store) (s : program_store.Store) (did : List program_shape.Shape) : Type 0 where
+    pub history : History
+    pub after : store.Store
+    pub goes : run core plainly most node view.around t ≡ went history after
+    pub agree : Agree p core view [] s after
+    pub leaves : LeavesBefore first t after
+    pub counts : counts_of node (shape_of node history) ≡ counts_in_all (shapes did)
