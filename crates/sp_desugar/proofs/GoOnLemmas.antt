@@ -40,6 +40,7 @@ module _ (p : PlainProgram) (core : PlainCore) (view : View) where
     vals = λ v c. finds_still done all t (view.sources v.0) (s.values v.0) h (a.vals v c);
     counts = a.counts;
     waiting = a.waiting;
+    registers = a.registers;
   }
 
   agree_in : (scope : Scope) (waiting : List ℕ) (done all : List Entry) (s : program.Store) (t : store.Store) → Keeps done all → Agree p core (record view { scope = scope; waiting = waiting }) done s t → Agree p core (record view { scope = scope; waiting = waiting }) all s t
@@ -48,6 +49,7 @@ module _ (p : PlainProgram) (core : PlainCore) (view : View) where
     vals = λ v c. finds_still done all t (view.sources v.0) (s.values v.0) h (a.vals v c);
     counts = a.counts;
     waiting = a.waiting;
+    registers = a.registers;
   }
 
   give_still : (done all : List Entry) (places words : List ℕ) → Keeps done all → GiveAt done places words → GiveAt all places words

@@ -46,7 +46,7 @@ use Rattle.sp_desugar.proofs.StepLemmas.{turn_taken, as_it_went, taken_apart, th
 use Rattle.sp_desugar.proofs.TwinLemmas.{same_cells, same_queue, same_words}
 
 -- neither a declaration, nor a controller or transfer
-abbrev IsPlainStep : PlainStmtKind → Type 0
+abbrev pub IsPlainStep : PlainStmtKind → Type 0
 IsPlainStep (name v e) = Unit {0}
 IsPlainStep (set_reg m e) = Unit {0}
 IsPlainStep (set_out m e) = Unit {0}
@@ -56,7 +56,7 @@ IsPlainStep _ = ⊥
 
 module _ (p : PlainProgram) (core : PlainCore) (h : HasMemories p core) where
   -- the same operations, in another view
-  rescoped : (view : View) (scope : Scope) (sources : Sources) (waiting : List ℕ) (done : List Entry) (ops : List PlainOp) (t : store.Store) (s u : program_store.Store) (ks ws : List ℕ)
+  pub rescoped : (view : View) (scope : Scope) (sources : Sources) (waiting : List ℕ) (done : List Entry) (ops : List PlainOp) (t : store.Store) (s u : program_store.Store) (ks ws : List ℕ)
       → (g : GoOn p core view done ops t s ks ws) → Agree p core (record view { scope = scope; sources = sources; waiting = waiting }) g.all u g.after
       → GoOn p core (record view { scope = scope; sources = sources; waiting = waiting }) done ops t u [] []
   rescoped view scope sources waiting done ops t s u ks ws g a = record { all = g.all; after = g.after; goes = g.goes; counted = g.counted; kept = g.kept; agree = a; give = tt }
@@ -76,8 +76,8 @@ module _ (p : PlainProgram) (core : PlainCore) (h : HasMemories p core) where
         subst (λ x. Finds p core view.around done t x ((program_store.name_value s v w).values u.0)) (sym (changed_elsewhere view.sources v u.0 source ne))
         (subst (λ x. Finds p core view.around done t (view.sources u.0) x) (sym (changed_elsewhere s.values v u.0 w ne)) (a.vals u (val_before u c ne))))
 
-    agree_named : Agree p core (record view { scope = with_val view.scope v ty; sources = store.changed view.sources v source }) done (program_store.name_value s v w) t
-    agree_named = record { mems = a.mems; vals = named_found; counts = a.counts; waiting = λ m c. let x = a.waiting m c in record { exists = x.exists; on_chip = x.on_chip; unseen = x.unseen; holds = x.holds } }
+    pub agree_named : Agree p core (record view { scope = with_val view.scope v ty; sources = store.changed view.sources v source }) done (program_store.name_value s v w) t
+    agree_named = record { mems = a.mems; vals = named_found; counts = a.counts; waiting = λ m c. let x = a.waiting m c in record { exists = x.exists; on_chip = x.on_chip; unseen = x.unseen; holds = x.holds }; registers = a.registers }
 
   -- after what a run has
   abbrev pub Goes : View → Run → store.Store → program_store.Store → Type 0
@@ -92,18 +92,18 @@ module _ (p : PlainProgram) (core : PlainCore) (h : HasMemories p core) where
       word_next : (n ≡ left) × GoOn p core (at_run view run) g.all (next_code p.mems run e).ops g.after u ((next_code p.mems run e).word ∷ []) (w ∷ [])
       word_next = follows p core h (at_run view run) e (length run.ops) g.all s u g.after left n w counted typed g.agree went
 
-      computed : GoOn p core (at_run view run) [] (run.ops ++ (next_code p.mems run e).ops) t u ((next_code p.mems run e).word ∷ []) (w ∷ [])
+      pub computed : GoOn p core (at_run view run) [] (run.ops ++ (next_code p.mems run e).ops) t u ((next_code p.mems run e).word ∷ []) (w ∷ [])
       computed = then_others p core (at_run view run) [] run.ops (next_code p.mems run e).ops t s u [] ((next_code p.mems run e).word ∷ []) [] (w ∷ []) g word_next.1
 
       name_computed : (v : ℕ) → GoOn p core (at_run (record view { scope = with_val view.scope v (type_of e) }) (with_computed p.mems run v e None)) [] (with_computed p.mems run v e None).ops t (program_store.name_value u v w) [] []
       name_computed v = rescoped (at_run view run) (with_val view.scope v (type_of e)) (store.changed run.values.here v (at_place (next_code p.mems run e).word)) view.waiting [] (run.ops ++ (next_code p.mems run e).ops) t u (program_store.name_value u v w) ((next_code p.mems run e).word ∷ []) (w ∷ []) computed
           (agree_named (at_run view run) v w (type_of e) (at_place (next_code p.mems run e).word) computed.all u computed.after computed.agree (computed.give.0, computed.give.1))
 
-  silent : (view : View) (done : List Entry) (ops : List PlainOp) (t : store.Store) (s : program_store.Store) (ks ws : List ℕ) → GoOn p core view done ops t s ks ws → GoOn p core view done ops t s [] []
+  pub silent : (view : View) (done : List Entry) (ops : List PlainOp) (t : store.Store) (s : program_store.Store) (ks ws : List ℕ) → GoOn p core view done ops t s ks ws → GoOn p core view done ops t s [] []
   silent view done ops t s ks ws g = record { all = g.all; after = g.after; goes = g.goes; counted = g.counted; kept = g.kept; agree = g.agree; give = tt }
 
   -- one more operation, by the words of those before it
-  op_next : (view : View) (before ops : List PlainOp) (t : store.Store) (s u : program_store.Store) (ks ws : List ℕ) (k : OpKind) (ty : Ty) (m : Option ℕ) (e : Entry) (after : store.Store)
+  pub op_next : (view : View) (before ops : List PlainOp) (t : store.Store) (s u : program_store.Store) (ks ws : List ℕ) (k : OpKind) (ty : Ty) (m : Option ℕ) (e : Entry) (after : store.Store)
       → (g : GoOn p core view [] (before ++ ops) t s ks ws) → done_by core view.around k ty m ws g.after ≡ core_step.went e after → Agree p core view g.all u after
       → GoOn p core view [] (before ++ (ops ++ record { kind = k; ty = ty; args = ks; mem = m; mask = None } ∷ [])) t u [] []
   op_next view before ops t s u ks ws k ty m e after g d a =
@@ -129,7 +129,7 @@ module _ (p : PlainProgram) (core : PlainCore) (h : HasMemories p core) where
       (agree_held p core h m lt off (at_run view run) all.all u all.after all.agree seen c)
 
   module _ (roomy : List ℕ) (rooms : HaveRooms p roomy core) (view : View) (run : Run) (t : store.Store) where
-    abbrev Done : PlainStmtKind → program_store.Store → Type 0
+    abbrev pub Done : PlainStmtKind → program_store.Store → Type 0
     Done k after = Goes (record view { scope = scope_after view.scope k }) (with_stmt p.mems true None run k) t after
 
     -- no turn of an expression
@@ -149,7 +149,7 @@ module _ (p : PlainProgram) (core : PlainCore) (h : HasMemories p core) where
         (agree_named (at_run view run) v (s.values x) ty (run.values.here x) g.all s g.after g.agree (g.agree.vals (x, ty) typed)))
     named v (expr place ty k) s u left n w g typed e = name_computed view run t s left g (expr place ty k) typed n u w e v
 
-    stmt_follows : (k : PlainStmtKind) (place : ℕ) (s after : program_store.Store) (left rest : ℕ) (shapes : List Shape) → Goes view run t s → StmtTyped p view.scope k
+    pub stmt_follows : (k : PlainStmtKind) (place : ℕ) (s after : program_store.Store) (left rest : ℕ) (shapes : List Shape) → Goes view run t s → StmtTyped p view.scope k
         → run_kind p.mems roomy k place left s ≡ step.went shapes rest after → IsPlainStep k → (shapes ≡ []) × Done k after
     unfolding run_kind step.◌>>=◌ step.pure step.read step.change core_step.pure
     stmt_follows (name v e) place s after left rest shapes g typed went plain =
@@ -247,31 +247,34 @@ module _ (p : PlainProgram) (core : PlainCore) (h : HasMemories p core) where
           (changed_here g.after n n (Some contents) refl) (λ k ne. changed_elsewhere g.after n k (Some contents) ne) h)
           (omega arith))
 
-      declared_already : has ≡ false → Declared run
+      pub declared_already : has ≡ false → Declared run
       declared_already e = rescoped (at_run view run) (with_mem view.scope m) run.values.here others [] run.ops t s (program_store.hold s m contents) [] [] g
-          (agree_declared p core (at_run view run) m others g.all s g.after g.after contents g.agree w more apart (w.holds (and_right view.resets has e)) (λ k ne. refl) h)
+          (agree_declared p core (at_run view run) m others g.all s g.after g.after contents g.agree w more apart (w.holds (and_right (view.resets m) has e)) (λ k ne. refl) h)
 
       declared : Declared (with_reset p.mems run m)
       declared = either has
           (λ e. subst Declared (ap (λ b. if b then with_ops run (reset_op ∷ []) else run) (sym e)) declared_now)
           (λ e. subst Declared (ap (λ b. if b then with_ops run (reset_op ∷ []) else run) (sym e)) (declared_already e))
 
-  none_waiting : (view : View) (done : List Entry) (s : program_store.Store) (t : store.Store) → Agree p core view done s t → Agree p core (record view { waiting = [] }) done s t
-  none_waiting view done s t a = record { mems = a.mems; vals = a.vals; counts = a.counts; waiting = λ m c. absurd (omega (arith, c.1)) }
+  others_waiting : (view : View) (others : List ℕ) (done : List Entry) (s : program_store.Store) (t : store.Store) → view.waiting ≡ others → Agree p core view done s t → Agree p core (record view { waiting = others }) done s t
+  others_waiting view others done s t same a = record { mems = a.mems; vals = a.vals; counts = a.counts; waiting = λ m c. again (a.waiting m (subst (λ ms. Contains ms m) (sym same) c)); registers = a.registers }
+    where
+      again : {m : ℕ} → IsWaiting p core view t m → IsWaiting p core (record view { waiting = others }) t m
+      again {m} x = record { exists = x.exists; on_chip = x.on_chip; unseen = x.unseen; holds = x.holds }
 
   seen_later : (m k : ℕ) (ms : List ℕ) → Contains ms k → Contains (m ∷ ms) k
   seen_later m k ms (j, lt, e) = (suc j, omega arith, e)
 
   -- the statements of an inner body
-  abbrev After_run : View → PlainStmts → Run → store.Store → program_store.Store → Type 0
-  After_run view body run t after = Goes (record view { scope = after_all view.scope body; waiting = [] }) (inner_run p.mems run body) t after
+  abbrev After_run : List ℕ → View → PlainStmts → Run → store.Store → program_store.Store → Type 0
+  After_run others view body run t after = Goes (record view { scope = after_all view.scope body; waiting = others }) (inner_run p.mems run body) t after
 
   -- a statement and those after it
-  module _ (roomy : List ℕ) (rooms : HaveRooms p roomy core) (k : PlainStmtKind) (place : ℕ) (rest_body : PlainStmts) (view : View) (run0 : Run) (t : store.Store) (s after : program_store.Store) (left rest : ℕ) (shapes : List Shape) (view2 : View) (run2 : Run)
+  module _ (waits : List ℕ) (roomy : List ℕ) (rooms : HaveRooms p roomy core) (k : PlainStmtKind) (place : ℕ) (rest_body : PlainStmts) (view : View) (run0 : Run) (t : store.Store) (s after : program_store.Store) (left rest : ℕ) (shapes : List Shape) (view2 : View) (run2 : Run)
       (went : run_all p.mems roomy (more_stmt (stmt place k) rest_body) left s ≡ step.went shapes rest after)
       (one : (after : program_store.Store) (left rest : ℕ) (shapes : List Shape) → run_kind p.mems roomy k place left s ≡ step.went shapes rest after → (shapes ≡ []) × Goes view2 run2 t after)
-      (others : (s after : program_store.Store) (left rest : ℕ) (shapes : List Shape) → Goes view2 run2 t s → run_all p.mems roomy rest_body left s ≡ step.went shapes rest after → (shapes ≡ []) × After_run view2 rest_body run2 t after) where
-    both_follow : (shapes ≡ []) × After_run view2 rest_body run2 t after
+      (others : (s after : program_store.Store) (left rest : ℕ) (shapes : List Shape) → Goes view2 run2 t s → run_all p.mems roomy rest_body left s ≡ step.went shapes rest after → (shapes ≡ []) × After_run waits view2 rest_body run2 t after) where
+    both_follow : (shapes ≡ []) × After_run waits view2 rest_body run2 t after
     unfolding run run_all step.◌>>=◌ step.pure
     both_follow =
         let b = taken_apart (run p.mems roomy (stmt place k)) (λ x. step.◌>>=◌ (run_all p.mems roomy rest_body) (λ y. step.pure (x ++ y))) left s shapes rest after went in
@@ -279,42 +282,42 @@ module _ (p : PlainProgram) (core : PlainCore) (h : HasMemories p core) where
         let first = one b.store c.between b.between b.answer (subst (λ u. run_kind p.mems roomy k place c.between u ≡ step.went b.answer b.between b.store) (turn_taken c.answer left c.between s c.store c.first) c.second) in
         let d = taken_apart (run_all p.mems roomy rest_body) (λ y. step.pure (b.answer ++ y)) b.between b.store shapes rest after b.second in
         let later = others b.store d.store b.between d.between d.answer first.1 d.first in
-        as_it_went (λ x n u. (x ≡ []) × After_run view2 rest_body run2 t u) (b.answer ++ d.answer) shapes d.between rest d.store after d.second
+        as_it_went (λ x n u. (x ≡ []) × After_run waits view2 rest_body run2 t u) (b.answer ++ d.answer) shapes d.between rest d.store after d.second
         (ap (λ x. x ++ d.answer) first.0 ∙ later.0, later.1)
 
-  pub runs_follow : (roomy : List ℕ) → HaveRooms p roomy core → (body : PlainStmts) (view : View) (r : Run) (t : store.Store) (s after : program_store.Store) (left rest : ℕ) (shapes : List Shape)
-      → Goes view r t s → IsTrue (is_inner body) → BodyTyped p view.scope body → Apart (own_mems body) → view.waiting ≡ own_mems body
-      → run_all p.mems roomy body left s ≡ step.went shapes rest after → (shapes ≡ []) × After_run view body r t after
+  pub runs_follow : (waits : List ℕ) (roomy : List ℕ) → HaveRooms p roomy core → (body : PlainStmts) (view : View) (r : Run) (t : store.Store) (s after : program_store.Store) (left rest : ℕ) (shapes : List Shape)
+      → Goes view r t s → IsTrue (is_inner body) → BodyTyped p view.scope body → Apart (own_mems body ++ waits) → view.waiting ≡ own_mems body ++ waits
+      → run_all p.mems roomy body left s ≡ step.went shapes rest after → (shapes ≡ []) × After_run waits view body r t after
   unfolding run_all run_kind step.pure step.◌>>=◌ step.change
-  runs_follow roomy rooms no_stmt view r t s after left rest shapes g inner typed apart same went =
-      as_it_went (λ x n u. (x ≡ []) × After_run view no_stmt r t u) [] shapes left rest s after went
-      (refl, rescoped (at_run view r) view.scope r.values.here [] [] r.ops t s s [] [] g (none_waiting (at_run view r) g.all s g.after g.agree))
-  runs_follow roomy rooms (more_stmt (stmt place (declare m)) body) view r t s after left rest shapes g inner typed apart same went =
-      let later : View = record view { scope = with_mem view.scope m; waiting = own_mems body } in
+  runs_follow waits roomy rooms no_stmt view r t s after left rest shapes g inner typed apart same went =
+      as_it_went (λ x n u. (x ≡ []) × After_run waits view no_stmt r t u) [] shapes left rest s after went
+      (refl, rescoped (at_run view r) view.scope r.values.here waits [] r.ops t s s [] [] g (others_waiting (at_run view r) waits g.all s g.after same g.agree))
+  runs_follow waits roomy rooms (more_stmt (stmt place (declare m)) body) view r t s after left rest shapes g inner typed apart same went =
+      let later : View = record view { scope = with_mem view.scope m; waiting = own_mems body ++ waits } in
       let first : Contains view.waiting m = subst (λ ms. Contains ms m) (sym same) (0, omega arith, refl) in
-      let more : (k : ℕ) → Contains (own_mems body) k → Contains view.waiting k = λ k c. subst (λ ms. Contains ms k) (sym same) (seen_later m k (own_mems body) c) in
-      both_follow roomy rooms (declare m) place body view r t s after left rest shapes later (with_stmt p.mems true None r (declare m)) went
+      let more : (k : ℕ) → Contains (own_mems body ++ waits) k → Contains view.waiting k = λ k c. subst (λ ms. Contains ms k) (sym same) (seen_later m k (own_mems body ++ waits) c) in
+      both_follow waits roomy rooms (declare m) place body view r t s after left rest shapes later (with_stmt p.mems true None r (declare m)) went
       (λ after left rest shapes w. as_it_went (λ x n u. (x ≡ []) × Goes later (with_reset p.mems r m) t u) [] shapes left rest _ after w
-      (refl, declared roomy rooms view r t m (own_mems body) s g (g.agree.waiting m first) more apart.0))
-      (λ s after left rest shapes g w. runs_follow roomy rooms body later (with_stmt p.mems true None r (declare m)) t s after left rest shapes g inner typed.1 apart.1 refl w)
-  runs_follow roomy rooms (more_stmt (stmt place (name v e)) body) view r t s after left rest shapes g inner typed apart same went =
-      both_follow roomy rooms (name v e) place body view r t s after left rest shapes (record view { scope = scope_after view.scope (name v e) }) (with_stmt p.mems true None r (name v e)) went
+      (refl, declared roomy rooms view r t m (own_mems body ++ waits) s g (g.agree.waiting m first) more apart.0))
+      (λ s after left rest shapes g w. runs_follow waits roomy rooms body later (with_stmt p.mems true None r (declare m)) t s after left rest shapes g inner typed.1 apart.1 refl w)
+  runs_follow waits roomy rooms (more_stmt (stmt place (name v e)) body) view r t s after left rest shapes g inner typed apart same went =
+      both_follow waits roomy rooms (name v e) place body view r t s after left rest shapes (record view { scope = scope_after view.scope (name v e) }) (with_stmt p.mems true None r (name v e)) went
       (λ after left rest shapes w. stmt_follows roomy rooms view r t (name v e) place s after left rest shapes g typed.0 w tt)
-      (λ s after left rest shapes g w. runs_follow roomy rooms body (record view { scope = scope_after view.scope (name v e) }) (with_stmt p.mems true None r (name v e)) t s after left rest shapes g inner typed.1 apart same w)
-  runs_follow roomy rooms (more_stmt (stmt place (set_reg m e)) body) view r t s after left rest shapes g inner typed apart same went =
-      both_follow roomy rooms (set_reg m e) place body view r t s after left rest shapes view (with_stmt p.mems true None r (set_reg m e)) went
+      (λ s after left rest shapes g w. runs_follow waits roomy rooms body (record view { scope = scope_after view.scope (name v e) }) (with_stmt p.mems true None r (name v e)) t s after left rest shapes g inner typed.1 apart same w)
+  runs_follow waits roomy rooms (more_stmt (stmt place (set_reg m e)) body) view r t s after left rest shapes g inner typed apart same went =
+      both_follow waits roomy rooms (set_reg m e) place body view r t s after left rest shapes view (with_stmt p.mems true None r (set_reg m e)) went
       (λ after left rest shapes w. stmt_follows roomy rooms view r t (set_reg m e) place s after left rest shapes g typed.0 w tt)
-      (λ s after left rest shapes g w. runs_follow roomy rooms body view (with_stmt p.mems true None r (set_reg m e)) t s after left rest shapes g inner typed.1 apart same w)
-  runs_follow roomy rooms (more_stmt (stmt place (set_out m e)) body) view r t s after left rest shapes g inner typed apart same went =
-      both_follow roomy rooms (set_out m e) place body view r t s after left rest shapes view (with_stmt p.mems true None r (set_out m e)) went
+      (λ s after left rest shapes g w. runs_follow waits roomy rooms body view (with_stmt p.mems true None r (set_reg m e)) t s after left rest shapes g inner typed.1 apart same w)
+  runs_follow waits roomy rooms (more_stmt (stmt place (set_out m e)) body) view r t s after left rest shapes g inner typed apart same went =
+      both_follow waits roomy rooms (set_out m e) place body view r t s after left rest shapes view (with_stmt p.mems true None r (set_out m e)) went
       (λ after left rest shapes w. stmt_follows roomy rooms view r t (set_out m e) place s after left rest shapes g typed.0 w tt)
-      (λ s after left rest shapes g w. runs_follow roomy rooms body view (with_stmt p.mems true None r (set_out m e)) t s after left rest shapes g inner typed.1 apart same w)
-  runs_follow roomy rooms (more_stmt (stmt place (set_sram m indices e)) body) view r t s after left rest shapes g inner typed apart same went =
-      both_follow roomy rooms (set_sram m indices e) place body view r t s after left rest shapes view (with_stmt p.mems true None r (set_sram m indices e)) went
+      (λ s after left rest shapes g w. runs_follow waits roomy rooms body view (with_stmt p.mems true None r (set_out m e)) t s after left rest shapes g inner typed.1 apart same w)
+  runs_follow waits roomy rooms (more_stmt (stmt place (set_sram m indices e)) body) view r t s after left rest shapes g inner typed apart same went =
+      both_follow waits roomy rooms (set_sram m indices e) place body view r t s after left rest shapes view (with_stmt p.mems true None r (set_sram m indices e)) went
       (λ after left rest shapes w. stmt_follows roomy rooms view r t (set_sram m indices e) place s after left rest shapes g typed.0 w tt)
-      (λ s after left rest shapes g w. runs_follow roomy rooms body view (with_stmt p.mems true None r (set_sram m indices e)) t s after left rest shapes g inner typed.1 apart same w)
-  runs_follow roomy rooms (more_stmt (stmt place (enq m e)) body) view r t s after left rest shapes g inner typed apart same went =
-      both_follow roomy rooms (enq m e) place body view r t s after left rest shapes view (with_stmt p.mems true None r (enq m e)) went
+      (λ s after left rest shapes g w. runs_follow waits roomy rooms body view (with_stmt p.mems true None r (set_sram m indices e)) t s after left rest shapes g inner typed.1 apart same w)
+  runs_follow waits roomy rooms (more_stmt (stmt place (enq m e)) body) view r t s after left rest shapes g inner typed apart same went =
+      both_follow waits roomy rooms (enq m e) place body view r t s after left rest shapes view (with_stmt p.mems true None r (enq m e)) went
       (λ after left rest shapes w. stmt_follows roomy rooms view r t (enq m e) place s after left rest shapes g typed.0 w tt)
-      (λ s after left rest shapes g w. runs_follow roomy rooms body view (with_stmt p.mems true None r (enq m e)) t s after left rest shapes g inner typed.1 apart same w)
-  runs_follow roomy rooms (more_stmt (stmt place k) body) view r t s after left rest shapes g inner typed apart same went = absurd (false≢true inner)
+      (λ s after left rest shapes g w. runs_follow waits roomy rooms body view (with_stmt p.mems true None r (enq m e)) t s after left rest shapes g inner typed.1 apart same w)
+  runs_follow waits roomy rooms (more_stmt (stmt place k) body) view r t s after left rest shapes g inner typed apart same went = absurd (false≢true inner)

@@ -35,13 +35,15 @@ GiveAt all (k ∷ places) (w ∷ words) = (k < length all) × (word_at all k ≡
 GiveAt all _ _ = ⊥
 
 -- what is known at a place of a run: what is visible there, where its values are found, the counters around, the memories of
--- the body that aren't declared yet, and whether the body has reset operations, as an inner one does
+-- the bodies around that aren't declared yet, which of them stand in a body with reset operations, as an inner one has, and
+-- registers that hold a word, each with it
 pub record View : Type 0 where
   pub scope : Scope
   pub sources : Sources
   pub around : counters.Scope
   pub waiting : List ℕ
-  pub resets : Bool
+  pub resets : ℕ → Bool
+  pub registers : List (ℕ × ℕ)
 
 module _ (p : PlainProgram) (core : PlainCore) where
   -- where the core's store has a memory of the program
@@ -67,7 +69,7 @@ module _ (p : PlainProgram) (core : PlainCore) where
     pub exists : m < length p.mems
     pub on_chip : is_off_dram (mem p.mems m) ≡ true
     pub unseen : Contains view.scope.mems m → ⊥
-    pub holds : (view.resets && has_reset (mem p.mems m).kind (mem p.mems m).start) ≡ false → t (mem_number p.mems m) ≡ Some (fresh_of (mem p.mems m).kind (mem p.mems m).dims (mem p.mems m).start [])
+    pub holds : (view.resets m && has_reset (mem p.mems m).kind (mem p.mems m).start) ≡ false → t (mem_number p.mems m) ≡ Some (fresh_of (mem p.mems m).kind (mem p.mems m).dims (mem p.mems m).start [])
 
   -- what is visible is the same in both: memories hold the same, values are found, and counters have their words
   pub record Agree (view : View) (done : List Entry) (s : program.Store) (t : store.Store) : Type 0 where
@@ -75,6 +77,7 @@ module _ (p : PlainProgram) (core : PlainCore) where
     pub vals : (v : ℕ × _) → Contains view.scope.vals v → Finds view.around done t (view.sources v.0) (s.values v.0)
     pub counts : (c : ℕ) → Contains view.scope.counters c → counters.count_word (view.around c) 0 ≡ s.counts c
     pub waiting : (m : ℕ) → Contains view.waiting m → IsWaiting view t m
+    pub registers : (x : ℕ × ℕ) → Contains view.registers x → Finds view.around done t (in_register x.0) x.1
 
   -- operations go on after those that are done, to a store that agrees with another one, and give words at places
   pub record GoOn (view : View) (done : List Entry) (ops : List PlainOp) (t : store.Store) (s : program.Store) (places words : List ℕ) : Type 0 where

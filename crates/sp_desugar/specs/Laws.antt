@@ -1,5 +1,5 @@
 -- Laws of desugaring, as statements.
-use Rattle.std.specs.Prelude.{◌≡◌, ℕ, ◌+◌, ◌≤◌, ◌==◌, Bool, false, ◌||◌, IsTrue, List, [], ◌∷◌, map, length, Contains, All, true}
+use Rattle.std.specs.Prelude.{◌≡◌, ℕ, ◌+◌, ◌≤◌, ◌==◌, Bool, false, ◌||◌, IsTrue, List, [], ◌∷◌, ◌++◌, map, length, Contains, All, true}
 use Rattle.sp_words.specs.declared.kind.Kind.TheVariants.{Sram}
 use Rattle.sp_words.specs.declared.types.Ty.{Ty}
 use Rattle.sp_words.specs.declared.types.Ty.TheVariants.{Bit}
@@ -41,15 +41,15 @@ IsFollowed p core e =
     → HasMemories p core → Typed p view.scope e → Agree p core view done s t → word p.mems e left s ≡ program.went w rest after
     → (rest ≡ left) × GoOn p core view done (code p.mems view.sources (length done) e).ops t after ((code p.mems view.sources (length done) e).word ∷ []) (w ∷ [])
 
--- the same of the statements of an inner body, each of whose memories without a reset operation is fresh before: after what a
--- run has, the operations of the run with these statements go on as the statements do, of which none is a controller or a
+-- the same of the statements of an inner body, each of whose memories without a reset operation is fresh before, among others
+-- that wait: after what a run has, the operations of the run with these statements go on as the statements do, of which none is a controller or a
 -- transfer, so their shape is empty
 abbrev pub IsInnerRun : PlainProgram → (roomy : List ℕ) → PlainCore → PlainStmts → Type 0
 IsInnerRun p roomy core body =
-    (view : View) (run : Run) (s after : program_store.Store) (t : store.Store) (left rest : ℕ) (shapes : List Shape)
-    → HasMemories p core → HaveRooms p roomy core → IsTrue (is_inner body) → BodyTyped p view.scope body → Apart (own_mems body) → view.waiting ≡ own_mems body
+    (view : View) (run : Run) (waits : List ℕ) (s after : program_store.Store) (t : store.Store) (left rest : ℕ) (shapes : List Shape)
+    → HasMemories p core → HaveRooms p roomy core → IsTrue (is_inner body) → BodyTyped p view.scope body → Apart (own_mems body ++ waits) → view.waiting ≡ own_mems body ++ waits
     → GoOn p core (at_run view run) [] run.ops t s [] [] → run_all p.mems roomy body left s ≡ program.went shapes rest after
-    → (shapes ≡ []) × GoOn p core (at_run (record view { scope = after_all view.scope body; waiting = [] }) (inner_run p.mems run body)) [] (inner_run p.mems run body).ops t after [] []
+    → (shapes ≡ []) × GoOn p core (at_run (record view { scope = after_all view.scope body; waiting = waits }) (inner_run p.mems run body)) [] (inner_run p.mems run body).ops t after [] []
 
 -- the operations of a typed expression keep the rules of cores, where what is visible may be used, and give a word of its type
 abbrev pub KeepsRules : PlainProgram → PlainCore → PlainExpr → Type 0

@@ -1,7 +1,6 @@
 -- Words that are moved one by one, by a program and by its core.
-use Rattle.std.proofs.Common.{◌≡◌, ℕ, suc, List, [], ◌∷◌, Option, Some, refl, sym, ◌∙◌, ap, subst}
+use Rattle.std.proofs.Common.{◌≡◌, ℕ, suc, List, [], ◌∷◌, Option, Some, refl, ◌∙◌, ap, subst}
 use Rattle.std.specs.Prelude.{length, slice_index, slice_set}
-use Rattle.sp_words.specs.declared.kind.Kind.{Kind}
 use Rattle.sp_words.specs.declared.kind.Kind.TheVariants.{Sram, Dram}
 use Rattle.sp_words.specs.Memory.{Contents, cells, words}
 use Rattle.sp_tree.specs.Elements as elements

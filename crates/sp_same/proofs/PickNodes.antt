@@ -1,5 +1,5 @@
 -- The node of a gather or a scatter does what its statement does.
-use Rattle.std.proofs.Common.{◌≡◌, ℕ, List, [], ◌∷◌, Some, refl, sym, ◌∙◌, ap, subst}
+use Rattle.std.proofs.Common.{◌≡◌, ℕ, List, [], ◌∷◌, sym, ◌∙◌, ap, subst}
 use Rattle.std.specs.Prelude.{length}
 use Rattle.sp_words.specs.Interface.{word_count}
 use Rattle.sp_words.specs.Types.{int_type}
@@ -18,12 +18,10 @@ use Rattle.sp_tree.specs.Step as step
 use Rattle.sp_tree.specs.Store as program_store
 use Rattle.sp_tree.specs.Transfers as slice
 use Rattle.sp_tree.specs.Typing.{StmtTyped}
-use Rattle.sp_core.specs.declared.node.SparseKind.TheVariants.{Gather, Scatter}
 use Rattle.sp_core.specs.Elements as core_elements
 use Rattle.sp_core.specs.History.{picked, last_word}
 use Rattle.sp_core.specs.Operations.{operations}
-use Rattle.sp_core.specs.PlainCore.{PlainOp, PlainCore, sparse}
-use Rattle.sp_core.specs.Scope.{plainly}
+use Rattle.sp_core.specs.PlainCore.{PlainOp, PlainCore}
 use Rattle.sp_core.specs.Sequential.{run}
 use Rattle.sp_core.specs.Shape.{shape_of}
 use Rattle.sp_core.specs.Step as core_step
@@ -57,7 +55,7 @@ module _ (p : PlainProgram) (core : PlainCore) (h : HasMemories p core) (ports :
   amount w = elements.natural (index_value w)
 
   pub gather_goes : (sram dram places : ℕ) → StmtTyped p view.scope (gather sram dram places e) → run_kind p.mems roomy (gather sram dram places e) place left s ≡ step.went did rest after
-      → NodeGoes p core most view (length core.mems) (node p.mems (length p.counters) view.sources b n (gather sram dram places e)) t after did
+      → NodeGoes p core most view (node p.mems (length p.counters) view.sources b n (gather sram dram places e)) t after did
   unfolding run_kind run node step.pure core_step.pure shape_of counts_of counts_in counts_in_all
   gather_goes sram dram places typed goes =
       let m : ℕ = mem_number p.mems sram in
@@ -67,10 +65,10 @@ module _ (p : PlainProgram) (core : PlainCore) (h : HasMemories p core) (ports :
       let x = taken_apart (word p.mems e) (λ w. step.◌>>◌ (move w) (step.pure (program_shape.moved (amount w ∷ []) ∷ []))) left s did rest after goes in
       let y = taken_apart (move x.answer) (λ _. step.pure (program_shape.moved (amount x.answer ∷ []) ∷ [])) x.between x.store did rest after x.second in
       let c = part_taken p core h view is_early b e s x.store t left x.between x.answer int_type typed.1.how_many a ready.0 x.first in
-      let start : Moving p core h ports view t x.store t = record { agree = subst (λ v. Agree p core view [] v t) (sym c.1) a; stays = λ k added. refl } in
-      let one : ℕ → step.Step (Unit {0}) = gather_one p core h ports view sram dram places typed.0.seen typed.0.is_kind typed.1.in_dram.seen typed.1.in_dram.is_kind typed.1.from_sram.seen typed.1.from_sram.is_kind typed.2 typed.1.one_dimension typed.1.one_row t place in
-      let all = each_follows one (core_slice.gather_word core r m q) (Moving p core h ports view t)
-      (gather_step p core h ports view sram dram places typed.0.seen typed.0.is_kind typed.1.in_dram.seen typed.1.in_dram.is_kind typed.1.from_sram.seen typed.1.from_sram.is_kind typed.2 typed.1.one_dimension typed.1.one_row t place)
+      let start : Moving p core h ports view x.store t = subst (λ v. Agree p core view [] v t) (sym c.1) a in
+      let one : ℕ → step.Step (Unit {0}) = gather_one p core h ports view sram dram places typed.0.seen typed.0.is_kind typed.1.in_dram.seen typed.1.in_dram.is_kind typed.1.from_sram.seen typed.1.from_sram.is_kind typed.2 typed.1.one_dimension typed.1.one_row place in
+      let all = each_follows one (core_slice.gather_word core r m q) (Moving p core h ports view)
+      (gather_step p core h ports view sram dram places typed.0.seen typed.0.is_kind typed.1.in_dram.seen typed.1.in_dram.is_kind typed.1.from_sram.seen typed.1.from_sram.is_kind typed.2 typed.1.one_dimension typed.1.one_row place)
       (elements.numbers_below (amount x.answer)) x.between y.between x.store y.store t y.answer start y.first in
       record {
         history = picked c.2.0 all.0;
@@ -78,13 +76,12 @@ module _ (p : PlainProgram) (core : PlainCore) (h : HasMemories p core) (ports :
         goes = then_on (operations core view.around count_ops) (λ es. core_step.◌>>=◌ (core_step.in_order (core_slice.gather_word core r m q) (core_elements.numbers_below (core_elements.natural (index_value (last_word es))))) (λ ws. core_step.pure (picked es ws))) t c.2.0 t c.2.1
             ∙ then_on (core_step.in_order (core_slice.gather_word core r m q) (core_elements.numbers_below (core_elements.natural (index_value (last_word c.2.0))))) (λ ws. core_step.pure (picked c.2.0 ws)) t all.0 all.1
             (ap (λ l. core_step.in_order (core_slice.gather_word core r m q) l t) (count_same x.answer (last_word c.2.0) c.2.2) ∙ all.2);
-        agree = subst (λ v. Agree p core view [] v all.1) (same_store (program_shape.moved (amount x.answer ∷ []) ∷ []) did y.between rest y.store after y.second) all.3.agree;
-        leaves = λ k added lt. all.3.stays k added;
+        agree = subst (λ v. Agree p core view [] v all.1) (same_store (program_shape.moved (amount x.answer ∷ []) ∷ []) did y.between rest y.store after y.second) all.3;
         counts = ap (λ k. words (k ∷ []) ∷ []) (all.4 ∙ numbers_length (amount x.answer)) ∙ ap (λ l. counts_in_all (shapes l)) (same_answer (program_shape.moved (amount x.answer ∷ []) ∷ []) did y.between rest y.store after y.second);
       }
 
   pub scatter_goes : (dram places sram : ℕ) → StmtTyped p view.scope (scatter dram places e sram) → run_kind p.mems roomy (scatter dram places e sram) place left s ≡ step.went did rest after
-      → NodeGoes p core most view (length core.mems) (node p.mems (length p.counters) view.sources b n (scatter dram places e sram)) t after did
+      → NodeGoes p core most view (node p.mems (length p.counters) view.sources b n (scatter dram places e sram)) t after did
   unfolding run_kind run node step.pure core_step.pure shape_of counts_of counts_in counts_in_all
   scatter_goes dram places sram typed goes =
       let m : ℕ = mem_number p.mems sram in
@@ -94,10 +91,10 @@ module _ (p : PlainProgram) (core : PlainCore) (h : HasMemories p core) (ports :
       let x = taken_apart (word p.mems e) (λ w. step.◌>>◌ (move w) (step.pure (program_shape.moved (amount w ∷ []) ∷ []))) left s did rest after goes in
       let y = taken_apart (move x.answer) (λ _. step.pure (program_shape.moved (amount x.answer ∷ []) ∷ [])) x.between x.store did rest after x.second in
       let c = part_taken p core h view is_early b e s x.store t left x.between x.answer int_type typed.1.how_many a ready.0 x.first in
-      let start : Moving p core h ports view t x.store t = record { agree = subst (λ v. Agree p core view [] v t) (sym c.1) a; stays = λ k added. refl } in
-      let one : ℕ → step.Step (Unit {0}) = scatter_one p core h ports view sram dram places typed.0.seen typed.0.is_kind typed.1.in_dram.seen typed.1.in_dram.is_kind typed.1.from_sram.seen typed.1.from_sram.is_kind typed.2 typed.1.one_dimension typed.1.one_row t place in
-      let all = each_follows one (core_slice.scatter_word core r m q) (Moving p core h ports view t)
-      (scatter_step p core h ports view sram dram places typed.0.seen typed.0.is_kind typed.1.in_dram.seen typed.1.in_dram.is_kind typed.1.from_sram.seen typed.1.from_sram.is_kind typed.2 typed.1.one_dimension typed.1.one_row t place)
+      let start : Moving p core h ports view x.store t = subst (λ v. Agree p core view [] v t) (sym c.1) a in
+      let one : ℕ → step.Step (Unit {0}) = scatter_one p core h ports view sram dram places typed.0.seen typed.0.is_kind typed.1.in_dram.seen typed.1.in_dram.is_kind typed.1.from_sram.seen typed.1.from_sram.is_kind typed.2 typed.1.one_dimension typed.1.one_row place in
+      let all = each_follows one (core_slice.scatter_word core r m q) (Moving p core h ports view)
+      (scatter_step p core h ports view sram dram places typed.0.seen typed.0.is_kind typed.1.in_dram.seen typed.1.in_dram.is_kind typed.1.from_sram.seen typed.1.from_sram.is_kind typed.2 typed.1.one_dimension typed.1.one_row place)
       (elements.numbers_below (amount x.answer)) x.between y.between x.store y.store t y.answer start y.first in
       record {
         history = picked c.2.0 all.0;
@@ -105,7 +102,6 @@ module _ (p : PlainProgram) (core : PlainCore) (h : HasMemories p core) (ports :
         goes = then_on (operations core view.around count_ops) (λ es. core_step.◌>>=◌ (core_step.in_order (core_slice.scatter_word core r m q) (core_elements.numbers_below (core_elements.natural (index_value (last_word es))))) (λ ws. core_step.pure (picked es ws))) t c.2.0 t c.2.1
             ∙ then_on (core_step.in_order (core_slice.scatter_word core r m q) (core_elements.numbers_below (core_elements.natural (index_value (last_word c.2.0))))) (λ ws. core_step.pure (picked c.2.0 ws)) t all.0 all.1
             (ap (λ l. core_step.in_order (core_slice.scatter_word core r m q) l t) (count_same x.answer (last_word c.2.0) c.2.2) ∙ all.2);
-        agree = subst (λ v. Agree p core view [] v all.1) (same_store (program_shape.moved (amount x.answer ∷ []) ∷ []) did y.between rest y.store after y.second) all.3.agree;
-        leaves = λ k added lt. all.3.stays k added;
+        agree = subst (λ v. Agree p core view [] v all.1) (same_store (program_shape.moved (amount x.answer ∷ []) ∷ []) did y.between rest y.store after y.second) all.3;
         counts = ap (λ k. words (k ∷ []) ∷ []) (all.4 ∙ numbers_length (amount x.answer)) ∙ ap (λ l. counts_in_all (shapes l)) (same_answer (program_shape.moved (amount x.answer ∷ []) ∷ []) did y.between rest y.store after y.second);
       }

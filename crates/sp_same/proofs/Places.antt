@@ -1,5 +1,5 @@
 -- Where the memories of a program stand in its core, its DRAMs among them, and what a change at one place leaves.
-use Rattle.std.proofs.Common.{◌≡◌, ℕ, zero, suc, ◌+◌, ◌-◌, ◌<◌, ◌≤◌, Bool, true, false, not, cond, List, [], ◌∷◌, Option, Some, refl, sym, ◌∙◌, ap, subst, arith, ◌==◌, nat_lt, if◌then◌else◌}
+use Rattle.std.proofs.Common.{◌≡◌, ℕ, zero, suc, ◌+◌, ◌-◌, ◌<◌, Bool, true, false, not, cond, List, [], ◌∷◌, Some, refl, sym, ◌∙◌, ap, subst, arith, ◌==◌, if◌then◌else◌}
 use Rattle.std.proofs.lemmas.Bool.{eqb-true, eqb-false, le-ltb}
 use Rattle.std.proofs.lemmas.List.Sums.{sum_by-cons}
 use Rattle.std.specs.Prelude.{length, take, slice_index_or, Contains}
@@ -17,7 +17,7 @@ use Rattle.sp_core.specs.PlainCore as plain
 use Rattle.sp_core.specs.PlainCore.{PlainCore}
 use Rattle.sp_core.specs.Store as store
 use Rattle.sp_desugar.specs.Agreement.{HasMemories, View, place_of, IsAdded, Finds, IsWaiting, Agree}
-use Rattle.sp_desugar.specs.Numbers.{is_on_dram, mem_number, dram_number, written_mems}
+use Rattle.sp_desugar.specs.Numbers.{is_on_dram, mem_number, dram_number}
 use Rattle.sp_desugar.specs.Values.{Source, at_place, in_register, constant, count}
 use Rattle.sp_desugar.proofs.MemoryLemmas.{changed_here, changed_elsewhere, chip_exists, chip_place, place_apart}
 use Rattle.sp_desugar.proofs.NodeParts.{dram_at}
@@ -107,12 +107,10 @@ module _ (p : PlainProgram) (core : PlainCore) (h : HasMemories p core) where
       vals = λ v w. found_in (view.sources v.0) (s.values v.0) (a.vals v w);
       counts = a.counts;
       waiting = λ k v. waits_in k (a.waiting k v);
+      registers = λ x v. found_in (in_register x.0) x.1 (a.registers x v);
     }
 
   -- the same where it is a change of the core's store
   module _ (view : View) (done : List Entry) (s : program_store.Store) (t : store.Store) (m n : ℕ) (c : Contents) (a : Agree p core view done s t) (seen : Contains view.scope.mems m) (at : place_of p core m ≡ n) where
     pub agree_at : Agree p core view done (program_store.hold s m c) (store.hold t n c)
     agree_at = agree_changed view done s t (store.hold t n c) m c a seen (changed_here t n (place_of p core m) (Some c) at) (λ k ne. changed_elsewhere t n k (Some c) (λ f. ne (f ∙ sym at)))
-
-    pub stays_at : (r : ℕ) → IsAdded p core r → store.hold t n c r ≡ t r
-    stays_at r added = changed_elsewhere t n r (Some c) (λ f. register_apart r m added (a.mems m seen).0 (f ∙ sym at))

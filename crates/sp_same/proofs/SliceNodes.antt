@@ -1,5 +1,5 @@
 -- The node of a load or a store does what its statement does.
-use Rattle.std.proofs.Common.{◌≡◌, ℕ, ◌<◌, Bool, true, false, List, [], ◌∷◌, ◌++◌, refl, sym, ◌∙◌, ap, subst, if◌then◌else◌}
+use Rattle.std.proofs.Common.{◌≡◌, ℕ, Bool, true, false, List, [], ◌∷◌, refl, sym, ◌∙◌, ap, subst, if◌then◌else◌}
 use Rattle.std.proofs.lemmas.Bool.{eqb-true, eq-eqb, false≢true}
 use Rattle.std.specs.Prelude.{length, map, ◌==◌}
 use Rattle.sp_tree.specs.declared.statement.FaultKind.TheVariants.{Bounds}
@@ -32,14 +32,13 @@ use Rattle.sp_desugar.specs.Agreement.{HasMemories, View, Agree}
 use Rattle.sp_desugar.specs.Early.{is_early_part, spans_of, parts_of}
 use Rattle.sp_desugar.specs.Numbers.{mem_number, dram_number}
 use Rattle.sp_desugar.specs.Stages.{node}
-use Rattle.sp_desugar.proofs.NumberLemmas.{either}
 use Rattle.sp_desugar.proofs.StepLemmas.{same_answer, same_store, taken_apart, then_on}
 use Rattle.sp_same.specs.Counts.{Count, words, counts_in, counts_in_all, counts_of}
 use Rattle.sp_same.specs.Following.{AreReady, NodeGoes}
 use Rattle.sp_same.proofs.LaneCounts.{lanes_same}
-use Rattle.sp_same.proofs.Moves.{Moving, loads, stores}
+use Rattle.sp_same.proofs.Moves.{loads, stores}
 use Rattle.sp_same.proofs.SliceTwins.{as_core, same_lengths}
-use Rattle.sp_same.proofs.SlicesMoved.{ranges_taken, Transferred, transferred}
+use Rattle.sp_same.proofs.SlicesMoved.{ranges_taken, transferred}
 use Rattle.sp_same.proofs.SpansTaken.{spans_taken}
 
 -- one of two nodes does, by the number of lanes
@@ -63,7 +62,7 @@ module _ (p : PlainProgram) (core : PlainCore) (h : HasMemories p core) (ports :
 
   module _ (place rest : ℕ) (after : program_store.Store) (did : List program_shape.Shape) (n : ℕ) (ready : AreReady p core (is_early_part spans) left s t b (parts_of spans)) where
     pub load_goes : (sram dram : ℕ) → StmtTyped p view.scope (load_sram sram dram spans) → run_kind p.mems roomy (load_sram sram dram spans) place left s ≡ step.went did rest after
-        → NodeGoes p core most view (length core.mems) (node p.mems (length p.counters) view.sources b n (load_sram sram dram spans)) t after did
+        → NodeGoes p core most view (node p.mems (length p.counters) view.sources b n (load_sram sram dram spans)) t after did
     unfolding run_kind run node step.pure shape_of counts_of counts_in counts_in_all
     load_goes sram dram typed e =
         let m : ℕ = mem_number p.mems sram in
@@ -74,32 +73,30 @@ module _ (p : PlainProgram) (core : PlainCore) (h : HasMemories p core) (ports :
         let sp = spans_taken p core h most view (is_early_part spans) s t left a b spans x.answer x.between x.store typed.1.spans_typed ready x.first in
         let first : slice.transfer place (expressions.dims p.mems dram) x.answer Bounds (expressions.dims p.mems sram) (move x.answer) x.between s ≡ step.went y.answer y.between y.store = ap (λ v. slice.transfer place (expressions.dims p.mems dram) x.answer Bounds (expressions.dims p.mems sram) (move x.answer) x.between v) (sym sp.1) ∙ y.first in
         let tr = transferred p core h ports view sram dram typed.0.seen typed.0.is_kind typed.1.from_dram.seen typed.1.from_dram.is_kind place x.between y.between s y.store t a sp.2 x.answer sp.4 (move x.answer) (core_slice.load_words core r m)
-        (λ left rest s after al g e. loads p core h ports view sram dram typed.0.seen typed.0.is_kind typed.1.from_dram.seen typed.1.from_dram.is_kind t x.answer left rest s after t al g e) y.answer first in
+        (λ left rest s after al g e. loads p core h ports view sram dram typed.0.seen typed.0.is_kind typed.1.from_dram.seen typed.1.from_dram.is_kind x.answer left rest s after t al g e) y.answer first in
         let shaped : program_shape.moved (slice.words_by_lane (slice_lanes spans) (slice.lengths x.answer)) ∷ [] ≡ did = same_answer (program_shape.moved (slice.words_by_lane (slice_lanes spans) (slice.lengths x.answer)) ∷ []) did y.between rest y.store after y.second in
         let ends : y.store ≡ after = same_store (program_shape.moved (slice.words_by_lane (slice_lanes spans) (slice.lengths x.answer)) ∷ []) did y.between rest y.store after y.second in
         let none : slice.lengths x.answer ≡ [] → slice_lanes spans ≡ 1 = ranges_taken p spans left x.between s x.store x.answer x.first in
         let all : List plain.PlainSpan = spans_of p.mems view.sources b spans in
         let goes : (core_step.◌>>=◌ (core_step.in_order (taken core plainly most view.around) all) (core_slice.load_slice core r m)) t ≡ core_step.went (moved sp.2 tr.ws) tr.end = then_on (core_step.in_order (taken core plainly most view.around) all) (core_slice.load_slice core r m) t sp.2 t sp.3 ∙ tr.goes in
-        chosen_node (λ x. NodeGoes p core most view (length core.mems) x t after did) (slice_lanes spans == 1) (plain.load r m all) (sparse WideLoad r m None all [] (slice_lanes spans))
+        chosen_node (λ x. NodeGoes p core most view x t after did) (slice_lanes spans == 1) (plain.load r m all) (sparse WideLoad r m None all [] (slice_lanes spans))
         (λ one. record {
           history = moved sp.2 tr.ws;
           after = tr.end;
           goes = goes;
-          agree = subst (λ v. Agree p core view [] v tr.end) ends tr.moving.agree;
-          leaves = λ k added lt. tr.moving.stays k added;
+          agree = subst (λ v. Agree p core view [] v tr.end) ends tr.moving;
           counts = one_counted x.answer sp.2 sp.4 none (length tr.ws) (eqb-true (slice_lanes spans) 1 one) tr.counted ∙ ap (λ l. counts_in_all (shapes l)) shaped;
         })
         (λ wide. record {
           history = moved sp.2 tr.ws;
           after = tr.end;
           goes = goes;
-          agree = subst (λ v. Agree p core view [] v tr.end) ends tr.moving.agree;
-          leaves = λ k added lt. tr.moving.stays k added;
+          agree = subst (λ v. Agree p core view [] v tr.end) ends tr.moving;
           counts = wide_counted x.answer sp.2 sp.4 none wide ∙ ap (λ l. counts_in_all (shapes l)) shaped;
         })
 
     pub store_goes : (dram sram : ℕ) → StmtTyped p view.scope (store_slice dram spans sram) → run_kind p.mems roomy (store_slice dram spans sram) place left s ≡ step.went did rest after
-        → NodeGoes p core most view (length core.mems) (node p.mems (length p.counters) view.sources b n (store_slice dram spans sram)) t after did
+        → NodeGoes p core most view (node p.mems (length p.counters) view.sources b n (store_slice dram spans sram)) t after did
     unfolding run_kind run node step.pure shape_of counts_of counts_in counts_in_all
     store_goes dram sram typed e =
         let m : ℕ = mem_number p.mems sram in
@@ -110,26 +107,24 @@ module _ (p : PlainProgram) (core : PlainCore) (h : HasMemories p core) (ports :
         let sp = spans_taken p core h most view (is_early_part spans) s t left a b spans x.answer x.between x.store typed.1.spans_typed ready x.first in
         let first : slice.transfer place (expressions.dims p.mems dram) x.answer Bounds (expressions.dims p.mems sram) (move x.answer) x.between s ≡ step.went y.answer y.between y.store = ap (λ v. slice.transfer place (expressions.dims p.mems dram) x.answer Bounds (expressions.dims p.mems sram) (move x.answer) x.between v) (sym sp.1) ∙ y.first in
         let tr = transferred p core h ports view sram dram typed.0.seen typed.0.is_kind typed.1.from_dram.seen typed.1.from_dram.is_kind place x.between y.between s y.store t a sp.2 x.answer sp.4 (move x.answer) (core_slice.store_words core r m)
-        (λ left rest s after al g e. stores p core h ports view sram dram typed.0.seen typed.0.is_kind typed.1.from_dram.seen typed.1.from_dram.is_kind t x.answer place left rest s after t al g e) y.answer first in
+        (λ left rest s after al g e. stores p core h ports view sram dram typed.0.seen typed.0.is_kind typed.1.from_dram.seen typed.1.from_dram.is_kind x.answer place left rest s after t al g e) y.answer first in
         let shaped : program_shape.moved (slice.words_by_lane (slice_lanes spans) (slice.lengths x.answer)) ∷ [] ≡ did = same_answer (program_shape.moved (slice.words_by_lane (slice_lanes spans) (slice.lengths x.answer)) ∷ []) did y.between rest y.store after y.second in
         let ends : y.store ≡ after = same_store (program_shape.moved (slice.words_by_lane (slice_lanes spans) (slice.lengths x.answer)) ∷ []) did y.between rest y.store after y.second in
         let none : slice.lengths x.answer ≡ [] → slice_lanes spans ≡ 1 = ranges_taken p spans left x.between s x.store x.answer x.first in
         let all : List plain.PlainSpan = spans_of p.mems view.sources b spans in
         let goes : (core_step.◌>>=◌ (core_step.in_order (taken core plainly most view.around) all) (core_slice.store_slice core r m)) t ≡ core_step.went (moved sp.2 tr.ws) tr.end = then_on (core_step.in_order (taken core plainly most view.around) all) (core_slice.store_slice core r m) t sp.2 t sp.3 ∙ tr.goes in
-        chosen_node (λ x. NodeGoes p core most view (length core.mems) x t after did) (slice_lanes spans == 1) (plain.store r m all) (sparse WideStore r m None all [] (slice_lanes spans))
+        chosen_node (λ x. NodeGoes p core most view x t after did) (slice_lanes spans == 1) (plain.store r m all) (sparse WideStore r m None all [] (slice_lanes spans))
         (λ one. record {
           history = moved sp.2 tr.ws;
           after = tr.end;
           goes = goes;
-          agree = subst (λ v. Agree p core view [] v tr.end) ends tr.moving.agree;
-          leaves = λ k added lt. tr.moving.stays k added;
+          agree = subst (λ v. Agree p core view [] v tr.end) ends tr.moving;
           counts = one_counted x.answer sp.2 sp.4 none (length tr.ws) (eqb-true (slice_lanes spans) 1 one) tr.counted ∙ ap (λ l. counts_in_all (shapes l)) shaped;
         })
         (λ wide. record {
           history = moved sp.2 tr.ws;
           after = tr.end;
           goes = goes;
-          agree = subst (λ v. Agree p core view [] v tr.end) ends tr.moving.agree;
-          leaves = λ k added lt. tr.moving.stays k added;
+          agree = subst (λ v. Agree p core view [] v tr.end) ends tr.moving;
           counts = wide_counted x.answer sp.2 sp.4 none wide ∙ ap (λ l. counts_in_all (shapes l)) shaped;
         })

@@ -1,5 +1,5 @@
 -- What a program and a core say of slices in words of their own is the same.
-use Rattle.std.proofs.Common.{◌≡◌, ℕ, zero, suc, ◌+◌, Bool, List, [], ◌∷◌, ◌++◌, refl, ◌∙◌, ap}
+use Rattle.std.proofs.Common.{◌≡◌, ℕ, zero, suc, ◌+◌, List, [], ◌∷◌, ◌++◌, refl, ◌∙◌, ap}
 use Rattle.std.specs.Prelude.{ℤ, pos, negsuc, ◌-ℤ◌, nat_le, map, flat_map, ◌&&◌, ◌||◌, ◌==◌}
 use Rattle.sp_tree.specs.Elements as program_elements
 use Rattle.sp_tree.specs.Transfers as program

@@ -1,50 +1,34 @@
 -- The node of a load or a store does what its statement does.
-use Rattle.std.proofs.Common.{◌≡◌, ℕ, suc, ◌<◌, Bool, true, false, List, [], ◌∷◌, refl, sym, ◌∙◌, ap, subst, arith, if◌then◌else◌}
-use Rattle.std.proofs.lemmas.Bool.{eqb-true, eqb-false, eq-eqb, false≢true}
-use Rattle.std.specs.Prelude.{length, map, Contains, ◌==◌}
+use Rattle.std.proofs.Common.{◌≡◌, ℕ, suc, Bool, true, false, List, [], ◌∷◌, refl, sym, ◌∙◌, ap, subst, arith}
+use Rattle.std.specs.Prelude.{length, map, Contains}
 use Rattle.sp_words.specs.declared.kind.Kind.TheVariants.{Sram, Dram}
-use Rattle.sp_tree.specs.declared.statement.FaultKind.{FaultKind}
 use Rattle.sp_tree.specs.declared.statement.FaultKind.TheVariants.{Bounds, DramBounds}
 use Rattle.sp_tree.specs.Elements.{index_value}
 use Rattle.sp_tree.specs.Expressions as expressions
 use Rattle.sp_tree.specs.Expressions.{word}
 use Rattle.sp_tree.specs.Invariant.{ports_of}
 use Rattle.sp_tree.specs.PlainProgram.{PlainProgram}
-use Rattle.sp_tree.specs.PlainStatement.{PlainSpan, single, range, PlainStmtKind, load_sram, store as store_slice}
-use Rattle.sp_tree.specs.Sequential.{part, run_kind}
-use Rattle.sp_tree.specs.Shape as program_shape
-use Rattle.sp_tree.specs.Shape.{shapes}
+use Rattle.sp_tree.specs.PlainStatement.{PlainSpan, single, range}
+use Rattle.sp_tree.specs.Sequential.{part}
 use Rattle.sp_tree.specs.Step as step
 use Rattle.sp_tree.specs.Store as program_store
 use Rattle.sp_tree.specs.Structure.{slice_lanes}
 use Rattle.sp_tree.specs.Transfers as slice
-use Rattle.sp_tree.specs.Typing.{StmtTyped}
-use Rattle.sp_core.specs.declared.node.SparseKind.TheVariants.{WideLoad, WideStore}
 use Rattle.sp_core.specs.Declarations.{kind_of, dims, dram_number as dram_place}
 use Rattle.sp_core.specs.History.{History, Taken, moved}
-use Rattle.sp_core.specs.PlainCore as plain
-use Rattle.sp_core.specs.PlainCore.{PlainNode, PlainCore, sparse}
-use Rattle.sp_core.specs.Scope.{plainly}
-use Rattle.sp_core.specs.Sequential.{run, taken}
-use Rattle.sp_core.specs.Shape.{shape_of, lane_words, row_count, last_length}
-use Rattle.sp_core.specs.Elements as core_elements
+use Rattle.sp_core.specs.PlainCore.{PlainCore}
 use Rattle.sp_core.specs.Step as core_step
 use Rattle.sp_core.specs.Store as store
 use Rattle.sp_core.specs.Transfers as core_slice
 use Rattle.sp_core.specs.Transfers.{part_of}
 use Rattle.sp_desugar.specs.Agreement.{HasMemories, View, Agree}
-use Rattle.sp_desugar.specs.Early.{is_early_part, spans_of, parts_of}
 use Rattle.sp_desugar.specs.Numbers.{mem_number, dram_number}
-use Rattle.sp_desugar.specs.Stages.{node}
 use Rattle.sp_desugar.proofs.MemoryLemmas.{passed}
 use Rattle.sp_desugar.proofs.NumberLemmas.{either}
 use Rattle.sp_desugar.proofs.StepLemmas.{same_answer, same_store, taken_apart, then_on}
-use Rattle.sp_same.specs.Counts.{words, counts_in, counts_in_all, counts_of}
-use Rattle.sp_same.specs.Following.{AreReady, NodeGoes}
-use Rattle.sp_same.proofs.LaneCounts.{one_lane, no_words, lanes_same}
-use Rattle.sp_same.proofs.Moves.{Moving, sram_kind, sram_dims, dram_has, loads, stores}
+use Rattle.sp_same.proofs.LaneCounts.{one_lane, no_words}
+use Rattle.sp_same.proofs.Moves.{Moving, sram_kind, sram_dims, dram_has}
 use Rattle.sp_same.proofs.SliceTwins.{as_core, same_lengths, same_none, same_parts_inside, same_fit}
-use Rattle.sp_same.proofs.SpansTaken.{spans_taken}
 
 -- a slice of no range has one lane
 nonempty : (n : ℕ) (ns : List ℕ) → n ∷ ns ≡ [] → ⊥
@@ -86,16 +70,16 @@ module _ (p : PlainProgram) (core : PlainCore) (h : HasMemories p core) (ports :
     pub ws : List ℕ
     pub end : store.Store
     pub goes : core_slice.transfer core q n ts move t ≡ core_step.went (moved ts ws) end
-    pub moving : Moving p core h ports view t after end
+    pub moving : Moving p core h ports view after end
     pub counted : length ws ≡ slice.words_in_lane 1 0 (slice.lengths parts)
 
   module _ (place left rest : ℕ) (s after : program_store.Store) (t : store.Store) (a : Agree p core view [] s t) (ts : List Taken) (parts : List slice.Part) (same : map part_of ts ≡ map as_core parts)
       (program_move : step.Step (List (Unit {0}))) (move : List core_slice.Part → core_step.Step (List ℕ))
-      (follow : (left rest : ℕ) (s after : program_store.Store) (al : List (Unit {0})) → Moving p core h ports view t s t → program_move left s ≡ step.went al rest after
-      → (ws : List ℕ) × (u : store.Store) × (move (map as_core parts) t ≡ core_step.went ws u) × Moving p core h ports view t after u × (length ws ≡ length (slice.all_offsets parts)))
+      (follow : (left rest : ℕ) (s after : program_store.Store) (al : List (Unit {0})) → Moving p core h ports view s t → program_move left s ≡ step.went al rest after
+      → (ws : List ℕ) × (u : store.Store) × (move (map as_core parts) t ≡ core_step.went ws u) × Moving p core h ports view after u × (length ws ≡ length (slice.all_offsets parts)))
       (x : Unit {0}) (e : slice.transfer place (expressions.dims p.mems r) parts Bounds (expressions.dims p.mems m) program_move left s ≡ step.went x rest after) where
-    start : Moving p core h ports view t s t
-    start = record { agree = a; stays = λ k added. refl }
+    start : Moving p core h ports view s t
+    start = a
 
     lengths_same : core_slice.lengths (map part_of ts) ≡ slice.lengths parts
     lengths_same = ap core_slice.lengths same ∙ same_lengths parts
@@ -121,7 +105,7 @@ module _ (p : PlainProgram) (core : PlainCore) (h : HasMemories p core) (ports :
       ws = [];
       end = t;
       goes = core_chosen true f;
-      moving = subst (λ v. Moving p core h ports view t v t) (same_store tt x left rest s after (chosen true f)) start;
+      moving = subst (λ v. Moving p core h ports view v t) (same_store tt x left rest s after (chosen true f)) start;
       counted = sym (no_words (slice.lengths parts) f);
     }
 
@@ -133,11 +117,11 @@ module _ (p : PlainProgram) (core : PlainCore) (h : HasMemories p core) (ports :
         let b = taken_apart program_move (λ _. step.pure tt) left s x rest after two.1 in
         let all = follow left b.between s b.store b.answer start b.first in
         let inside : core_slice.are_parts_inside (dims core (dram_place core q)) (map part_of ts) ≡ true =
-        ap (λ l. core_slice.are_parts_inside l (map part_of ts)) (dram_has p core h ports view m r seen is seen_dram on t s t start)
+        ap (λ l. core_slice.are_parts_inside l (map part_of ts)) (dram_has p core h ports view m r seen is seen_dram on s t start)
         ∙ ap (core_slice.are_parts_inside (expressions.dims p.mems r)) same ∙ same_parts_inside (expressions.dims p.mems r) parts ∙ one.0 in
         let fits : core_slice.do_fit (core_slice.range_limits (kind_of core n) (dims core n)) (core_slice.lengths (map part_of ts)) ≡ true =
-        ap (λ k. core_slice.do_fit (core_slice.range_limits k (dims core n)) (core_slice.lengths (map part_of ts))) (sram_kind p core h ports view m r seen is seen_dram on t s t start)
-        ∙ ap (λ l. core_slice.do_fit l (core_slice.lengths (map part_of ts))) (sram_dims p core h ports view m r seen is seen_dram on t s t start)
+        ap (λ k. core_slice.do_fit (core_slice.range_limits k (dims core n)) (core_slice.lengths (map part_of ts))) (sram_kind p core h ports view m r seen is seen_dram on s t start)
+        ∙ ap (λ l. core_slice.do_fit l (core_slice.lengths (map part_of ts))) (sram_dims p core h ports view m r seen is seen_dram on s t start)
         ∙ ap (core_slice.do_fit (expressions.dims p.mems m)) lengths_same ∙ same_fit (expressions.dims p.mems m) (slice.lengths parts) ∙ two.0 in
         record {
           ws = all.0;
@@ -146,7 +130,7 @@ module _ (p : PlainProgram) (core : PlainCore) (h : HasMemories p core) (ports :
               ∙ then_on (core_step.ensure (core_slice.are_parts_inside (dims core (dram_place core q)) (map part_of ts))) (λ _. core_step.◌>>◌ (core_step.ensure (core_slice.do_fit (core_slice.range_limits (kind_of core n) (dims core n)) (core_slice.lengths (map part_of ts)))) (core_step.◌>>=◌ (move (map part_of ts)) (λ ws. core_step.pure (moved ts ws)))) t tt t (ap (λ b. core_step.ensure b t) inside)
               ∙ then_on (core_step.ensure (core_slice.do_fit (core_slice.range_limits (kind_of core n) (dims core n)) (core_slice.lengths (map part_of ts)))) (λ _. core_step.◌>>=◌ (move (map part_of ts)) (λ ws. core_step.pure (moved ts ws))) t tt t (ap (λ b. core_step.ensure b t) fits)
               ∙ then_on (move (map part_of ts)) (λ ws. core_step.pure (moved ts ws)) t all.0 all.1 (ap (λ l. move l t) same ∙ all.2);
-          moving = subst (λ v. Moving p core h ports view t v all.1) (same_store tt x b.between rest b.store after b.second) all.3;
+          moving = subst (λ v. Moving p core h ports view v all.1) (same_store tt x b.between rest b.store after b.second) all.3;
           counted = all.4 ∙ one_lane (slice.lengths parts);
         }
 

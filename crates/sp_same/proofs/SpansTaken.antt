@@ -1,5 +1,5 @@
 -- The spans of a slice, as a program and its core take them.
-use Rattle.std.proofs.Common.{◌≡◌, ℕ, Bool, true, List, [], ◌∷◌, refl, sym, ◌∙◌, ap, subst}
+use Rattle.std.proofs.Common.{◌≡◌, ℕ, Bool, List, [], ◌∷◌, refl, sym, ◌∙◌, ap}
 use Rattle.std.specs.Prelude.{map}
 use Rattle.sp_words.specs.Types.{int_type}
 use Rattle.sp_tree.specs.Elements.{index_value}

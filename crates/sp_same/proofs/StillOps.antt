@@ -1,5 +1,5 @@
 -- Operations that change no memory, those of such an expression among them, leave the store of a core as it is.
-use Rattle.std.proofs.Common.{◌≡◌, ℕ, ◌+◌, Bool, true, false, not, List, [], ◌∷◌, ◌++◌, Option, Some, None, refl, sym, ◌∙◌, ap, subst}
+use Rattle.std.proofs.Common.{◌≡◌, ℕ, ◌+◌, Bool, true, false, not, List, [], ◌∷◌, ◌++◌, Option, Some, None, sym, ◌∙◌, subst}
 use Rattle.std.proofs.lemmas.Bool.{false≢true}
 use Rattle.std.specs.Prelude.{map, length, IsTrue}
 use Rattle.sp_words.specs.declared.types.Ty.{Ty}
@@ -13,13 +13,13 @@ use Rattle.sp_core.specs.declared.operation.OpKind.TheVariants.{Word, Count, Liv
 use Rattle.sp_core.specs.Accesses.{written, read_in, inside, read_at, word_in}
 use Rattle.sp_core.specs.Declarations.{kind_of, dims}
 use Rattle.sp_core.specs.Elements.{index_value, natural, are_inside}
-use Rattle.sp_core.specs.History.{Entry, left_out, gave, touched, word_at}
+use Rattle.sp_core.specs.History.{Entry, left_out, touched, word_at}
 use Rattle.sp_core.specs.Operations.{is_masked, done_by, operation, operations_after}
 use Rattle.sp_core.specs.PlainCore.{PlainOp, PlainCore}
 use Rattle.sp_core.specs.Scope as counters
 use Rattle.sp_core.specs.Step.{Step, went, pure, ◌>>=◌, ensure, stop, look}
 use Rattle.sp_core.specs.Store.{Store}
-use Rattle.sp_desugar.specs.Operations.{Code, Codes, source_code, code, code_of, codes}
+use Rattle.sp_desugar.specs.Operations.{Code, source_code, code, code_of, codes}
 use Rattle.sp_desugar.specs.Values.{Source, at_place, in_register, constant, count, Sources}
 use Rattle.sp_desugar.proofs.StepLemmas.{core_apart, same_core_store, not_stopped}
 use Rattle.sp_same.proofs.StillWords.{is_no_fifo}

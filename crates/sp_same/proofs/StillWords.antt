@@ -1,5 +1,5 @@
 -- An expression that takes no word from a FIFO changes nothing.
-use Rattle.std.proofs.Common.{◌≡◌, ℕ, Bool, not, List, [], ◌∷◌, Option, None, refl, sym, ◌∙◌, ap, subst}
+use Rattle.std.proofs.Common.{◌≡◌, ℕ, Bool, not, List, [], ◌∷◌, None, sym, ◌∙◌, subst}
 use Rattle.std.proofs.lemmas.Bool.{false≢true}
 use Rattle.std.specs.Prelude.{map, slice_index, slice_index_or, IsTrue}
 use Rattle.sp_words.specs.declared.types.Ty.{Ty}
@@ -12,7 +12,7 @@ use Rattle.sp_tree.specs.Footprint.{Names, KindNames, AllName}
 use Rattle.sp_tree.specs.Operators.{one_word, two_word, shifted, chosen}
 use Rattle.sp_tree.specs.PlainExpression.{PlainExpr, PlainExprKind, PlainExprs, expr, literal, counter, value, get_reg, get_arg, get_sram, get_line, deq, one, two, shift, mux, cast, no_expr, more_expr, type_of}
 use Rattle.sp_tree.specs.PlainProgram.{PlainProgram}
-use Rattle.sp_tree.specs.Step.{Step, went, ◌>>=◌, ◌>>◌, pure, ensure, read}
+use Rattle.sp_tree.specs.Step.{went, ◌>>=◌, ◌>>◌, pure, ensure, read}
 use Rattle.sp_tree.specs.Store.{Store, cells_of, rows_of, words_of}
 use Rattle.sp_tree.specs.Streams.{is_fifo}
 use Rattle.sp_tree.specs.Typing.{Scope, mem_at, Typed, KindTyped, IndicesTyped}

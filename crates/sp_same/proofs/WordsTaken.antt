@@ -1,25 +1,23 @@
 -- The words of bounds, spans and counts, as a program and its core take them.
-use Rattle.std.proofs.Common.{◌≡◌, ℕ, zero, suc, ◌+◌, ◌<◌, Bool, true, false, List, [], ◌∷◌, ◌++◌, Option, Some, None, refl, sym, ◌∙◌, ap, subst, arith, length-append, if◌then◌else◌}
-use Rattle.std.specs.Prelude.{map, length, slice_index_or}
-use Rattle.sp_words.specs.declared.kind.Kind.TheVariants.{Reg}
+use Rattle.std.proofs.Common.{◌≡◌, ℕ, zero, suc, ◌+◌, Bool, true, List, [], ◌∷◌, ◌++◌, Some, sym, ◌∙◌, ap, subst, arith, length-append, if◌then◌else◌}
+use Rattle.std.specs.Prelude.{length}
 use Rattle.sp_words.specs.declared.types.Ty.{Ty}
-use Rattle.sp_words.specs.Memory.{cells}
 use Rattle.sp_words.specs.Types.{int_type}
 use Rattle.sp_tree.specs.Expressions.{word}
 use Rattle.sp_tree.specs.Footprint.{Names}
-use Rattle.sp_tree.specs.PlainExpression.{PlainExpr, PlainExprKind, expr, literal, counter, value, get_reg, get_arg, get_sram, get_line, deq, one, two, shift, mux, cast, type_of}
+use Rattle.sp_tree.specs.PlainExpression.{PlainExpr, expr, literal, counter, value, get_reg, get_arg, get_sram, get_line, deq, one, two, shift, mux, cast, type_of}
 use Rattle.sp_tree.specs.PlainProgram.{PlainProgram}
 use Rattle.sp_tree.specs.Step as program_step
 use Rattle.sp_tree.specs.Store as program_store
-use Rattle.sp_tree.specs.Typing.{Typed, KindTyped, HasTypeStill}
+use Rattle.sp_tree.specs.Typing.{Typed, HasTypeStill}
 use Rattle.sp_core.specs.declared.operation.OpKind.TheVariants as kind
 use Rattle.sp_core.specs.Elements.{are_inside}
-use Rattle.sp_core.specs.History.{Entry, left_out, touched, word_of, word_at, last_word}
-use Rattle.sp_core.specs.Operations.{operations, operations_after}
+use Rattle.sp_core.specs.History.{Entry, touched, word_at, last_word}
+use Rattle.sp_core.specs.Operations.{operations}
 use Rattle.sp_core.specs.PlainCore.{PlainOp, PlainCore}
 use Rattle.sp_core.specs.Step.{went}
 use Rattle.sp_core.specs.Store as store
-use Rattle.sp_desugar.specs.Agreement.{HasMemories, View, IsAdded, Finds, Agree, GoOn}
+use Rattle.sp_desugar.specs.Agreement.{HasMemories, View, Finds, Agree, GoOn}
 use Rattle.sp_desugar.specs.Early.{from_register}
 use Rattle.sp_desugar.specs.Numbers.{mem_number}
 use Rattle.sp_desugar.specs.Operations.{Code, Codes, computes, read_op, source_code, code, code_of, codes, word_list}

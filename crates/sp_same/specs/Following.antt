@@ -1,5 +1,5 @@
 -- What it means that a node of a core does what a statement of its program does.
-use Rattle.std.specs.Prelude.{◌≡◌, ℕ, ◌<◌, ◌≤◌, Bool, true, List, [], ◌∷◌, Some}
+use Rattle.std.specs.Prelude.{◌≡◌, ℕ, Bool, true, List, [], ◌∷◌, Some}
 use Rattle.sp_words.specs.Memory.{cells}
 use Rattle.sp_tree.specs.Expressions.{word}
 use Rattle.sp_tree.specs.PlainExpression.{PlainExpr}
@@ -17,7 +17,7 @@ use Rattle.sp_core.specs.Step.{went}
 use Rattle.sp_core.specs.Store as store
 use Rattle.sp_desugar.specs.Agreement.{View, IsAdded, Agree}
 use Rattle.sp_desugar.specs.Early.{after}
-use Rattle.sp_same.specs.Counts.{Count, counts_in_all, counts_of}
+use Rattle.sp_same.specs.Counts.{counts_in_all, counts_of}
 
 module _ (p : PlainProgram) (core : PlainCore) where
   -- a register that the compiler added holds a word
@@ -31,16 +31,11 @@ module _ (p : PlainProgram) (core : PlainCore) where
       (crosses e ≡ true → (w : ℕ) → word p.mems e left s ≡ program_step.went w left s → HoldsWord t r w)
       × AreReady crosses left s t (after crosses r e) es
 
-  -- the registers that were added before a number hold what they held
-  abbrev pub LeavesBefore : (first : ℕ) → (before after : store.Store) → Type 0
-  LeavesBefore first t u = (r : ℕ) → IsAdded p core r → r < first → u r ≡ t r
-
-  -- a node goes on, at most so many turns to each FSM, to a store that agrees with that of the program, leaves the registers
-  -- before a number, and does all as often as the program did
-  pub record NodeGoes (most : ℕ) (view : View) (first : ℕ) (node : PlainNode) (t : store.Store) (s : program_store.Store) (did : List program_shape.Shape) : Type 0 where
+  -- a node goes on, at most so many turns to each FSM, to a store that agrees with that of the program, and does
+  -- all as often as the program did
+  pub record NodeGoes (most : ℕ) (view : View) (node : PlainNode) (t : store.Store) (s : program_store.Store) (did : List program_shape.Shape) : Type 0 where
     pub history : History
     pub after : store.Store
     pub goes : run core plainly most node view.around t ≡ went history after
     pub agree : Agree p core view [] s after
-    pub leaves : LeavesBefore first t after
     pub counts : counts_of node (shape_of node history) ≡ counts_in_all (shapes did)

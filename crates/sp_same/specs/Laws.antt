@@ -40,11 +40,11 @@ words_in (scatter dram places n sram) = n ∷ []
 words_in _ = []
 
 -- where a typed transfer of a program goes on, its node does the same, if the stores agree before and the words that were
--- computed early stand in their registers; it changes no register
+-- computed early stand in their registers
 abbrev pub IsTransferFollowed : PlainProgram → (roomy : List ℕ) → PlainCore → PlainStmtKind → Type 0
 IsTransferFollowed p roomy core kind =
     (most : ℕ) (view : View) (b n place : ℕ) (s after : program_store.Store) (t : store.Store) (left rest : ℕ) (did : List Shape)
     → HasMemories p core → p.ports ≡ ports_of p.mems → IsTransfer kind → StmtTyped p view.scope kind
     → Agree p core view [] s t → AreReady p core (crosses_in kind) left s t b (words_in kind)
     → run_kind p.mems roomy kind place left s ≡ program_step.went did rest after
-    → NodeGoes p core most view (length core.mems) (node p.mems (length p.counters) view.sources b n kind) t after did
+    → NodeGoes p core most view (node p.mems (length p.counters) view.sources b n kind) t after did

@@ -1,8 +1,6 @@
-use Rattle.std.specs.Prelude.{◌≡◌, ℕ, List, length}
-use Rattle.sp_tree.specs.Invariant.{ports_of}
+use Rattle.std.specs.Prelude.{ℕ, List}
 use Rattle.sp_tree.specs.PlainProgram.{PlainProgram}
 use Rattle.sp_tree.specs.PlainStatement.{PlainStmtKind, load_sram, store, gather, scatter}
-use Rattle.sp_tree.specs.Sequential.{run_kind}
 use Rattle.sp_core.specs.PlainCore.{PlainCore}
 use Rattle.sp_same.specs.Laws.{IsTransferFollowed}
 use Rattle.sp_same.proofs.PickNodes.{gather_goes, scatter_goes}
