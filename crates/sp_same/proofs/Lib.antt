@@ -12,3 +12,11 @@ pub mod SlicesMoved
 pub mod SliceNodes
 pub mod Picks
 pub mod PickNodes
+pub mod Values
+pub mod BoundsTaken
+pub mod Counting
+pub mod Turns
+pub mod Groups
+pub mod LaneZero
+pub mod LoopNodes
+pub mod Controllers

@@ -13,15 +13,21 @@ Pairs R [] [] = Unit {0}
 Pairs R (a ∷ al) (b ∷ bs) = R a b × Pairs R al bs
 Pairs R _ _ = ⊥
 
-module _ {X A Y B : Type 0} (f : X → program.Step A) (g : Y → core.Step B) (R : B → A → Type 0) (left : ℕ) (s : program_store.Store) (t : core_store.Store) where
+-- and of elements of three
+abbrev pub Triples : {X B A : Type 0} → (X → B → A → Type 0) → List X → List B → List A → Type 0
+Triples R [] [] [] = Unit {0}
+Triples R (x ∷ xs) (b ∷ bs) (a ∷ al) = R x b a × Triples R xs bs al
+Triples R _ _ _ = ⊥
+
+module _ {X A Y B : Type 0} (f : X → program.Step A) (g : Y → core.Step B) (R : X → B → A → Type 0) (left : ℕ) (s : program_store.Store) (t : core_store.Store) where
   -- where the program's step goes on it changes nothing, and the core's does the same
   abbrev pub Quietly : X → Y → Type 0
-  Quietly x y = (a : A) (n : ℕ) (u : program_store.Store) → f x left s ≡ program.went a n u → (n ≡ left) × (u ≡ s) × (b : B) × (g y t ≡ core.went b t) × R b a
+  Quietly x y = (a : A) (n : ℕ) (u : program_store.Store) → f x left s ≡ program.went a n u → (n ≡ left) × (u ≡ s) × (b : B) × (g y t ≡ core.went b t) × R x b a
 
   pub quiet_order : (xs : List X) (ys : List Y) (al : List A) (n : ℕ) (u : program_store.Store) → Pairs Quietly xs ys → program.in_order f xs left s ≡ program.went al n u
-      → (n ≡ left) × (u ≡ s) × (bs : List B) × (core.in_order g ys t ≡ core.went bs t) × Pairs R bs al
+      → (n ≡ left) × (u ≡ s) × (bs : List B) × (core.in_order g ys t ≡ core.went bs t) × Triples R xs bs al
   unfolding program.in_order core.in_order program.pure core.pure
-  quiet_order [] [] al n u q e = let c = unchanged [] al left n s u e in (c.0, c.1, [], refl, subst (λ l. Pairs R [] l) (same_answer [] al left n s u e) tt)
+  quiet_order [] [] al n u q e = let c = unchanged [] al left n s u e in (c.0, c.1, [], refl, subst (λ l. Triples R [] [] l) (same_answer [] al left n s u e) tt)
   quiet_order [] (y ∷ ys) al n u q e = absurd q
   quiet_order (x ∷ xs) [] al n u q e = absurd q
   quiet_order (x ∷ xs) (y ∷ ys) al n u q e =
@@ -36,5 +42,5 @@ module _ {X A Y B : Type 0} (f : X → program.Step A) (g : Y → core.Step B) (
         one.2 ∷ more.2,
         then_on (g y) (λ first. core.◌>>=◌ (core.in_order g ys) (λ others. core.pure (first ∷ others))) t one.2 t one.3
             ∙ then_on (core.in_order g ys) (λ others. core.pure (one.2 ∷ others)) t more.2 t more.3,
-        subst (λ l. Pairs R (one.2 ∷ more.2) l) (same_answer (b.answer ∷ d.answer) al d.between n d.store u d.second) (one.4, more.4),
+        subst (λ l. Triples R (x ∷ xs) (one.2 ∷ more.2) l) (same_answer (b.answer ∷ d.answer) al d.between n d.store u d.second) (one.4, more.4),
       )

@@ -26,20 +26,22 @@ use Rattle.sp_desugar.specs.Agreement.{HasMemories, View, Agree}
 use Rattle.sp_desugar.specs.Early.{after, from_register, spans_from, parts_of}
 use Rattle.sp_desugar.proofs.StepLemmas.{same_answer, taken_apart, then_on}
 use Rattle.sp_same.specs.Following.{AreReady}
-use Rattle.sp_same.proofs.Quietly.{Pairs, Quietly, quiet_order}
+use Rattle.sp_same.proofs.Quietly.{Pairs, Triples, Quietly, quiet_order}
 use Rattle.sp_same.proofs.SliceTwins.{as_core}
 use Rattle.sp_same.proofs.StillWords.{unchanged}
 use Rattle.sp_same.proofs.WordsTaken.{part_taken}
 
-IsPart : Taken → program.Part → Type 0
-IsPart k q = part_of k ≡ as_core q
+IsPart : PlainSpan → Taken → program.Part → Type 0
+IsPart span k q = part_of k ≡ as_core q
 
-parts_are : (ts : List Taken) (parts : List program.Part) → Pairs IsPart ts parts → map part_of ts ≡ map as_core parts
+parts_are : (spans : List PlainSpan) (ts : List Taken) (parts : List program.Part) → Triples IsPart spans ts parts → map part_of ts ≡ map as_core parts
 unfolding IsPart
-parts_are [] [] q = refl
-parts_are [] (x ∷ parts) q = absurd q
-parts_are (t ∷ ts) [] q = absurd q
-parts_are (t ∷ ts) (x ∷ parts) q = ap (λ y. y ∷ map part_of ts) q.0 ∙ ap (λ l. as_core x ∷ l) (parts_are ts parts q.1)
+parts_are [] [] [] q = refl
+parts_are (x ∷ spans) (t ∷ ts) (y ∷ parts) q = ap (λ z. z ∷ map part_of ts) q.0 ∙ ap (λ l. as_core y ∷ l) (parts_are spans ts parts q.1)
+parts_are [] [] (y ∷ parts) q = absurd q
+parts_are [] (t ∷ ts) parts q = absurd q
+parts_are (x ∷ spans) [] parts q = absurd q
+parts_are (x ∷ spans) (t ∷ ts) [] q = absurd q
 
 module _ (p : PlainProgram) (core : PlainCore) (h : HasMemories p core) (most : ℕ) (view : View) (crosses : PlainExpr → Bool) (s : program_store.Store) (t : store.Store) (left : ℕ) (a : Agree p core view [] s t) where
   abbrev Quiet_span : PlainSpan → core_tree.PlainSpan → Type 0
@@ -85,4 +87,4 @@ module _ (p : PlainProgram) (core : PlainCore) (h : HasMemories p core) (most : 
       → (rest ≡ left) × (u ≡ s) × (ts : List Taken) × (core_step.in_order (taken core plainly most view.around) (spans_from p.mems view.sources crosses r spans) t ≡ core_step.went ts t) × (map part_of ts ≡ map as_core parts)
   spans_taken r spans parts rest u typed ready goes =
       let q = quiet_order (part p.mems) (taken core plainly most view.around) IsPart left s t spans (spans_from p.mems view.sources crosses r spans) parts rest u (spans_pair r spans typed ready) goes in
-      (q.0, q.1, q.2, q.3, parts_are q.2 parts q.4)
+      (q.0, q.1, q.2, q.3, parts_are spans q.2 parts q.4)

@@ -1,13 +1,18 @@
 -- What it means that a node of a core does what a statement of its program does.
-use Rattle.std.specs.Prelude.{◌≡◌, ℕ, Bool, true, List, [], ◌∷◌, Some}
+use Rattle.std.specs.Prelude.{◌≡◌, ℕ, ◌≤◌, Bool, true, List, [], ◌∷◌, length, Contains, Some}
+use Rattle.sp_words.specs.declared.kind.Style.{Style}
+use Rattle.sp_words.specs.declared.types.Ty.{Ty}
 use Rattle.sp_words.specs.Memory.{cells}
 use Rattle.sp_tree.specs.Expressions.{word}
 use Rattle.sp_tree.specs.PlainExpression.{PlainExpr}
 use Rattle.sp_tree.specs.PlainProgram.{PlainProgram}
+use Rattle.sp_tree.specs.PlainStatement.{PlainStmts}
+use Rattle.sp_tree.specs.Sequential.{run_all}
 use Rattle.sp_tree.specs.Shape as program_shape
 use Rattle.sp_tree.specs.Shape.{shapes}
 use Rattle.sp_tree.specs.Step as program_step
 use Rattle.sp_tree.specs.Store as program_store
+use Rattle.sp_tree.specs.Typing.{Scope}
 use Rattle.sp_core.specs.History.{History}
 use Rattle.sp_core.specs.PlainCore.{PlainNode, PlainCore}
 use Rattle.sp_core.specs.Scope.{plainly}
@@ -17,7 +22,19 @@ use Rattle.sp_core.specs.Step.{went}
 use Rattle.sp_core.specs.Store as store
 use Rattle.sp_desugar.specs.Agreement.{View, IsAdded, Agree}
 use Rattle.sp_desugar.specs.Early.{after}
+use Rattle.sp_desugar.specs.Runs.{no_run}
+use Rattle.sp_desugar.specs.Stages.{nothing, body_node, stages}
+use Rattle.sp_desugar.specs.Uses.{no_more}
+use Rattle.sp_desugar.specs.Values.{Source, count, Sources}
 use Rattle.sp_same.specs.Counts.{counts_in_all, counts_of}
+
+-- a value that stands for a counter stands for one that is visible
+abbrev pub SourceSeen : Scope → Source → Type 0
+SourceSeen scope (count c) = Contains scope.counters c
+SourceSeen scope _ = Unit {0}
+
+abbrev pub SourcesSeen : Scope → Sources → Type 0
+SourcesSeen scope sources = (v : ℕ × Ty) → Contains scope.vals v → SourceSeen scope (sources v.0)
 
 module _ (p : PlainProgram) (core : PlainCore) where
   -- a register that the compiler added holds a word
@@ -39,3 +56,14 @@ module _ (p : PlainProgram) (core : PlainCore) where
     pub goes : run core plainly most node view.around t ≡ went history after
     pub agree : Agree p core view [] s after
     pub counts : counts_of node (shape_of node history) ≡ counts_in_all (shapes did)
+
+  -- a node does what the statements of a body do, wherever the stores agree
+  abbrev pub BodyFollowed : (roomy : List ℕ) (most : ℕ) (view : View) → PlainNode → PlainStmts → Type 0
+  BodyFollowed roomy most view node body =
+      (s after : program_store.Store) (t : store.Store) (left rest : ℕ) (did : List program_shape.Shape)
+      → left ≤ most → Agree p core view [] s t → run_all p.mems roomy body left s ≡ program_step.went did rest after → NodeGoes most view node t after did
+
+-- the node of a body without a loop, by the first number that its registers take
+abbrev pub alone : PlainProgram → Sources → (n : ℕ) → Style → PlainStmts → PlainNode
+alone p sources n style body =
+    body_node p.mems (length p.counters) sources n [] style body no_more nothing (stages p.mems (length p.counters) (no_run sources) n body no_more nothing)

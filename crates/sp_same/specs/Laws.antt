@@ -1,20 +1,27 @@
 -- Laws of what cores mean, as statements.
-use Rattle.std.specs.Prelude.{◌≡◌, ℕ, Bool, List, [], ◌∷◌, length}
+use Rattle.std.specs.Prelude.{◌≡◌, ℕ, ◌+◌, ◌≤◌, Bool, List, [], ◌∷◌, length}
+use Rattle.sp_words.specs.declared.kind.Style.{Style}
+use Rattle.sp_words.specs.declared.kind.Style.TheVariants.{Pipe}
+use Rattle.sp_words.specs.declared.types.Ty.TheVariants.{Bit}
 use Rattle.sp_tree.specs.Invariant.{ports_of}
 use Rattle.sp_tree.specs.PlainExpression.{PlainExpr}
 use Rattle.sp_tree.specs.PlainProgram.{PlainProgram}
-use Rattle.sp_tree.specs.PlainStatement.{PlainStmtKind, load_sram, load_line, store, gather, scatter}
+use Rattle.sp_tree.specs.PlainStatement.{PlainCounter, PlainStmtKind, PlainStmts, load_sram, load_line, store, gather, scatter, block, foreach, branch}
 use Rattle.sp_tree.specs.Sequential.{run_kind}
 use Rattle.sp_tree.specs.Shape.{Shape}
 use Rattle.sp_tree.specs.Step as program_step
 use Rattle.sp_tree.specs.Store as program_store
-use Rattle.sp_tree.specs.Typing.{StmtTyped}
+use Rattle.sp_tree.specs.Streams.{fifos_with_room}
+use Rattle.sp_tree.specs.Typing.{StmtTyped, HasTypeStill, CountersTyped, with_counters}
 use Rattle.sp_core.specs.PlainCore.{PlainCore}
+use Rattle.sp_core.specs.Scope as counters
 use Rattle.sp_core.specs.Store as store
 use Rattle.sp_desugar.specs.Agreement.{HasMemories, View, Agree}
-use Rattle.sp_desugar.specs.Early.{is_early, is_early_part, parts_of}
-use Rattle.sp_desugar.specs.Stages.{node}
-use Rattle.sp_same.specs.Following.{AreReady, NodeGoes}
+use Rattle.sp_desugar.specs.Early.{is_early, is_early_part, bounds_of, parts_of}
+use Rattle.sp_desugar.specs.Registers.{registers_in}
+use Rattle.sp_desugar.specs.Stages.{style_of, node}
+use Rattle.sp_desugar.specs.Uses.{no_more}
+use Rattle.sp_same.specs.Following.{SourcesSeen, AreReady, NodeGoes, BodyFollowed, alone}
 
 -- a transfer that moves words between a DRAM and an SRAM
 abbrev pub IsTransfer : PlainStmtKind → Type 0
@@ -48,3 +55,33 @@ IsTransferFollowed p roomy core kind =
     → Agree p core view [] s t → AreReady p core (crosses_in kind) left s t b (words_in kind)
     → run_kind p.mems roomy kind place left s ≡ program_step.went did rest after
     → NodeGoes p core most view (node p.mems (length p.counters) view.sources b n kind) t after did
+
+-- where the body of a loop is followed inside of it, by its node without the counters, the loop's node does what the loop
+-- does; the bounds that were computed early stand in their registers
+abbrev pub IsLoopFollowed : PlainProgram → (roomy : List ℕ) → PlainCore → PlainStmts → Type 0
+IsLoopFollowed p roomy core body =
+    (most : ℕ) (view : View) (style : Style) (loops : List PlainCounter) (b n place : ℕ) (s after : program_store.Store) (t : store.Store) (left rest : ℕ) (did : List Shape)
+    → HasMemories p core → CountersTyped p view.scope loops → SourcesSeen view.scope view.sources → left ≤ most
+    → Agree p core view [] s t → AreReady p core is_early left s t b (bounds_of loops)
+    → ((around : counters.Scope) → BodyFollowed p core roomy most (record view { scope = with_counters view.scope loops; around = around }) (alone p view.sources n style body) body)
+    → run_kind p.mems roomy (foreach style loops body) place left s ≡ program_step.went did rest after
+    → NodeGoes p core most view (node p.mems (length p.counters) view.sources b n (foreach style loops body)) t after did
+
+-- where its body is followed, so is a block that is no proper stream block
+abbrev pub IsBlockFollowed : PlainProgram → (roomy : List ℕ) → PlainCore → PlainStmts → Type 0
+IsBlockFollowed p roomy core body =
+    (most : ℕ) (view : View) (style : Style) (b n place : ℕ) (s after : program_store.Store) (t : store.Store) (left rest : ℕ) (did : List Shape)
+    → fifos_with_room p.mems style body ≡ [] → left ≤ most → Agree p core view [] s t
+    → BodyFollowed p core roomy most view (alone p view.sources n (style_of p.mems (length p.counters) style body) body) body
+    → run_kind p.mems roomy (block style body) place left s ≡ program_step.went did rest after
+    → NodeGoes p core most view (node p.mems (length p.counters) view.sources b n (block style body)) t after did
+
+-- where its blocks are followed, so is a branch
+abbrev pub IsBranchFollowed : PlainProgram → (roomy : List ℕ) → PlainCore → PlainExpr → Type 0
+IsBranchFollowed p roomy core test =
+    (most : ℕ) (view : View) (first second : PlainStmts) (b n place : ℕ) (s after : program_store.Store) (t : store.Store) (left rest : ℕ) (did : List Shape)
+    → HasMemories p core → HasTypeStill p view.scope Bit test → left ≤ most → Agree p core view [] s t
+    → BodyFollowed p core roomy most view (alone p view.sources n Pipe first) first
+    → BodyFollowed p core roomy most view (alone p view.sources (n + length (registers_in first no_more)) Pipe second) second
+    → run_kind p.mems roomy (branch test first second) place left s ≡ program_step.went did rest after
+    → NodeGoes p core most view (node p.mems (length p.counters) view.sources b n (branch test first second)) t after did

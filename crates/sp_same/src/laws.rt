@@ -1,12 +1,28 @@
 //! Laws of what cores mean. Each function does nothing: what it ensures is the law.
 
 ghost use Rattle.std.specs.Prelude.{ℕ, List};
+ghost use Rattle.sp_tree.specs.PlainExpression.{PlainExpr};
 ghost use Rattle.sp_tree.specs.PlainProgram.{PlainProgram};
-ghost use Rattle.sp_tree.specs.PlainStatement.{PlainStmtKind};
+ghost use Rattle.sp_tree.specs.PlainStatement.{PlainStmtKind, PlainStmts};
 ghost use Rattle.sp_core.specs.PlainCore.{PlainCore};
-ghost use Rattle.sp_same.specs.Laws.{IsTransferFollowed};
+ghost use Rattle.sp_same.specs.Laws.{IsTransferFollowed, IsLoopFollowed, IsBlockFollowed, IsBranchFollowed};
 
 /// The node of a transfer between a DRAM and an SRAM moves the words that the transfer moves.
 pub fn transfers_are_followed()
     ensures { (p : PlainProgram) (roomy : List ℕ) (core : PlainCore) (kind : PlainStmtKind) → IsTransferFollowed p roomy core kind }
+{}
+
+/// The node of a loop does what the loop does, where its body does.
+pub fn loops_are_followed()
+    ensures { (p : PlainProgram) (roomy : List ℕ) (core : PlainCore) (body : PlainStmts) → IsLoopFollowed p roomy core body }
+{}
+
+/// The node of a block does what the block does, where its body does.
+pub fn blocks_are_followed()
+    ensures { (p : PlainProgram) (roomy : List ℕ) (core : PlainCore) (body : PlainStmts) → IsBlockFollowed p roomy core body }
+{}
+
+/// The node of a branch does what the branch does, where its blocks do.
+pub fn branches_are_followed()
+    ensures { (p : PlainProgram) (roomy : List ℕ) (core : PlainCore) (test : PlainExpr) → IsBranchFollowed p roomy core test }
 {}

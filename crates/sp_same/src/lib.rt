@@ -3,4 +3,6 @@
 
 mod laws;
 
-pub use laws::transfers_are_followed;
+pub use laws::{
+    blocks_are_followed, branches_are_followed, loops_are_followed, transfers_are_followed,
+};
