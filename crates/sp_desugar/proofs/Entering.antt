@@ -145,7 +145,7 @@ module _ (p : PlainProgram) (core : PlainCore) (h : HasMemories p core) where
     pub some : 1 ≤ lanes
 
   -- a value of a fresh name is none of those that are visible
-  fresh_apart : (scope : Scope) (w : ℕ) → IsFreshVal p scope w → (u : ℕ × Ty) → Contains scope.vals u → u.0 ≡ w → ⊥
+  pub fresh_apart : (scope : Scope) (w : ℕ) → IsFreshVal p scope w → (u : ℕ × Ty) → Contains scope.vals u → u.0 ≡ w → ⊥
   fresh_apart scope w fresh u c e = fresh (subst (λ x. Contains (visible p scope) (slice_index_or p.vals x [])) e
       (in_middle (map (λ m. (slice_index_or p.mems m no_mem).name) scope.mems) (map (λ (v : ℕ × Ty). slice_index_or p.vals v.0 []) scope.vals) (map (λ c. slice_index_or p.counters c []) scope.counters) (slice_index_or p.vals u.0 [])
       (in_map (λ (v : ℕ × Ty). slice_index_or p.vals v.0 []) scope.vals u c)))

@@ -20,3 +20,5 @@ pub mod Groups
 pub mod LaneZero
 pub mod LoopNodes
 pub mod Controllers
+pub mod Registers
+pub mod Machines

@@ -1,5 +1,5 @@
 -- What it means that a node of a core does what a statement of its program does.
-use Rattle.std.specs.Prelude.{◌≡◌, ℕ, ◌≤◌, Bool, true, List, [], ◌∷◌, length, Contains, Some}
+use Rattle.std.specs.Prelude.{◌≡◌, ℕ, ◌<◌, ◌≤◌, Bool, true, List, [], ◌∷◌, length, Contains, Some}
 use Rattle.sp_words.specs.declared.kind.Style.{Style}
 use Rattle.sp_words.specs.declared.types.Ty.{Ty}
 use Rattle.sp_words.specs.Memory.{cells}
@@ -25,7 +25,7 @@ use Rattle.sp_desugar.specs.Early.{after}
 use Rattle.sp_desugar.specs.Runs.{no_run}
 use Rattle.sp_desugar.specs.Stages.{nothing, body_node, stages}
 use Rattle.sp_desugar.specs.Uses.{no_more}
-use Rattle.sp_desugar.specs.Values.{Source, count, Sources}
+use Rattle.sp_desugar.specs.Values.{Source, in_register, count, Sources}
 use Rattle.sp_same.specs.Counts.{counts_in_all, counts_of}
 
 -- a value that stands for a counter stands for one that is visible
@@ -35,6 +35,14 @@ SourceSeen scope _ = Unit {0}
 
 abbrev pub SourcesSeen : Scope → Sources → Type 0
 SourcesSeen scope sources = (v : ℕ × Ty) → Contains scope.vals v → SourceSeen scope (sources v.0)
+
+-- no value that is visible stands in a register of this number or after it, and no register that is kept does
+abbrev pub SourceBefore : ℕ → Source → Type 0
+SourceBefore n (in_register r) = r < n
+SourceBefore n _ = Unit {0}
+
+abbrev pub AreBefore : ℕ → View → Type 0
+AreBefore n view = ((v : ℕ × Ty) → Contains view.scope.vals v → SourceBefore n (view.sources v.0)) × ((x : ℕ × ℕ) → Contains view.registers x → SourceBefore n (in_register x.0))
 
 module _ (p : PlainProgram) (core : PlainCore) where
   -- a register that the compiler added holds a word

@@ -1,27 +1,28 @@
 -- Laws of what cores mean, as statements.
-use Rattle.std.specs.Prelude.{◌≡◌, ℕ, ◌+◌, ◌≤◌, Bool, List, [], ◌∷◌, length}
+use Rattle.std.specs.Prelude.{◌≡◌, ℕ, suc, ◌+◌, ◌≤◌, Bool, List, [], ◌∷◌, length}
 use Rattle.sp_words.specs.declared.kind.Style.{Style}
 use Rattle.sp_words.specs.declared.kind.Style.TheVariants.{Pipe}
 use Rattle.sp_words.specs.declared.types.Ty.TheVariants.{Bit}
 use Rattle.sp_tree.specs.Invariant.{ports_of}
-use Rattle.sp_tree.specs.PlainExpression.{PlainExpr}
+use Rattle.sp_tree.specs.PlainExpression.{PlainExpr, type_of}
 use Rattle.sp_tree.specs.PlainProgram.{PlainProgram}
-use Rattle.sp_tree.specs.PlainStatement.{PlainCounter, PlainStmtKind, PlainStmts, load_sram, load_line, store, gather, scatter, block, foreach, branch}
+use Rattle.sp_tree.specs.PlainStatement.{PlainCounter, PlainStmtKind, PlainStmts, load_sram, load_line, store, gather, scatter, block, foreach, fsm, branch}
 use Rattle.sp_tree.specs.Sequential.{run_kind}
 use Rattle.sp_tree.specs.Shape.{Shape}
 use Rattle.sp_tree.specs.Step as program_step
 use Rattle.sp_tree.specs.Store as program_store
 use Rattle.sp_tree.specs.Streams.{fifos_with_room}
-use Rattle.sp_tree.specs.Typing.{StmtTyped, HasTypeStill, CountersTyped, with_counters}
+use Rattle.sp_tree.specs.Typing.{StmtTyped, HasTypeStill, CountersTyped, with_counters, with_val}
 use Rattle.sp_core.specs.PlainCore.{PlainCore}
 use Rattle.sp_core.specs.Scope as counters
 use Rattle.sp_core.specs.Store as store
-use Rattle.sp_desugar.specs.Agreement.{HasMemories, View, Agree}
+use Rattle.sp_desugar.specs.Agreement.{HasMemories, View, IsAdded, Agree}
 use Rattle.sp_desugar.specs.Early.{is_early, is_early_part, bounds_of, parts_of}
 use Rattle.sp_desugar.specs.Registers.{registers_in}
 use Rattle.sp_desugar.specs.Stages.{style_of, node}
 use Rattle.sp_desugar.specs.Uses.{no_more}
-use Rattle.sp_same.specs.Following.{SourcesSeen, AreReady, NodeGoes, BodyFollowed, alone}
+use Rattle.sp_desugar.specs.Values.{Sources, with_state}
+use Rattle.sp_same.specs.Following.{SourcesSeen, AreBefore, AreReady, NodeGoes, BodyFollowed, alone}
 
 -- a transfer that moves words between a DRAM and an SRAM
 abbrev pub IsTransfer : PlainStmtKind → Type 0
@@ -85,3 +86,14 @@ IsBranchFollowed p roomy core test =
     → BodyFollowed p core roomy most view (alone p view.sources (n + length (registers_in first no_more)) Pipe second) second
     → run_kind p.mems roomy (branch test first second) place left s ≡ program_step.went did rest after
     → NodeGoes p core most view (node p.mems (length p.counters) view.sources b n (branch test first second)) t after did
+
+-- where the body of an FSM is followed, whatever word its state holds then, so is the FSM; nothing that is kept stands in
+-- the register of its state or after it
+abbrev pub IsMachineFollowed : PlainProgram → (roomy : List ℕ) → PlainCore → PlainStmts → Type 0
+IsMachineFollowed p roomy core body =
+    (most : ℕ) (view : View) (start : PlainExpr) (tested : ℕ) (test : PlainExpr) (state last : ℕ) (next : PlainExpr) (b n place : ℕ) (s after : program_store.Store) (t : store.Store) (left rest : ℕ) (did : List Shape)
+    → let kept : Sources = with_state view.sources tested state last n in
+    HasMemories p core → StmtTyped p view.scope (fsm start tested test state body last next) → IsAdded p core n → AreBefore n view → left ≤ most → Agree p core view [] s t
+    → ((w : ℕ) → BodyFollowed p core roomy most (record view { scope = with_val view.scope state (type_of start); sources = kept; registers = (n, w) ∷ view.registers }) (alone p kept (suc n) Pipe body) body)
+    → run_kind p.mems roomy (fsm start tested test state body last next) place left s ≡ program_step.went did rest after
+    → NodeGoes p core most view (node p.mems (length p.counters) view.sources b n (fsm start tested test state body last next)) t after did
