@@ -223,10 +223,10 @@ module _ (p : PlainProgram) (core : PlainCore) (h : HasMemories p core) where
 
     -- a declaration of an inner body
     module _ (m : ℕ) (others : List ℕ) (s : program_store.Store) (g : Goes view run t s) (w : IsWaiting p core (at_run view run) g.after m) (more : (k : ℕ) → Contains others k → Contains view.waiting k) (apart : Contains others m → ⊥) where
-      abbrev contents : Contents
+      abbrev pub contents : Contents
       contents = fresh_of (expressions.mem p.mems m).kind (expressions.dims p.mems m) (expressions.mem p.mems m).start []
 
-      abbrev Declared : Run → Type 0
+      abbrev pub Declared : Run → Type 0
       Declared r = Goes (record view { scope = with_mem view.scope m; waiting = others }) r t (program_store.hold s m contents)
 
       abbrev reset_op : PlainOp
@@ -251,7 +251,7 @@ module _ (p : PlainProgram) (core : PlainCore) (h : HasMemories p core) where
       declared_already e = rescoped (at_run view run) (with_mem view.scope m) run.values.here others [] run.ops t s (program_store.hold s m contents) [] [] g
           (agree_declared p core (at_run view run) m others g.all s g.after g.after contents g.agree w more apart (w.holds (and_right (view.resets m) has e)) (λ k ne. refl) h)
 
-      declared : Declared (with_reset p.mems run m)
+      pub declared : Declared (with_reset p.mems run m)
       declared = either has
           (λ e. subst Declared (ap (λ b. if b then with_ops run (reset_op ∷ []) else run) (sym e)) declared_now)
           (λ e. subst Declared (ap (λ b. if b then with_ops run (reset_op ∷ []) else run) (sym e)) (declared_already e))

@@ -23,6 +23,10 @@ single g x bs t u e =
     let none : [] ≡ d.answer = same_core_answer [] d.answer b.store d.store d.first in
     (b.answer, b.first ∙ ap (went b.answer) (same_core_store [] d.answer b.store d.store d.first ∙ same_core_store (b.answer ∷ d.answer) bs d.store u d.second), ap (λ l. b.answer ∷ l) none ∙ same_core_answer (b.answer ∷ d.answer) bs d.store u d.second)
 
+pub single_goes : {A B : Type 0} (g : A → Step B) (x : A) (b : B) (t u : Store) → g x t ≡ went b u → in_order g (x ∷ []) t ≡ went (b ∷ []) u
+unfolding in_order pure
+single_goes g x b t u e = then_on (g x) (λ first. ◌>>=◌ (in_order g []) (λ others. pure (first ∷ others))) t b u e ∙ then_on (in_order g []) (λ others. pure (b ∷ others)) u [] u refl
+
 -- the last counter's value is below its bound in the first lane
 pub first_is_live : (ls : List Loop) (vs : List ℤ) → Fit IsLive ls vs → is_live ls vs 0 ≡ true
 first_is_live [] vs f = refl
@@ -48,6 +52,14 @@ module _ (core : PlainCore) (most : ℕ) where
         ap (inner_group owned ops scope) here ∙ one.1 ∙ ap (went one.0) (same_core_store (inner_ran b.answer [] d.answer) h d.store u d.second),
         ap (λ bs. inner_ran bs [] (one.0 ∷ [])) none ∙ ap (inner_ran b.answer []) one.2 ∙ same_core_answer (inner_ran b.answer [] d.answer) h d.store u d.second,
       )
+
+  -- and the other way round
+  pub inner_alone : (owned : List ℕ) (ops : List PlainOp) (comb : Option ℕ) (scope : Scope) (es : List Entry) (t u : Store) → inner_group owned ops scope t ≡ went es u → run core plainly most (inner [] owned ops comb) scope t ≡ went (inner_ran [] [] (es ∷ [])) u
+  unfolding run in_order pure
+  inner_alone owned ops comb scope es t u e =
+      let group : List ℤ → Step (List Entry) = λ values. in_order (renew_in_body core plainly most) owned >> operations core (in_group scope [] values) ops in
+      then_on (in_order (bounds core plainly most scope) []) (λ bs. ◌>>=◌ (in_order (λ values. in_order (renew_in_body core plainly most) owned >> operations core (in_group scope (loops_of plainly [] bs) values) ops) (group_values (loops_of plainly [] bs))) (λ groups. pure (inner_ran bs (counts_of (loops_of plainly [] bs)) groups))) t [] t refl
+      ∙ then_on (in_order group ([] ∷ [])) (λ groups. pure (inner_ran [] [] groups)) t (es ∷ []) u (single_goes group [] es t u e)
 
   abbrev pub outer_group : Style → List ℕ → PlainStages → (ℕ → Bool) → Scope → Step Runs
   outer_group style owned stages live scope = in_order (renew core plainly most) owned >> (run_stages core plainly most stages live scope >>= (λ runs. end_of_group core plainly most style owned >> pure runs))

@@ -22,3 +22,5 @@ pub mod LoopNodes
 pub mod Controllers
 pub mod Registers
 pub mod Machines
+pub mod Renewed
+pub mod InnerBodies

@@ -3,7 +3,7 @@ use Rattle.std.specs.Prelude.{◌≡◌, ℕ, ◌<◌, ◌≤◌, Bool, true, Li
 use Rattle.sp_words.specs.declared.kind.Style.{Style}
 use Rattle.sp_words.specs.declared.types.Ty.{Ty}
 use Rattle.sp_words.specs.Memory.{cells}
-use Rattle.sp_tree.specs.Expressions.{word}
+use Rattle.sp_tree.specs.Expressions.{mem, word}
 use Rattle.sp_tree.specs.PlainExpression.{PlainExpr}
 use Rattle.sp_tree.specs.PlainProgram.{PlainProgram}
 use Rattle.sp_tree.specs.PlainStatement.{PlainStmts}
@@ -22,6 +22,7 @@ use Rattle.sp_core.specs.Step.{went}
 use Rattle.sp_core.specs.Store as store
 use Rattle.sp_desugar.specs.Agreement.{View, IsAdded, Agree}
 use Rattle.sp_desugar.specs.Early.{after}
+use Rattle.sp_desugar.specs.Numbers.{is_off_dram}
 use Rattle.sp_desugar.specs.Runs.{no_run}
 use Rattle.sp_desugar.specs.Stages.{nothing, body_node, stages}
 use Rattle.sp_desugar.specs.Uses.{no_more}
@@ -43,6 +44,12 @@ SourceBefore n _ = Unit {0}
 
 abbrev pub AreBefore : ℕ → View → Type 0
 AreBefore n view = ((v : ℕ × Ty) → Contains view.scope.vals v → SourceBefore n (view.sources v.0)) × ((x : ℕ × ℕ) → Contains view.registers x → SourceBefore n (in_register x.0))
+
+-- a memory on the chip that isn't visible
+pub record IsOwn (p : PlainProgram) (scope : Scope) (m : ℕ) : Type 0 where
+  pub exists : m < length p.mems
+  pub on_chip : is_off_dram (mem p.mems m) ≡ true
+  pub unseen : Contains scope.mems m → ⊥
 
 module _ (p : PlainProgram) (core : PlainCore) where
   -- a register that the compiler added holds a word

@@ -1,5 +1,5 @@
 -- Laws of what cores mean, as statements.
-use Rattle.std.specs.Prelude.{◌≡◌, ℕ, suc, ◌+◌, ◌≤◌, Bool, List, [], ◌∷◌, length}
+use Rattle.std.specs.Prelude.{◌≡◌, ℕ, suc, ◌+◌, ◌≤◌, Bool, false, IsTrue, List, [], ◌∷◌, ◌++◌, length, Contains}
 use Rattle.sp_words.specs.declared.kind.Style.{Style}
 use Rattle.sp_words.specs.declared.kind.Style.TheVariants.{Pipe}
 use Rattle.sp_words.specs.declared.types.Ty.TheVariants.{Bit}
@@ -12,17 +12,18 @@ use Rattle.sp_tree.specs.Shape.{Shape}
 use Rattle.sp_tree.specs.Step as program_step
 use Rattle.sp_tree.specs.Store as program_store
 use Rattle.sp_tree.specs.Streams.{fifos_with_room}
-use Rattle.sp_tree.specs.Typing.{StmtTyped, HasTypeStill, CountersTyped, with_counters, with_val}
+use Rattle.sp_tree.specs.Structure.{own_mems, is_inner}
+use Rattle.sp_tree.specs.Typing.{StmtTyped, BodyTyped, HasTypeStill, CountersTyped, with_counters, with_val}
 use Rattle.sp_core.specs.PlainCore.{PlainCore}
 use Rattle.sp_core.specs.Scope as counters
 use Rattle.sp_core.specs.Store as store
-use Rattle.sp_desugar.specs.Agreement.{HasMemories, View, IsAdded, Agree}
+use Rattle.sp_desugar.specs.Agreement.{HasMemories, View, HaveRooms, Apart, IsAdded, Agree}
 use Rattle.sp_desugar.specs.Early.{is_early, is_early_part, bounds_of, parts_of}
 use Rattle.sp_desugar.specs.Registers.{registers_in}
 use Rattle.sp_desugar.specs.Stages.{style_of, node}
 use Rattle.sp_desugar.specs.Uses.{no_more}
 use Rattle.sp_desugar.specs.Values.{Sources, with_state}
-use Rattle.sp_same.specs.Following.{SourcesSeen, AreBefore, AreReady, NodeGoes, BodyFollowed, alone}
+use Rattle.sp_same.specs.Following.{SourcesSeen, AreBefore, AreReady, NodeGoes, IsOwn, BodyFollowed, alone}
 
 -- a transfer that moves words between a DRAM and an SRAM
 abbrev pub IsTransfer : PlainStmtKind → Type 0
@@ -97,3 +98,12 @@ IsMachineFollowed p roomy core body =
     → ((w : ℕ) → BodyFollowed p core roomy most (record view { scope = with_val view.scope state (type_of start); sources = kept; registers = (n, w) ∷ view.registers }) (alone p kept (suc n) Pipe body) body)
     → run_kind p.mems roomy (fsm start tested test state body last next) place left s ≡ program_step.went did rest after
     → NodeGoes p core most view (node p.mems (length p.counters) view.sources b n (fsm start tested test state body last next)) t after did
+
+-- a typed inner body is followed by its node: its memories aren't visible outside of it, and wait for their declarations
+-- beside those that wait already
+abbrev pub IsInnerBodyFollowed : PlainProgram → (roomy : List ℕ) → PlainCore → PlainStmts → Type 0
+IsInnerBodyFollowed p roomy core body =
+    (most : ℕ) (view : View) (n : ℕ) (style : Style)
+    → HasMemories p core → HaveRooms p roomy core → IsTrue (is_inner body) → BodyTyped p view.scope body → Apart (own_mems body ++ view.waiting)
+    → ((m : ℕ) → Contains (own_mems body) m → IsOwn p view.scope m) → ((m : ℕ) → view.resets m ≡ false)
+    → BodyFollowed p core roomy most view (alone p view.sources n style body) body
