@@ -23,7 +23,7 @@ Keeps done all = (length done ≤ length all) × ((k : ℕ) → k < length done 
 pub keeps_front : (done es : List Entry) → Keeps done (done ++ es)
 keeps_front done es = (omega (arith, length-append done es), λ k lt. ap word_of (get_or_append_left done es left_out k lt))
 
-at_end : (xs : List Entry) (e : Entry) → word_at (xs ++ e ∷ []) (length xs) ≡ word_of e
+pub at_end : (xs : List Entry) (e : Entry) → word_at (xs ++ e ∷ []) (length xs) ≡ word_of e
 at_end [] e = refl
 at_end (x ∷ xs) e = at_end xs e
 
@@ -43,7 +43,7 @@ module _ (p : PlainProgram) (core : PlainCore) (view : View) where
     registers = a.registers;
   }
 
-  agree_in : (scope : Scope) (waiting : List ℕ) (done all : List Entry) (s : program.Store) (t : store.Store) → Keeps done all → Agree p core (record view { scope = scope; waiting = waiting }) done s t → Agree p core (record view { scope = scope; waiting = waiting }) all s t
+  pub agree_in : (scope : Scope) (waiting : List ℕ) (done all : List Entry) (s : program.Store) (t : store.Store) → Keeps done all → Agree p core (record view { scope = scope; waiting = waiting }) done s t → Agree p core (record view { scope = scope; waiting = waiting }) all s t
   agree_in scope waiting done all s t h a = record {
     mems = a.mems;
     vals = λ v c. finds_still done all t (view.sources v.0) (s.values v.0) h (a.vals v c);
@@ -52,7 +52,7 @@ module _ (p : PlainProgram) (core : PlainCore) (view : View) where
     registers = a.registers;
   }
 
-  give_still : (done all : List Entry) (places words : List ℕ) → Keeps done all → GiveAt done places words → GiveAt all places words
+  pub give_still : (done all : List Entry) (places words : List ℕ) → Keeps done all → GiveAt done places words → GiveAt all places words
   give_still done all [] [] h g = tt
   give_still done all [] (w ∷ words) h g = absurd g
   give_still done all (k ∷ places) [] h g = absurd g
@@ -71,7 +71,7 @@ module _ (p : PlainProgram) (core : PlainCore) (view : View) where
   words_given all (k ∷ places) (w ∷ words) g = ap (λ x. x ∷ map (word_at all) places) g.1 ∙ ap (λ xs. w ∷ xs) (words_given all places words g.2)
 
   -- one list of operations after another
-  ops_append : (ops more : List PlainOp) (done : List Entry) (t : store.Store) (all : List Entry) (u : store.Store)
+  pub ops_append : (ops more : List PlainOp) (done : List Entry) (t : store.Store) (all : List Entry) (u : store.Store)
       → operations_after core view.around done ops t ≡ went all u → operations_after core view.around done (ops ++ more) t ≡ operations_after core view.around all more u
   unfolding operations_after pure
   ops_append [] more done t all u e =

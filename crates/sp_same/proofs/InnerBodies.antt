@@ -25,7 +25,7 @@ use Rattle.sp_core.specs.Sequential.{has_reset, renew_in_body, run}
 use Rattle.sp_core.specs.Shape.{shape_of}
 use Rattle.sp_core.specs.Step as core_step
 use Rattle.sp_core.specs.Store as store
-use Rattle.sp_desugar.specs.Agreement.{HasMemories, View, HaveRooms, Apart, Finds, IsWaiting, Agree, GoOn}
+use Rattle.sp_desugar.specs.Agreement.{HasMemories, View, at_run, HaveRooms, Apart, Finds, IsWaiting, Agree, GoOn}
 use Rattle.sp_desugar.specs.Numbers.{mem_number}
 use Rattle.sp_core.specs.declared.operation.OpKind.TheVariants as kind
 use Rattle.sp_desugar.specs.Operations.{accesses}
@@ -129,16 +129,19 @@ module _ (p : PlainProgram) (core : PlainCore) (h : HasMemories p core) where
     abbrev resetting : View
     resetting = record view { resets = λ m. is_among m (own_mems body) }
 
-    -- one group
-    pub record Group (t : store.Store) (after : program_store.Store) (did : List program_shape.Shape) : Type 0 where
-      pub all : List Entry
-      pub end : store.Store
-      pub goes : inner_group core most owned body_run.ops view.around t ≡ core_step.went all end
-      pub agree : Agree p core view [] after end
+    abbrev pub ended : View
+    ended = at_run (record begun { scope = after_all view.scope body; waiting = view.waiting }) body_run
+
+    -- its memories were made fresh, and its operations went on
+    pub record Ran (t : store.Store) (after : program_store.Store) (did : List program_shape.Shape) : Type 0 where
+      pub renewed : List (Unit {0})
+      pub start : store.Store
+      pub renews : core_step.in_order (renew_in_body core plainly most) owned t ≡ core_step.went renewed start
+      pub goes : GoOn p core ended [] body_run.ops start after [] []
       pub nothing_did : did ≡ []
 
-    pub group_goes : (s after : program_store.Store) (t : store.Store) (left rest : ℕ) (did : List program_shape.Shape) → Agree p core view [] s t → run_all p.mems roomy body left s ≡ step.went did rest after → Group t after did
-    group_goes s after t left rest did a e =
+    pub ran : (s after : program_store.Store) (t : store.Store) (left rest : ℕ) (did : List program_shape.Shape) → Agree p core view [] s t → run_all p.mems roomy body left s ≡ step.went did rest after → Ran t after did
+    ran s after t left rest did a e =
         let a2 : Agree p core resetting [] s t = record {
           mems = a.mems;
           vals = a.vals;
@@ -149,25 +152,23 @@ module _ (p : PlainProgram) (core : PlainCore) (h : HasMemories p core) where
         let fresh = all_renewed p core h most (renew_in_body core plainly most) (own_mems body) resetting s t
         (λ w m t c o ne b. in_body p core h (record resetting { waiting = w }) s m o ne most t b (among m (own_mems body) c)) own apart a2 in
         let g = runs_follow p core h view.waiting roomy rooms body begun (no_run view.sources) fresh.1 s after left rest did (at_rest p core begun [] s fresh.1 fresh.3) is typed apart refl e in
-        record {
-          all = g.1.all;
-          end = g.1.after;
-          goes = then_on (core_step.in_order (renew_in_body core plainly most) owned) (λ _. operations core view.around body_run.ops) t fresh.0 fresh.1 fresh.2 ∙ g.1.goes;
-          agree = record {
-            mems = λ m c. g.1.agree.mems m (after_mems view.scope body m c);
-            vals = λ u c. found_out view.around g.1.all t g.1.after (view.sources u.0) (s.values u.0) (after.values u.0) (a.vals u c)
-                (subst (λ x. Finds p core view.around g.1.all g.1.after x (after.values u.0)) (here_still view.scope body (no_run view.sources) u is typed c) (g.1.agree.vals u (after_vals view.scope body u c)));
-            counts = λ k c. g.1.agree.counts k (subst (λ l. Contains l k) (sym (after_counters view.scope body)) c);
-            waiting = λ m c. let x = g.1.agree.waiting m c in record {
-              exists = x.exists;
-              on_chip = x.on_chip;
-              unseen = λ y. x.unseen (after_mems view.scope body m y);
-              holds = λ f. x.holds (ap (λ b. b && has_reset (expressions.mem p.mems m).kind (expressions.mem p.mems m).start) (not_among m c));
-            };
-            registers = g.1.agree.registers;
-          };
-          nothing_did = g.0;
-        }
+        record { renewed = fresh.0; start = fresh.1; renews = fresh.2; goes = g.1; nothing_did = g.0 }
+
+    -- what is visible outside agrees then
+    pub left_group : (all : List Entry) (s after : program_store.Store) (t u : store.Store) → Agree p core view [] s t → Agree p core ended all after u → Agree p core view [] after u
+    left_group all s after t u a g = record {
+      mems = λ m c. g.mems m (after_mems view.scope body m c);
+      vals = λ v c. found_out view.around all t u (view.sources v.0) (s.values v.0) (after.values v.0) (a.vals v c)
+          (subst (λ x. Finds p core view.around all u x (after.values v.0)) (here_still view.scope body (no_run view.sources) v is typed c) (g.vals v (after_vals view.scope body v c)));
+      counts = λ k c. g.counts k (subst (λ l. Contains l k) (sym (after_counters view.scope body)) c);
+      waiting = λ m c. let x = g.waiting m c in record {
+        exists = x.exists;
+        on_chip = x.on_chip;
+        unseen = λ y. x.unseen (after_mems view.scope body m y);
+        holds = λ f. x.holds (ap (λ b. b && has_reset (expressions.mem p.mems m).kind (expressions.mem p.mems m).start) (not_among m c));
+      };
+      registers = g.registers;
+    }
       where
         not_among : (m : ℕ) → Contains view.waiting m → is_among m (own_mems body) ≡ false
         not_among m c = either (is_among m (own_mems body)) (λ f. absurd (apart_from (own_mems body) view.waiting m apart c (there m (own_mems body) f))) (λ f. f)
@@ -175,13 +176,14 @@ module _ (p : PlainProgram) (core : PlainCore) (h : HasMemories p core) where
     pub body_goes : (n : ℕ) (style : Style) → BodyFollowed p core roomy most view (alone p view.sources n style body) body
     unfolding shape_of counts_of counts_in_all
     body_goes n style s after t left rest did enough a e =
-        let g = group_goes s after t left rest did a e in
+        let g = ran s after t left rest did a e in
         let one : PlainNode = inner [] owned body_run.ops None in
         let other : PlainNode = outer [] style (owned ++ owned_registers n body no_more) (stages p.mems (length p.counters) (no_run view.sources) n body no_more nothing) in
         subst (λ b. NodeGoes p core most view (if b then one else other) t after did) (sym is) (record {
-          history = inner_ran [] [] (g.all ∷ []);
-          after = g.end;
-          goes = inner_alone core most owned body_run.ops None view.around g.all t g.end g.goes;
-          agree = g.agree;
+          history = inner_ran [] [] (g.goes.all ∷ []);
+          after = g.goes.after;
+          goes = inner_alone core most owned body_run.ops None view.around g.goes.all t g.goes.after
+              (then_on (core_step.in_order (renew_in_body core plainly most) owned) (λ _. operations core view.around body_run.ops) t g.renewed g.start g.renews ∙ g.goes.goes);
+          agree = left_group g.goes.all s after t g.goes.after a g.goes.agree;
           counts = ap (λ l. counts_in_all (shapes l)) (sym g.nothing_did);
         })

@@ -24,3 +24,5 @@ pub mod Registers
 pub mod Machines
 pub mod Renewed
 pub mod InnerBodies
+pub mod Combining
+pub mod Reductions

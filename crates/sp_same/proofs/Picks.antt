@@ -46,7 +46,7 @@ in_row [] e k = absurd (omega (arith, e))
 in_row (d ∷ []) e k = omega arith
 in_row (d ∷ c ∷ ds) e k = absurd (omega (arith, e))
 
-read_found : (m at place w left rest : ℕ) (s after : program_store.Store) → program.read_cell m at place left s ≡ step.went w rest after → (slice_index_or (program_store.cells_of (s.held m)) at None ≡ Some w) × (after ≡ s)
+pub read_found : (m at place w left rest : ℕ) (s after : program_store.Store) → program.read_cell m at place left s ≡ step.went w rest after → (slice_index_or (program_store.cells_of (s.held m)) at None ≡ Some w) × (after ≡ s)
 unfolding step.read step.◌>>=◌
 read_found m at place w left rest s after e = let f = word_found place (slice_index_or (program_store.cells_of (s.held m)) at None) w left rest s after e in (f.0, f.2)
 

@@ -3,10 +3,11 @@ use Rattle.std.specs.Prelude.{◌≡◌, ℕ, suc, ◌+◌, ◌≤◌, Bool, fal
 use Rattle.sp_words.specs.declared.kind.Style.{Style}
 use Rattle.sp_words.specs.declared.kind.Style.TheVariants.{Pipe}
 use Rattle.sp_words.specs.declared.types.Ty.TheVariants.{Bit}
+use Rattle.sp_tree.specs.declared.statement.Comb.{Comb}
 use Rattle.sp_tree.specs.Invariant.{ports_of}
 use Rattle.sp_tree.specs.PlainExpression.{PlainExpr, type_of}
 use Rattle.sp_tree.specs.PlainProgram.{PlainProgram}
-use Rattle.sp_tree.specs.PlainStatement.{PlainCounter, PlainStmtKind, PlainStmts, load_sram, load_line, store, gather, scatter, block, foreach, fsm, branch}
+use Rattle.sp_tree.specs.PlainStatement.{PlainCounter, PlainStmtKind, PlainStmts, load_sram, load_line, store, gather, scatter, block, foreach, reduce, fsm, branch}
 use Rattle.sp_tree.specs.Sequential.{run_kind}
 use Rattle.sp_tree.specs.Shape.{Shape}
 use Rattle.sp_tree.specs.Step as program_step
@@ -18,12 +19,12 @@ use Rattle.sp_core.specs.PlainCore.{PlainCore}
 use Rattle.sp_core.specs.Scope as counters
 use Rattle.sp_core.specs.Store as store
 use Rattle.sp_desugar.specs.Agreement.{HasMemories, View, HaveRooms, Apart, IsAdded, Agree}
-use Rattle.sp_desugar.specs.Early.{is_early, is_early_part, bounds_of, parts_of}
+use Rattle.sp_desugar.specs.Early.{is_early, is_early_part, registers_for, bounds_of, parts_of}
 use Rattle.sp_desugar.specs.Registers.{registers_in}
 use Rattle.sp_desugar.specs.Stages.{style_of, node}
 use Rattle.sp_desugar.specs.Uses.{no_more}
 use Rattle.sp_desugar.specs.Values.{Sources, with_state}
-use Rattle.sp_same.specs.Following.{SourcesSeen, AreBefore, AreReady, NodeGoes, IsOwn, BodyFollowed, alone}
+use Rattle.sp_same.specs.Following.{SourcesSeen, AreBefore, HoldsWord, AreReady, NodeGoes, IsOwn, BodyFollowed, alone}
 
 -- a transfer that moves words between a DRAM and an SRAM
 abbrev pub IsTransfer : PlainStmtKind → Type 0
@@ -107,3 +108,15 @@ IsInnerBodyFollowed p roomy core body =
     → HasMemories p core → HaveRooms p roomy core → IsTrue (is_inner body) → BodyTyped p view.scope body → Apart (own_mems body ++ view.waiting)
     → ((m : ℕ) → Contains (own_mems body) m → IsOwn p view.scope m) → ((m : ℕ) → view.resets m ≡ false)
     → BodyFollowed p core roomy most view (alone p view.sources n style body) body
+
+-- a typed Reduce or Fold over an inner body is followed by its node; before a Reduce the register that tells whether it has
+-- begun holds 0
+abbrev pub IsReductionFollowed : PlainProgram → (roomy : List ℕ) → PlainCore → PlainStmts → Type 0
+IsReductionFollowed p roomy core body =
+    (most : ℕ) (view : View) (style : Style) (fold : Bool) (acc : ℕ) (loops : List PlainCounter) (e : PlainExpr) (comb : Comb) (b n place : ℕ) (s after : program_store.Store) (t : store.Store) (left rest : ℕ) (did : List Shape)
+    → let begun : ℕ = b + length (registers_for is_early (bounds_of loops)) in
+    HasMemories p core → HaveRooms p roomy core → IsTrue (is_inner body) → StmtTyped p view.scope (reduce style fold acc loops body e comb) → SourcesSeen view.scope view.sources → Apart (own_mems body ++ view.waiting)
+    → ((m : ℕ) → Contains (own_mems body) m → IsOwn p (with_counters view.scope loops) m) → ((m : ℕ) → view.resets m ≡ false)
+    → Agree p core view [] s t → AreReady p core is_early left s t b (bounds_of loops) → (fold ≡ false → IsAdded p core begun × AreBefore begun view × HoldsWord p core t begun 0)
+    → run_kind p.mems roomy (reduce style fold acc loops body e comb) place left s ≡ program_step.went did rest after
+    → NodeGoes p core most view (node p.mems (length p.counters) view.sources b n (reduce style fold acc loops body e comb)) t after did

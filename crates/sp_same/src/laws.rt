@@ -5,7 +5,7 @@ ghost use Rattle.sp_tree.specs.PlainExpression.{PlainExpr};
 ghost use Rattle.sp_tree.specs.PlainProgram.{PlainProgram};
 ghost use Rattle.sp_tree.specs.PlainStatement.{PlainStmtKind, PlainStmts};
 ghost use Rattle.sp_core.specs.PlainCore.{PlainCore};
-ghost use Rattle.sp_same.specs.Laws.{IsTransferFollowed, IsLoopFollowed, IsBlockFollowed, IsBranchFollowed, IsMachineFollowed, IsInnerBodyFollowed};
+ghost use Rattle.sp_same.specs.Laws.{IsTransferFollowed, IsLoopFollowed, IsBlockFollowed, IsBranchFollowed, IsMachineFollowed, IsInnerBodyFollowed, IsReductionFollowed};
 
 /// The node of a transfer between a DRAM and an SRAM moves the words that the transfer moves.
 pub fn transfers_are_followed()
@@ -35,4 +35,9 @@ pub fn machines_are_followed()
 /// The node of an inner body does what its statements do.
 pub fn inner_bodies_are_followed()
     ensures { (p : PlainProgram) (roomy : List ℕ) (core : PlainCore) (body : PlainStmts) → IsInnerBodyFollowed p roomy core body }
+{}
+
+/// The node of a Reduce or Fold over an inner body does what the statement does.
+pub fn reductions_are_followed()
+    ensures { (p : PlainProgram) (roomy : List ℕ) (core : PlainCore) (body : PlainStmts) → IsReductionFollowed p roomy core body }
 {}
