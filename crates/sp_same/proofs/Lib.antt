@@ -26,3 +26,5 @@ pub mod Renewed
 pub mod InnerBodies
 pub mod Combining
 pub mod Reductions
+pub mod EarlyStages
+pub mod EarlyWords

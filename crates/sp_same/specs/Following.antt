@@ -1,5 +1,5 @@
 -- What it means that a node of a core does what a statement of its program does.
-use Rattle.std.specs.Prelude.{◌≡◌, ℕ, ◌<◌, ◌≤◌, Bool, true, List, [], ◌∷◌, length, Contains, Some}
+use Rattle.std.specs.Prelude.{◌≡◌, ℕ, ◌<◌, ◌≤◌, Bool, true, List, [], ◌∷◌, length, Contains, Option, Some}
 use Rattle.sp_words.specs.declared.kind.Style.{Style}
 use Rattle.sp_words.specs.declared.types.Ty.{Ty}
 use Rattle.sp_words.specs.Memory.{cells}
@@ -13,11 +13,11 @@ use Rattle.sp_tree.specs.Shape.{shapes}
 use Rattle.sp_tree.specs.Step as program_step
 use Rattle.sp_tree.specs.Store as program_store
 use Rattle.sp_tree.specs.Typing.{Scope}
-use Rattle.sp_core.specs.History.{History}
-use Rattle.sp_core.specs.PlainCore.{PlainNode, PlainCore}
+use Rattle.sp_core.specs.History.{History, Runs}
+use Rattle.sp_core.specs.PlainCore.{PlainNode, PlainStages, PlainCore}
 use Rattle.sp_core.specs.Scope.{plainly}
-use Rattle.sp_core.specs.Sequential.{run}
-use Rattle.sp_core.specs.Shape.{shape_of}
+use Rattle.sp_core.specs.Sequential.{run, run_stages}
+use Rattle.sp_core.specs.Shape.{shape_of, stage_shapes}
 use Rattle.sp_core.specs.Step.{went}
 use Rattle.sp_core.specs.Store as store
 use Rattle.sp_desugar.specs.Agreement.{View, IsAdded, Agree}
@@ -27,7 +27,7 @@ use Rattle.sp_desugar.specs.Runs.{no_run}
 use Rattle.sp_desugar.specs.Stages.{nothing, body_node, stages}
 use Rattle.sp_desugar.specs.Uses.{no_more}
 use Rattle.sp_desugar.specs.Values.{Source, in_register, count, Sources}
-use Rattle.sp_same.specs.Counts.{counts_in_all, counts_of}
+use Rattle.sp_same.specs.Counts.{counts_in_all, counts_of, stage_counts}
 
 -- a value that stands for a counter stands for one that is visible
 abbrev pub SourceSeen : Scope → Source → Type 0
@@ -77,6 +77,20 @@ module _ (p : PlainProgram) (core : PlainCore) where
   BodyFollowed roomy most view node body =
       (s after : program_store.Store) (t : store.Store) (left rest : ℕ) (did : List program_shape.Shape)
       → left ≤ most → Agree p core view [] s t → run_all p.mems roomy body left s ≡ program_step.went did rest after → NodeGoes most view node t after did
+
+  -- the registers from a number on, one for each expression that crosses, were added, and have a cell each
+  abbrev pub AreCells : (PlainExpr → Bool) → store.Store → (register : ℕ) → List PlainExpr → Type 0
+  AreCells crosses t r [] = Unit {0}
+  AreCells crosses t r (e ∷ es) = (crosses e ≡ true → IsAdded p core r × ((o : Option ℕ) × (t r ≡ Some (cells (o ∷ []))))) × AreCells crosses t (after crosses r e) es
+
+  -- the stages before a statement put its early words into their registers, from a number on; whatever stages come after
+  -- them go on from there, and the stages before count nothing
+  pub record EarlyGoes (most : ℕ) (view : View) (crosses : PlainExpr → Bool) (es : List PlainExpr) (b : ℕ) (early : PlainStages → PlainStages) (left : ℕ) (t : store.Store) (s : program_store.Store) : Type 0 where
+    pub after : store.Store
+    pub agree : Agree p core view [] s after
+    pub ready : AreReady crosses left s after b es
+    pub goes : (rest : PlainStages) (live : ℕ → Bool) (runs : Runs) (end : store.Store) → live 0 ≡ true → run_stages core plainly most rest live view.around after ≡ went runs end
+        → (all : Runs) × (run_stages core plainly most (early rest) live view.around t ≡ went all end) × (stage_counts (early rest) (stage_shapes (early rest) all) ≡ stage_counts rest (stage_shapes rest runs))
 
 -- the node of a body without a loop, by the first number that its registers take
 abbrev pub alone : PlainProgram → Sources → (n : ℕ) → Style → PlainStmts → PlainNode

@@ -7,7 +7,7 @@ use Rattle.sp_tree.specs.declared.statement.Comb.{Comb}
 use Rattle.sp_tree.specs.Invariant.{ports_of}
 use Rattle.sp_tree.specs.PlainExpression.{PlainExpr, type_of}
 use Rattle.sp_tree.specs.PlainProgram.{PlainProgram}
-use Rattle.sp_tree.specs.PlainStatement.{PlainCounter, PlainStmtKind, PlainStmts, load_sram, load_line, store, gather, scatter, block, foreach, reduce, fsm, branch}
+use Rattle.sp_tree.specs.PlainStatement.{PlainCounter, PlainStmtKind, PlainStmts, load_sram, load_line, store, gather, scatter, block, foreach, reduce, mem_reduce, fsm, branch}
 use Rattle.sp_tree.specs.Sequential.{run_kind}
 use Rattle.sp_tree.specs.Shape.{Shape}
 use Rattle.sp_tree.specs.Step as program_step
@@ -19,12 +19,12 @@ use Rattle.sp_core.specs.PlainCore.{PlainCore}
 use Rattle.sp_core.specs.Scope as counters
 use Rattle.sp_core.specs.Store as store
 use Rattle.sp_desugar.specs.Agreement.{HasMemories, View, HaveRooms, Apart, IsAdded, Agree}
-use Rattle.sp_desugar.specs.Early.{is_early, is_early_part, registers_for, bounds_of, parts_of}
+use Rattle.sp_desugar.specs.Early.{is_early, is_early_part, registers_for, bounds_of, parts_of, early_stages}
 use Rattle.sp_desugar.specs.Registers.{registers_in}
 use Rattle.sp_desugar.specs.Stages.{style_of, node}
 use Rattle.sp_desugar.specs.Uses.{no_more}
 use Rattle.sp_desugar.specs.Values.{Sources, with_state}
-use Rattle.sp_same.specs.Following.{SourcesSeen, AreBefore, HoldsWord, AreReady, NodeGoes, IsOwn, BodyFollowed, alone}
+use Rattle.sp_same.specs.Following.{SourcesSeen, AreBefore, HoldsWord, AreReady, AreCells, EarlyGoes, NodeGoes, IsOwn, BodyFollowed, alone}
 
 -- a transfer that moves words between a DRAM and an SRAM
 abbrev pub IsTransfer : PlainStmtKind → Type 0
@@ -34,7 +34,7 @@ IsTransfer (gather sram dram places n) = Unit {0}
 IsTransfer (scatter dram places n sram) = Unit {0}
 IsTransfer _ = ⊥
 
--- which of its indices, bounds and counts are computed before it, and all of them
+-- which of the indices, bounds and counts of a statement are computed before it, and all of them
 abbrev pub crosses_in : PlainStmtKind → PlainExpr → Bool
 crosses_in (load_sram sram dram spans) e = is_early_part spans e
 crosses_in (load_line line dram spans) e = is_early_part spans e
@@ -47,6 +47,9 @@ words_in (load_line line dram spans) = parts_of spans
 words_in (store dram spans sram) = parts_of spans
 words_in (gather sram dram places n) = n ∷ []
 words_in (scatter dram places n sram) = n ∷ []
+words_in (foreach style loops body) = bounds_of loops
+words_in (reduce style fold acc loops body e comb) = bounds_of loops
+words_in (mem_reduce style acc loops body part comb) = bounds_of loops
 words_in _ = []
 
 -- where a typed transfer of a program goes on, its node does the same, if the stores agree before and the words that were
@@ -120,3 +123,12 @@ IsReductionFollowed p roomy core body =
     → Agree p core view [] s t → AreReady p core is_early left s t b (bounds_of loops) → (fold ≡ false → IsAdded p core begun × AreBefore begun view × HoldsWord p core t begun 0)
     → run_kind p.mems roomy (reduce style fold acc loops body e comb) place left s ≡ program_step.went did rest after
     → NodeGoes p core most view (node p.mems (length p.counters) view.sources b n (reduce style fold acc loops body e comb)) t after did
+
+-- where a typed statement goes on, the stages before it put its early words into their registers, which nothing that is kept
+-- stands in
+abbrev pub AreEarlyFollowed : PlainProgram → (roomy : List ℕ) → PlainCore → PlainStmtKind → Type 0
+AreEarlyFollowed p roomy core kind =
+    (most : ℕ) (view : View) (b place : ℕ) (s after : program_store.Store) (t : store.Store) (left rest : ℕ) (did : List Shape)
+    → HasMemories p core → StmtTyped p view.scope kind → AreBefore b view → AreCells p core (crosses_in kind) t b (words_in kind) → Agree p core view [] s t
+    → run_kind p.mems roomy kind place left s ≡ program_step.went did rest after
+    → EarlyGoes p core most view (crosses_in kind) (words_in kind) b (early_stages p.mems view.sources b kind) left t s

@@ -5,7 +5,7 @@ ghost use Rattle.sp_tree.specs.PlainExpression.{PlainExpr};
 ghost use Rattle.sp_tree.specs.PlainProgram.{PlainProgram};
 ghost use Rattle.sp_tree.specs.PlainStatement.{PlainStmtKind, PlainStmts};
 ghost use Rattle.sp_core.specs.PlainCore.{PlainCore};
-ghost use Rattle.sp_same.specs.Laws.{IsTransferFollowed, IsLoopFollowed, IsBlockFollowed, IsBranchFollowed, IsMachineFollowed, IsInnerBodyFollowed, IsReductionFollowed};
+ghost use Rattle.sp_same.specs.Laws.{IsTransferFollowed, IsLoopFollowed, IsBlockFollowed, IsBranchFollowed, IsMachineFollowed, IsInnerBodyFollowed, IsReductionFollowed, AreEarlyFollowed};
 
 /// The node of a transfer between a DRAM and an SRAM moves the words that the transfer moves.
 pub fn transfers_are_followed()
@@ -40,4 +40,9 @@ pub fn inner_bodies_are_followed()
 /// The node of a Reduce or Fold over an inner body does what the statement does.
 pub fn reductions_are_followed()
     ensures { (p : PlainProgram) (roomy : List ℕ) (core : PlainCore) (body : PlainStmts) → IsReductionFollowed p roomy core body }
+{}
+
+/// The stages before a statement put the words of its early bounds, slices and counts into their registers.
+pub fn early_stages_are_followed()
+    ensures { (p : PlainProgram) (roomy : List ℕ) (core : PlainCore) (kind : PlainStmtKind) → AreEarlyFollowed p roomy core kind }
 {}
