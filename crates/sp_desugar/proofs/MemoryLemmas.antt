@@ -106,7 +106,7 @@ module _ (p : PlainProgram) (core : PlainCore) (h : HasMemories p core) (m : ℕ
       vals = λ v w. found (view.sources v.0) (s.values v.0) c (a.vals v w);
       counts = a.counts;
       waiting = λ k v. still_waiting k c (a.waiting k v);
-      registers = λ x v. found (in_register x.0) x.1 c (a.registers x v);
+      registers = λ x v. let f = a.registers x v in (f.0, changed_elsewhere t (mem_number p.mems m) x.0 (Some c) (λ e. let below : mem_number p.mems m < length (written_mems p.mems) = number_below p.mems m lt off in omega (arith, below, e, f.0.after)) ∙ f.1);
     }
 
 -- a read of a core
@@ -235,4 +235,4 @@ module _ (p : PlainProgram) (core : PlainCore) (view : View) (m : ℕ) (others :
       }
 
   pub agree_declared : Agree p core declared_view done (program_store.hold s m c) u
-  agree_declared = record { mems = declared_holds; vals = λ v y. declared_found (view.sources v.0) (s.values v.0) (a.vals v y); counts = a.counts; waiting = declared_waits; registers = λ x y. declared_found (in_register x.0) x.1 (a.registers x y) }
+  agree_declared = record { mems = declared_holds; vals = λ v y. declared_found (view.sources v.0) (s.values v.0) (a.vals v y); counts = a.counts; waiting = declared_waits; registers = λ x y. let f = a.registers x y in (f.0, elsewhere x.0 (λ e. let below : mem_number p.mems m < length (written_mems p.mems) = number_below p.mems m w.exists w.on_chip in omega (arith, below, e, f.0.after)) ∙ f.1) }

@@ -1,5 +1,5 @@
 -- How what stands in a run of a program and in a run of its core belong together: memories, values and counters.
-use Rattle.std.specs.Prelude.{◌≡◌, ℕ, ◌+◌, ◌<◌, ◌≤◌, true, false, List, [], ◌∷◌, ◌++◌, length, Contains, All, Some, Bool, ◌&&◌}
+use Rattle.std.specs.Prelude.{◌≡◌, ℕ, ◌+◌, ◌<◌, ◌≤◌, true, false, List, [], ◌∷◌, ◌++◌, length, Contains, All, Option, Some, Bool, ◌&&◌}
 use Rattle.sp_words.specs.declared.kind.Kind.TheVariants.{Reg, Fifo}
 use Rattle.sp_words.specs.Memory.{cells, fresh_of}
 use Rattle.sp_tree.specs.Declarations.{IsDeclaration}
@@ -36,14 +36,14 @@ GiveAt all _ _ = ⊥
 
 -- what is known at a place of a run: what is visible there, where its values are found, the counters around, the memories of
 -- the bodies around that aren't declared yet, which of them stand in a body with reset operations, as an inner one has, and
--- registers that hold a word, each with it
+-- registers that are kept, each with what its cell holds
 pub record View : Type 0 where
   pub scope : Scope
   pub sources : Sources
   pub around : counters.Scope
   pub waiting : List ℕ
   pub resets : ℕ → Bool
-  pub registers : List (ℕ × ℕ)
+  pub registers : List (ℕ × Option ℕ)
 
 module _ (p : PlainProgram) (core : PlainCore) where
   -- where the core's store has a memory of the program
@@ -77,7 +77,7 @@ module _ (p : PlainProgram) (core : PlainCore) where
     pub vals : (v : ℕ × _) → Contains view.scope.vals v → Finds view.around done t (view.sources v.0) (s.values v.0)
     pub counts : (c : ℕ) → Contains view.scope.counters c → counters.count_word (view.around c) 0 ≡ s.counts c
     pub waiting : (m : ℕ) → Contains view.waiting m → IsWaiting view t m
-    pub registers : (x : ℕ × ℕ) → Contains view.registers x → Finds view.around done t (in_register x.0) x.1
+    pub registers : (x : ℕ × Option ℕ) → Contains view.registers x → IsAdded x.0 × (t x.0 ≡ Some (cells (x.1 ∷ [])))
 
   -- operations go on after those that are done, to a store that agrees with another one, and give words at places
   pub record GoOn (view : View) (done : List Entry) (ops : List PlainOp) (t : store.Store) (s : program.Store) (places words : List ℕ) : Type 0 where

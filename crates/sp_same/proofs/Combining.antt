@@ -136,7 +136,7 @@ module _ (p : PlainProgram) (core : PlainCore) (h : HasMemories p core) (view : 
         quiet ops s ks ws g = record { all = g.all; after = g.after; goes = g.goes; counted = g.counted; kept = g.kept; agree = g.agree; give = tt }
 
     -- by whether a word of this run is held already; after the write of the accumulator that is so
-    module _ (begun : ℕ) (added : IsAdded p core begun) (bk : ℕ) (kept : Contains view.registers (begun, bk)) (e1 : Entry) (c : ℕ) (same : chosen bk (two_word (operator_of comb) ty (word_of e1) w) w ≡ c)
+    module _ (begun : ℕ) (added : IsAdded p core begun) (bk : ℕ) (kept : Contains view.registers (begun, Some bk)) (e1 : Entry) (c : ℕ) (same : chosen bk (two_word (operator_of comb) ty (word_of e1) w) w ≡ c)
         (first : (all : List Entry) (u : store.Store) → word_at all at ≡ bk → Agree p core view all s u → operation core view.around (under at (read_op ty n [])) all u ≡ went e1 u) where
       abbrev o0 : PlainOp
       o0 = read_op Bit begun []
@@ -208,7 +208,7 @@ module _ (p : PlainProgram) (core : PlainCore) (h : HasMemories p core) (view : 
       -- whether a word is held, and the word
       step1 : GoOn p core view [] ops1 t s (at ∷ k ∷ []) (bk ∷ w ∷ [])
       step1 =
-          let register = g.agree.registers (begun, bk) kept in
+          let register = g.agree.registers (begun, Some bk) kept in
           one_more ops t s s (k ∷ []) (w ∷ []) o0 (touched [] bk) g.after at g refl
           (core_reads core begun [] g.after bk (ap (λ d. are_inside d []) added.has_none) (reg_word core begun (g.after begun) _ added.is_kind register.1)) g.agree
 
@@ -269,5 +269,5 @@ module _ (p : PlainProgram) (core : PlainCore) (h : HasMemories p core) (view : 
         entries = step6.all ++ touched [] 1 ∷ [];
         goes = ap (λ o. operations_after core view.around [] o t) (sym same_ops)
             ∙ ops_append p core view ops6 (o6 ∷ []) [] t step6.all step6.after step6.goes
-            ∙ last_goes step6.all step6.after (held_now step6.all step6.after step6.give.1 (step6.agree.registers (begun, bk) kept));
+            ∙ last_goes step6.all step6.after (held_now step6.all step6.after step6.give.1 (step6.agree.registers (begun, Some bk) kept));
       }

@@ -57,7 +57,7 @@ module _ (p : PlainProgram) (core : PlainCore) (h : HasMemories p core) (roomy :
   body_node = alone p kept (suc n) Pipe body
 
   abbrev inside : ℕ → View
-  inside w = record view { scope = with_val view.scope state ty; sources = kept; registers = (n, w) ∷ view.registers }
+  inside w = record view { scope = with_val view.scope state ty; sources = kept; registers = (n, Some w) ∷ view.registers }
 
   -- the binders stand in the register, and all else where it stood
   kept_as_before : (u : ℕ × Ty) → Contains view.scope.vals u → kept u.0 ≡ view.sources u.0
@@ -165,10 +165,10 @@ module _ (p : PlainProgram) (core : PlainCore) (h : HasMemories p core) (roomy :
         let x = taken_apart (word p.mems next) (λ after. step.pure (after, ran (shapes d.answer))) d.between (program_store.name_value d.store last w) answer rest after d.second in
         let here : Agree p core view [] c.store t = subst (λ y. Agree p core view [] y t) (sym fell.1) g.agree in
         let bound : Agree p core (record view { scope = with_val view.scope state ty; sources = kept }) [] (program_store.name_value c.store state w) t = agree_bound p core h view c.store t state w typed.3 here ty kept kept_as_before (subst (λ y. Finds p core view.around [] t y w) (sym state_kept) g.holds) in
-        let entered : Agree p core (inside w) [] (program_store.name_value c.store state w) t = agree_kept p core h (record view { scope = with_val view.scope state ty; sources = kept }) (program_store.name_value c.store state w) t (n, w) g.holds bound in
+        let entered : Agree p core (inside w) [] (program_store.name_value c.store state w) t = agree_kept p core h (record view { scope = with_val view.scope state ty; sources = kept }) (program_store.name_value c.store state w) t (n, Some w) g.holds bound in
         let fewer : c.between ≤ most = omega (arith, fell.0, enough) in
         let goes = followed w (program_store.name_value c.store state w) d.store t c.between d.between d.answer fewer entered d.first in
-        let out = agree_outside p core h view d.store goes.after state ty kept (n, w) kept_as_before goes.agree in
+        let out = agree_outside p core h view d.store goes.after state ty kept (n, Some w) kept_as_before goes.agree in
         let f = binder_word last w next ty typed.5 last_kept typed.6 d.store x.store goes.after d.between x.between x.answer (record { agree = out.0; holds = out.1 }) x.first in
         let put = state_takes next kept x.answer x.store goes.after f.1.agree f.2 in
         let same = unchanged (x.answer, ran (shapes d.answer)) answer x.between rest x.store after x.second in

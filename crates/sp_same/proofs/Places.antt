@@ -107,7 +107,7 @@ module _ (p : PlainProgram) (core : PlainCore) (h : HasMemories p core) where
       vals = λ v w. found_in (view.sources v.0) (s.values v.0) (a.vals v w);
       counts = a.counts;
       waiting = λ k v. waits_in k (a.waiting k v);
-      registers = λ x v. found_in (in_register x.0) x.1 (a.registers x v);
+      registers = λ x v. let f = a.registers x v in (f.0, register_stays x.0 f.0 ∙ f.1);
     }
 
   -- the same where it is a change of the core's store

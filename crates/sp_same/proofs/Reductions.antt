@@ -83,24 +83,24 @@ module _ (p : PlainProgram) (core : PlainCore) (h : HasMemories p core) (roomy :
   abbrev mems_owned : List ℕ
   mems_owned = map (mem_number p.mems) (own_mems body)
 
-  abbrev inside : counters.Scope → List (ℕ × ℕ) → View
+  abbrev inside : counters.Scope → List (ℕ × Option ℕ) → View
   inside around regs = record view { scope = with_counters view.scope loops; around = around; registers = regs }
 
   -- after the body's statements and the word
-  abbrev at_end : counters.Scope → List (ℕ × ℕ) → View
+  abbrev at_end : counters.Scope → List (ℕ × Option ℕ) → View
   at_end around regs = ended p core h roomy rooms most (inside around regs) body is body_typed apart own resets
 
-  acc_there : (around : counters.Scope) (regs : List (ℕ × ℕ)) → IsMem p (at_end around regs).scope acc Reg ty
+  acc_there : (around : counters.Scope) (regs : List (ℕ × Option ℕ)) → IsMem p (at_end around regs).scope acc Reg ty
   acc_there around regs = record { seen = after_mems (with_counters view.scope loops) body acc (subst (λ l. Contains l acc) (sym (same_mems view.scope loops)) is_acc.seen); is_kind = is_acc.is_kind; is_type = is_acc.is_type }
 
-  record Worded (around : counters.Scope) (regs : List (ℕ × ℕ)) (t : store.Store) (s : program_store.Store) (w : ℕ) (did : List program_shape.Shape) : Type 0 where
+  record Worded (around : counters.Scope) (regs : List (ℕ × Option ℕ)) (t : store.Store) (s : program_store.Store) (w : ℕ) (did : List program_shape.Shape) : Type 0 where
     renewed : List (Unit {0})
     start : store.Store
     renews : core_step.in_order (renew_in_body core plainly most) mems_owned t ≡ core_step.went renewed start
     goes : GoOn p core (at_end around regs) [] ops start s (x.word ∷ []) (w ∷ [])
     nothing_did : did ≡ []
 
-  worded : (around : counters.Scope) (regs : List (ℕ × ℕ)) (s s2 s3 : program_store.Store) (t : store.Store) (left between rest w : ℕ) (did : List program_shape.Shape) → Agree p core (inside around regs) [] s t
+  worded : (around : counters.Scope) (regs : List (ℕ × Option ℕ)) (s s2 s3 : program_store.Store) (t : store.Store) (left between rest w : ℕ) (did : List program_shape.Shape) → Agree p core (inside around regs) [] s t
       → run_all p.mems roomy body left s ≡ step.went did between s2 → word p.mems e between s2 ≡ step.went w rest s3 → Worded around regs t s3 w did
   worded around regs s s2 s3 t left between rest w did a goes word_goes =
       let r : Ran p core h roomy rooms most (inside around regs) body is body_typed apart own resets t s2 did = ran p core h roomy rooms most (inside around regs) body is body_typed apart own resets s s2 t left between did a goes in
@@ -209,11 +209,11 @@ module _ (p : PlainProgram) (core : PlainCore) (h : HasMemories p core) (roomy :
       abbrev around : counters.Scope
       around = in_group view.around ls vs
 
-      abbrev regs : List (ℕ × ℕ)
-      regs = (begun, bk) ∷ view.registers
+      abbrev regs : List (ℕ × Option ℕ)
+      regs = (begun, Some bk) ∷ view.registers
 
       entered_too : Agree p core (inside around regs) [] i.s1 t
-      entered_too = agree_kept p core h (inside around view.registers) i.s1 t (begun, bk) b i.entered
+      entered_too = agree_kept p core h (inside around view.registers) i.s1 t (begun, Some bk) b i.entered
 
       k : Worded around regs t i.s3 i.w i.did
       k = worded around regs i.s1 i.s2 i.s3 t i.left i.between i.later i.w i.did entered_too i.ran_on i.word_is

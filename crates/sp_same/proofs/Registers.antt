@@ -1,5 +1,5 @@
 -- A register that the compiler added takes a word, and what agreed still does.
-use Rattle.std.proofs.Common.{◌≡◌, ℕ, zero, suc, ◌<◌, List, [], ◌∷◌, Some, refl, sym, ◌∙◌, ap, subst, arith, ◌==◌}
+use Rattle.std.proofs.Common.{◌≡◌, ℕ, zero, suc, ◌<◌, List, [], ◌∷◌, Option, Some, refl, sym, ◌∙◌, ap, subst, arith, ◌==◌}
 use Rattle.std.proofs.lemmas.Bool.{eqb-true, eqb-false}
 use Rattle.std.specs.Prelude.{Contains}
 use Rattle.sp_words.specs.declared.types.Ty.{Ty}
@@ -21,6 +21,10 @@ use Rattle.sp_same.specs.Following.{SourceBefore, AreBefore}
 use Rattle.sp_same.proofs.Places.{register_apart}
 
 module _ (p : PlainProgram) (core : PlainCore) (h : HasMemories p core) (view : View) where
+  -- a register holds this in its cell
+  abbrev pub Keeps_cell : store.Store → ℕ × Option ℕ → Type 0
+  Keeps_cell t x = IsAdded p core x.0 × (t x.0 ≡ Some (cells (x.1 ∷ [])))
+
   -- a register after all that are kept
   module _ (done : List Entry) (s : program_store.Store) (t : store.Store) (n w : ℕ) (added : IsAdded p core n) (before : AreBefore n view) (a : Agree p core view done s t) where
     abbrev held : store.Store
@@ -46,7 +50,7 @@ module _ (p : PlainProgram) (core : PlainCore) (h : HasMemories p core) (view : 
       vals = λ v c. still_found (view.sources v.0) (s.values v.0) (before.0 v c) (a.vals v c);
       counts = a.counts;
       waiting = λ m c. still_waits m (a.waiting m c);
-      registers = λ x c. still_found (in_register x.0) x.1 (before.1 x c) (a.registers x c);
+      registers = λ x c. let f = a.registers x c in (f.0, changed_elsewhere t n x.0 (Some (cells (Some w ∷ []))) (λ e. omega (arith, e, before.1 x c)) ∙ f.1);
     }
 
   -- a value of a fresh name takes a word
@@ -85,8 +89,8 @@ module _ (p : PlainProgram) (core : PlainCore) (h : HasMemories p core) (view : 
             (subst (λ x. Finds p core view.around [] t (view.sources u.0) x) (sym (kept_value u seen)) (a.vals u seen))
 
   -- what is visible outside, and a register that is kept inside
-  pub agree_outside : (s : program_store.Store) (t : store.Store) (v : ℕ) (ty : Ty) (sources : Sources) (x : ℕ × ℕ) → ((u : ℕ × Ty) → Contains view.scope.vals u → sources u.0 ≡ view.sources u.0)
-      → Agree p core (record view { scope = with_val view.scope v ty; sources = sources; registers = x ∷ view.registers }) [] s t → Agree p core view [] s t × Finds p core view.around [] t (in_register x.0) x.1
+  pub agree_outside : (s : program_store.Store) (t : store.Store) (v : ℕ) (ty : Ty) (sources : Sources) (x : ℕ × Option ℕ) → ((u : ℕ × Ty) → Contains view.scope.vals u → sources u.0 ≡ view.sources u.0)
+      → Agree p core (record view { scope = with_val view.scope v ty; sources = sources; registers = x ∷ view.registers }) [] s t → Agree p core view [] s t × Keeps_cell t x
   agree_outside s t v ty sources x same a = (
     record {
       mems = a.mems;
@@ -99,7 +103,7 @@ module _ (p : PlainProgram) (core : PlainCore) (h : HasMemories p core) (view : 
   )
 
   -- a register that holds a word is kept from now on
-  pub agree_kept : (s : program_store.Store) (t : store.Store) (x : ℕ × ℕ) → Finds p core view.around [] t (in_register x.0) x.1 → Agree p core view [] s t → Agree p core (record view { registers = x ∷ view.registers }) [] s t
+  pub agree_kept : (s : program_store.Store) (t : store.Store) (x : ℕ × Option ℕ) → Keeps_cell t x → Agree p core view [] s t → Agree p core (record view { registers = x ∷ view.registers }) [] s t
   agree_kept s t x f a = record {
     mems = a.mems;
     vals = a.vals;
@@ -108,6 +112,6 @@ module _ (p : PlainProgram) (core : PlainCore) (h : HasMemories p core) (view : 
     registers = kept;
   }
     where
-      kept : (y : ℕ × ℕ) → Contains (x ∷ view.registers) y → Finds p core view.around [] t (in_register y.0) y.1
-      kept y (zero, lt, e) = subst (λ (z : ℕ × ℕ). Finds p core view.around [] t (in_register z.0) z.1) e f
+      kept : (y : ℕ × Option ℕ) → Contains (x ∷ view.registers) y → Keeps_cell t y
+      kept y (zero, lt, e) = subst (λ (z : ℕ × Option ℕ). Keeps_cell t z) e f
       kept y (suc j, lt, e) = a.registers y (j, omega arith, e)

@@ -81,7 +81,7 @@ module _ (p : PlainProgram) (core : PlainCore) (h : HasMemories p core) where
           unseen = x.unseen;
           holds = λ f. still (mem_number p.mems k) (λ e. apart (subst (λ y. Contains view.waiting y) (numbers_apart p.mems k m x.exists own.exists x.on_chip own.on_chip e) c)) ∙ x.holds f;
         };
-        registers = λ x c. still_found (in_register x.0) x.1 (a.registers x c);
+        registers = λ x c. let f = a.registers x c in (f.0, still x.0 (λ e. omega (arith, e, number_below p.mems m own.exists own.on_chip, f.0.after)) ∙ f.1);
       }) (λ f. changed_here t n n (Some contents) refl)
 
     -- an owner makes it fresh

@@ -43,7 +43,7 @@ SourceBefore n (in_register r) = r < n
 SourceBefore n _ = Unit {0}
 
 abbrev pub AreBefore : ℕ → View → Type 0
-AreBefore n view = ((v : ℕ × Ty) → Contains view.scope.vals v → SourceBefore n (view.sources v.0)) × ((x : ℕ × ℕ) → Contains view.registers x → SourceBefore n (in_register x.0))
+AreBefore n view = ((v : ℕ × Ty) → Contains view.scope.vals v → SourceBefore n (view.sources v.0)) × ((x : ℕ × Option ℕ) → Contains view.registers x → x.0 < n)
 
 -- a memory on the chip that isn't visible
 pub record IsOwn (p : PlainProgram) (scope : Scope) (m : ℕ) : Type 0 where

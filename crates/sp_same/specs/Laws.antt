@@ -1,5 +1,5 @@
 -- Laws of what cores mean, as statements.
-use Rattle.std.specs.Prelude.{◌≡◌, ℕ, suc, ◌+◌, ◌≤◌, Bool, false, IsTrue, List, [], ◌∷◌, ◌++◌, length, Contains}
+use Rattle.std.specs.Prelude.{◌≡◌, ℕ, suc, ◌+◌, ◌≤◌, Bool, false, IsTrue, List, [], ◌∷◌, ◌++◌, length, Contains, Some}
 use Rattle.sp_words.specs.declared.kind.Style.{Style}
 use Rattle.sp_words.specs.declared.kind.Style.TheVariants.{Pipe}
 use Rattle.sp_words.specs.declared.types.Ty.TheVariants.{Bit}
@@ -99,7 +99,7 @@ IsMachineFollowed p roomy core body =
     (most : ℕ) (view : View) (start : PlainExpr) (tested : ℕ) (test : PlainExpr) (state last : ℕ) (next : PlainExpr) (b n place : ℕ) (s after : program_store.Store) (t : store.Store) (left rest : ℕ) (did : List Shape)
     → let kept : Sources = with_state view.sources tested state last n in
     HasMemories p core → StmtTyped p view.scope (fsm start tested test state body last next) → IsAdded p core n → AreBefore n view → left ≤ most → Agree p core view [] s t
-    → ((w : ℕ) → BodyFollowed p core roomy most (record view { scope = with_val view.scope state (type_of start); sources = kept; registers = (n, w) ∷ view.registers }) (alone p kept (suc n) Pipe body) body)
+    → ((w : ℕ) → BodyFollowed p core roomy most (record view { scope = with_val view.scope state (type_of start); sources = kept; registers = (n, Some w) ∷ view.registers }) (alone p kept (suc n) Pipe body) body)
     → run_kind p.mems roomy (fsm start tested test state body last next) place left s ≡ program_step.went did rest after
     → NodeGoes p core most view (node p.mems (length p.counters) view.sources b n (fsm start tested test state body last next)) t after did
 
