@@ -27,7 +27,8 @@ use Rattle.sp_core.specs.Step as core_step
 use Rattle.sp_core.specs.Step.{went, pure}
 use Rattle.sp_core.specs.Store as store
 use Rattle.sp_desugar.specs.Agreement.{HasMemories, View, IsAdded, Agree, GoOn}
-use Rattle.sp_desugar.specs.Early.{is_early, is_early_slice, is_early_part, parts_of, after, into_register, stage_of, bound_stages, slice_ops, slice_stage}
+use Rattle.sp_desugar.specs.Early.{is_early, is_early_slice, is_early_part, parts_of, registers_for, after, into_register, stage_of, bound_stages, slice_ops, slice_stage}
+use Rattle.sp_desugar.specs.Numbers.{crossing_register}
 use Rattle.sp_desugar.specs.Operations.{Code, write_op, code}
 use Rattle.sp_desugar.specs.Values.{Source, at_place, in_register, constant, count}
 use Rattle.sp_desugar.proofs.Follows.{follows}
@@ -36,14 +37,14 @@ use Rattle.sp_desugar.proofs.MemoryLemmas.{changed_here, changed_elsewhere, core
 use Rattle.sp_desugar.proofs.NumberLemmas.{either}
 use Rattle.sp_desugar.proofs.StepLemmas.{same_answer, then_on}
 use Rattle.sp_same.specs.Counts.{Count, counts_of, stage_counts}
-use Rattle.sp_same.specs.Following.{SourceBefore, AreBefore, HoldsWord, AreReady, AreCells, EarlyGoes}
+use Rattle.sp_same.specs.Following.{SourceBefore, AreSpare, HoldsWord, AreReady, AreCells, EarlyGoes}
 use Rattle.sp_same.proofs.Groups.{inner_alone}
 use Rattle.sp_same.proofs.Registers.{agree_written}
 use Rattle.sp_same.proofs.StillOps.{ops_still, code_still}
 
--- a register further on is after all that are kept, too
-pub further : (n m : ℕ) (view : View) → n ≤ m → AreBefore n view → AreBefore m view
-further n m view le before = (λ v c. more (view.sources v.0) (before.0 v c), λ x c. omega (arith, le, before.1 x c))
+-- some of them are spare, too
+pub further : (n k j m : ℕ) (view : View) → n ≤ k → j ≤ m → AreSpare n m view → AreSpare k j view
+further n m j last view le under before = (λ v c. more (view.sources v.0) (before.0 v c), λ x c k a b e. before.1 x c k (omega (arith, le, a)) (omega (arith, under, b)) e)
   where
     more : (source : Source) → SourceBefore n source → SourceBefore m source
     more (at_place k) b = tt
@@ -68,7 +69,7 @@ module _ (p : PlainProgram) (core : PlainCore) (h : HasMemories p core) (most : 
     counted : length all ≡ length done + length ops
     agree : Agree p core view all s (store.hold t r (cells (Some w ∷ [])))
 
-  module _ (done : List Entry) (t : store.Store) (r : ℕ) (e : PlainExpr) (w : ℕ) (at : ℕ) (same : at ≡ length done) (typed : HasTypeStill p view.scope int_type e) (is : word p.mems e left s ≡ step.went w left s) (added : IsAdded p core r) (o : Option ℕ) (cell : t r ≡ Some (cells (o ∷ []))) (before : AreBefore r view) (a : Agree p core view done s t) where
+  module _ (done : List Entry) (t : store.Store) (r : ℕ) (e : PlainExpr) (w : ℕ) (at : ℕ) (same : at ≡ length done) (typed : HasTypeStill p view.scope int_type e) (is : word p.mems e left s ≡ step.went w left s) (added : IsAdded p core r) (o : Option ℕ) (cell : t r ≡ Some (cells (o ∷ []))) (before : AreSpare r (suc r) view) (a : Agree p core view done s t) where
     abbrev x : Code
     x = code p.mems view.sources at e
 
@@ -154,6 +155,14 @@ module _ (p : PlainProgram) (core : PlainCore) (h : HasMemories p core) (most : 
   later_cells : (crosses : PlainExpr → Bool) (r : ℕ) (e : PlainExpr) (es : List PlainExpr) (t : store.Store) (b : Bool) → crosses e ≡ b → AreCells p core crosses t r (e ∷ es) → AreCells p core crosses t (if b then suc r else r) es
   later_cells crosses r e es t b f c = subst (λ b. AreCells p core crosses t (if b then suc r else r) es) f c.1
 
+  -- how many registers there are
+  count_later : (crosses : PlainExpr → Bool) (e : PlainExpr) (es : List PlainExpr) (b : Bool) → crosses e ≡ b → length (registers_for crosses (e ∷ es)) ≡ (if b then suc (length (registers_for crosses es)) else length (registers_for crosses es))
+  count_later crosses e es b f = ap (λ b. length ((if b then crossing_register int_type ∷ [] else []) ++ registers_for crosses es)) f ∙ count_by_choice b
+    where
+      count_by_choice : (b : Bool) → length ((if b then crossing_register int_type ∷ [] else []) ++ registers_for crosses es) ≡ (if b then suc (length (registers_for crosses es)) else length (registers_for crosses es))
+      count_by_choice true = refl
+      count_by_choice false = refl
+
   -- bounds, a stage each
   abbrev Continues : (PlainStages → PlainStages) → (t u : store.Store) → Type 0
   Continues early t u =
@@ -166,16 +175,17 @@ module _ (p : PlainProgram) (core : PlainCore) (h : HasMemories p core) (most : 
     placed : Placed_words is_early r es t end
     goes : Continues (bound_stages p.mems view.sources r es) t end
 
-  bounds_put : (r : ℕ) (es : List PlainExpr) (t : store.Store) → AreStill es → HaveWords es → AreCells p core is_early t r es → AreBefore r view → Agree p core view [] s t → Bounds_put r es t
-  bounds_put r [] t still words cs before a = record { end = t; agree = a; placed = record { ready = tt; leaves = λ k lt. refl }; goes = λ rest live runs end l later. (runs, later, refl) }
-  bounds_put r (e ∷ es) t still words cs before a = either (is_early e)
+  bounds_put : (last r : ℕ) (es : List PlainExpr) (t : store.Store) → r + length (registers_for is_early es) ≤ last → AreStill es → HaveWords es → AreCells p core is_early t r es → AreSpare r last view → Agree p core view [] s t → Bounds_put r es t
+  bounds_put last r [] t fits still words cs before a = record { end = t; agree = a; placed = record { ready = tt; leaves = λ k lt. refl }; goes = λ rest live runs end l later. (runs, later, refl) }
+  bounds_put last r (e ∷ es) t fits still words cs before a = either (is_early e)
       (λ f.
       let w : ℕ = words.0.0 in
       let cell = cs.0 f in
-      let one = put [] t r e w 0 refl still.0 words.0.1 cell.0 cell.1.0 cell.1.1 before a in
+      let spare : AreSpare r (suc r) view = further r r (suc r) last view (omega arith) (omega (arith, fits, count_later is_early e es true f)) before in
+      let one = put [] t r e w 0 refl still.0 words.0.1 cell.0 cell.1.0 cell.1.1 spare a in
       let u : store.Store = store.hold t r (cells (Some w ∷ [])) in
-      let more = bounds_put (suc r) es u still.1 words.1 (cells_still is_early t r w (suc r) es (omega arith) (later_cells is_early r e es t true f cs)) (further r (suc r) view (omega arith) before)
-      (agree_written p core h view [] s t r w cell.0 before a) in
+      let more = bounds_put last (suc r) es u (omega (arith, fits, count_later is_early e es true f)) still.1 words.1 (cells_still is_early t r w (suc r) es (omega arith) (later_cells is_early r e es t true f cs)) (further r (suc r) last last view (omega arith) (omega arith) before)
+      (agree_written p core h view [] s t r w cell.0 spare a) in
       record {
         end = more.end;
         agree = more.agree;
@@ -188,7 +198,7 @@ module _ (p : PlainProgram) (core : PlainCore) (h : HasMemories p core) (most : 
             (sym f) (more_run (inner_ran [] [] (one.all ∷ [])) i.0, g.0, g.1 ∙ i.2);
       })
       (λ f.
-      let more = bounds_put r es t still.1 words.1 (later_cells is_early r e es t false f cs) before a in
+      let more = bounds_put last r es t (omega (arith, fits, count_later is_early e es false f)) still.1 words.1 (later_cells is_early r e es t false f cs) before a in
       record {
         end = more.end;
         agree = more.agree;
@@ -207,21 +217,22 @@ module _ (p : PlainProgram) (core : PlainCore) (h : HasMemories p core) (most : 
     agree : Agree p core view [] s end
     placed : Placed_words crosses r es t end
 
-  parts_put : (crosses : PlainExpr → Bool) (done : List Entry) (at r : ℕ) (es : List PlainExpr) (t : store.Store) → at ≡ length done → AreStill es → HaveWords es → AreCells p core crosses t r es → AreBefore r view → Agree p core view [] s t → Agree p core view done s t
+  parts_put : (crosses : PlainExpr → Bool) (last : ℕ) (done : List Entry) (at r : ℕ) (es : List PlainExpr) (t : store.Store) → r + length (registers_for crosses es) ≤ last → at ≡ length done → AreStill es → HaveWords es → AreCells p core crosses t r es → AreSpare r last view → Agree p core view [] s t → Agree p core view done s t
       → Parts_put crosses done r es t (slice_ops p.mems view.sources crosses at r es)
   unfolding operations_after pure
-  parts_put crosses done at r [] t same still words cs before a b = record { all = done; end = t; goes = refl; agree = a; placed = record { ready = tt; leaves = λ k lt. refl } }
-  parts_put crosses done at r (e ∷ es) t same still words cs before a b =
+  parts_put crosses last done at r [] t fits same still words cs before a b = record { all = done; end = t; goes = refl; agree = a; placed = record { ready = tt; leaves = λ k lt. refl } }
+  parts_put crosses last done at r (e ∷ es) t fits same still words cs before a b =
       let chosen : Bool → List PlainOp = λ c. let first : List PlainOp = if c then into_register p.mems view.sources at r e else [] in first ++ slice_ops p.mems view.sources crosses (at + length first) (if c then suc r else r) es in
       either (crosses e)
       (λ f.
       let w : ℕ = words.0.0 in
       let cell = cs.0 f in
-      let one = put done t r e w at same still.0 words.0.1 cell.0 cell.1.0 cell.1.1 before b in
+      let spare : AreSpare r (suc r) view = further r r (suc r) last view (omega arith) (omega (arith, fits, count_later crosses e es true f)) before in
+      let one = put done t r e w at same still.0 words.0.1 cell.0 cell.1.0 cell.1.1 spare b in
       let u : store.Store = store.hold t r (cells (Some w ∷ [])) in
       let ops : List PlainOp = into_register p.mems view.sources at r e in
-      let more = parts_put crosses one.all (at + length ops) (suc r) es u (omega (arith, same, one.counted)) still.1 words.1 (cells_still crosses t r w (suc r) es (omega arith) (later_cells crosses r e es t true f cs)) (further r (suc r) view (omega arith) before)
-      (agree_written p core h view [] s t r w cell.0 before a) one.agree in
+      let more = parts_put crosses last one.all (at + length ops) (suc r) es u (omega (arith, fits, count_later crosses e es true f)) (omega (arith, same, one.counted)) still.1 words.1 (cells_still crosses t r w (suc r) es (omega arith) (later_cells crosses r e es t true f cs)) (further r (suc r) last last view (omega arith) (omega arith) before)
+      (agree_written p core h view [] s t r w cell.0 spare a) one.agree in
       subst (λ c. Parts_put crosses done r (e ∷ es) t (chosen c)) (sym f) (record {
         all = more.all;
         end = more.end;
@@ -230,7 +241,7 @@ module _ (p : PlainProgram) (core : PlainCore) (h : HasMemories p core) (most : 
         placed = one_placed crosses r w e es t more.end f cell.0 words.0.1 more.placed;
       }))
       (λ f.
-      let more = parts_put crosses done (at + 0) r es t (omega (arith, same)) still.1 words.1 (later_cells crosses r e es t false f cs) before a b in
+      let more = parts_put crosses last done (at + 0) r es t (omega (arith, fits, count_later crosses e es false f)) (omega (arith, same)) still.1 words.1 (later_cells crosses r e es t false f cs) before a b in
       subst (λ c. Parts_put crosses done r (e ∷ es) t (chosen c)) (sym f) (record {
         all = more.all;
         end = more.end;
@@ -244,17 +255,17 @@ module _ (p : PlainProgram) (core : PlainCore) (h : HasMemories p core) (most : 
   none_early crosses r [] t f = tt
   none_early crosses r (e ∷ es) t f = (λ k. absurd (false≢true (sym (f e) ∙ k)), none_early crosses (after crosses r e) es t f)
 
-  pub bounds_early : (r : ℕ) (es : List PlainExpr) (t : store.Store) → AreStill es → HaveWords es → AreCells p core is_early t r es → AreBefore r view → Agree p core view [] s t
+  pub bounds_early : (r : ℕ) (es : List PlainExpr) (t : store.Store) → AreStill es → HaveWords es → AreCells p core is_early t r es → AreSpare r (r + length (registers_for is_early es)) view → Agree p core view [] s t
       → EarlyGoes p core most view is_early es r (bound_stages p.mems view.sources r es) left t s
-  bounds_early r es t still words cs before a = let g = bounds_put r es t still words cs before a in record { after = g.end; agree = g.agree; ready = g.placed.ready; goes = g.goes }
+  bounds_early r es t still words cs before a = let g = bounds_put (r + length (registers_for is_early es)) r es t (omega arith) still words cs before a in record { after = g.end; agree = g.agree; ready = g.placed.ready; goes = g.goes }
 
-  pub slice_early : (r : ℕ) (spans : List PlainSpan) (t : store.Store) → AreStill (parts_of spans) → HaveWords (parts_of spans) → AreCells p core (is_early_part spans) t r (parts_of spans) → AreBefore r view → Agree p core view [] s t
+  pub slice_early : (r : ℕ) (spans : List PlainSpan) (t : store.Store) → AreStill (parts_of spans) → HaveWords (parts_of spans) → AreCells p core (is_early_part spans) t r (parts_of spans) → AreSpare r (r + length (registers_for (is_early_part spans) (parts_of spans))) view → Agree p core view [] s t
       → EarlyGoes p core most view (is_early_part spans) (parts_of spans) r (slice_stage p.mems view.sources r spans) left t s
   slice_early r spans t still words cs before a =
       let ops : List PlainOp = slice_ops p.mems view.sources (is_early_part spans) 0 r (parts_of spans) in
       either (is_early_slice spans)
       (λ f.
-      let g = parts_put (is_early_part spans) [] 0 r (parts_of spans) t refl still words cs before a a in
+      let g = parts_put (is_early_part spans) (r + length (registers_for (is_early_part spans) (parts_of spans))) [] 0 r (parts_of spans) t (omega arith) refl still words cs before a a in
       subst (λ b. EarlyGoes p core most view (is_early_part spans) (parts_of spans) r (λ rest. if b then stage_of ops rest else rest) left t s) (sym f)
       (record { after = g.end; agree = g.agree; ready = g.placed.ready; goes = λ rest live runs end l later. let i = stage_goes ops t g.end g.all g.goes rest live runs end l later in (more_run (inner_ran [] [] (g.all ∷ [])) runs, i.0, i.1) }))
       (λ f.

@@ -1,5 +1,5 @@
 -- The bounds, slices and counts of a statement that goes on have words.
-use Rattle.std.proofs.Common.{◌≡◌, ℕ, Bool, List, [], ◌∷◌, refl, sym, ◌∙◌, ap}
+use Rattle.std.proofs.Common.{◌≡◌, ℕ, ◌+◌, Bool, List, [], ◌∷◌, refl, sym, ◌∙◌, ap}
 use Rattle.std.specs.Prelude.{map, length}
 use Rattle.sp_words.specs.Types.{int_type}
 use Rattle.sp_tree.specs.Elements.{index_value, natural, counter_words, tuples}
@@ -17,9 +17,9 @@ use Rattle.sp_tree.specs.Typing.{Scope, Typed, HasTypeStill, BoundsTyped, SpansT
 use Rattle.sp_core.specs.PlainCore.{PlainCore}
 use Rattle.sp_core.specs.Store as store_of
 use Rattle.sp_desugar.specs.Agreement.{HasMemories, View, Agree}
-use Rattle.sp_desugar.specs.Early.{bounds_of, parts_of, is_early, early_stages}
+use Rattle.sp_desugar.specs.Early.{bounds_of, parts_of, is_early, registers_for, early_stages}
 use Rattle.sp_desugar.proofs.StepLemmas.{taken_apart}
-use Rattle.sp_same.specs.Following.{AreBefore, AreCells, EarlyGoes}
+use Rattle.sp_same.specs.Following.{AreSpare, AreCells, EarlyGoes}
 use Rattle.sp_same.specs.Laws.{crosses_in, words_in}
 use Rattle.sp_same.proofs.EarlyStages.{HaveWords, AreStill, bounds_early, slice_early}
 use Rattle.sp_same.proofs.StillWords.{unchanged, word_still}
@@ -76,43 +76,43 @@ module _ (p : PlainProgram) (core : PlainCore) (h : HasMemories p core) (most : 
       ((typed.0, (typed.1, more.0)), (x.2, (y.2, more.1)))
 
   -- a statement without early words has no stage before it
-  module _ (b : ℕ) (t : store_of.Store) (before : AreBefore b view) (a : Agree p core view [] s t) where
+  module _ (b : ℕ) (t : store_of.Store) (a : Agree p core view [] s t) where
     nothing_early : (crosses : PlainExpr → Bool) → EarlyGoes p core most view crosses [] b (λ rest. rest) left t s
     nothing_early crosses = record { after = t; agree = a; ready = tt; goes = λ rest live runs end l later. (runs, later, refl) }
 
-    pub early_goes : (roomy : List ℕ) (kind : PlainStmtKind) (place rest : ℕ) (after : program_store.Store) (did : List Shape) → StmtTyped p view.scope kind → AreCells p core (crosses_in kind) t b (words_in kind) → run_kind p.mems roomy kind place left s ≡ went did rest after
+    pub early_goes : (roomy : List ℕ) (kind : PlainStmtKind) (place rest : ℕ) (after : program_store.Store) (did : List Shape) → StmtTyped p view.scope kind → AreSpare b (b + length (registers_for (crosses_in kind) (words_in kind))) view → AreCells p core (crosses_in kind) t b (words_in kind) → run_kind p.mems roomy kind place left s ≡ went did rest after
         → EarlyGoes p core most view (crosses_in kind) (words_in kind) b (early_stages p.mems view.sources b kind) left t s
     unfolding run_kind
-    early_goes roomy (load_sram sram dram spans) place rest after did typed cells e =
+    early_goes roomy (load_sram sram dram spans) place rest after did typed before cells e =
         let x = taken_apart (in_order (part p.mems) spans) _ left s did rest after e in
         let w = spans_words spans x.answer x.between x.store typed.1.spans_typed x.first in
         slice_early p core h most view left s b spans t w.0 w.1 cells before a
-    early_goes roomy (load_line line dram spans) place rest after did typed cells e =
+    early_goes roomy (load_line line dram spans) place rest after did typed before cells e =
         let x = taken_apart (in_order (part p.mems) spans) _ left s did rest after e in
         let w = spans_words spans x.answer x.between x.store typed.1.spans_typed x.first in
         slice_early p core h most view left s b spans t w.0 w.1 cells before a
-    early_goes roomy (store dram spans sram) place rest after did typed cells e =
+    early_goes roomy (store dram spans sram) place rest after did typed before cells e =
         let x = taken_apart (in_order (part p.mems) spans) _ left s did rest after e in
         let w = spans_words spans x.answer x.between x.store typed.1.spans_typed x.first in
         slice_early p core h most view left s b spans t w.0 w.1 cells before a
-    early_goes roomy (gather sram dram places n) place rest after did typed cells e =
+    early_goes roomy (gather sram dram places n) place rest after did typed before cells e =
         let x = taken_apart (word p.mems n) _ left s did rest after e in
         let w = one_word n x.between x.answer x.store typed.1.how_many x.first in
         bounds_early p core h most view left s b (n ∷ []) t (typed.1.how_many, tt) (w.2, tt) cells before a
-    early_goes roomy (scatter dram places n sram) place rest after did typed cells e =
+    early_goes roomy (scatter dram places n sram) place rest after did typed before cells e =
         let x = taken_apart (word p.mems n) _ left s did rest after e in
         let w = one_word n x.between x.answer x.store typed.1.how_many x.first in
         bounds_early p core h most view left s b (n ∷ []) t (typed.1.how_many, tt) (w.2, tt) cells before a
-    early_goes roomy (foreach style loops body) place rest after did typed cells e =
+    early_goes roomy (foreach style loops body) place rest after did typed before cells e =
         let x = taken_apart (in_order (counter_range p.mems) loops) _ left s did rest after e in
         let w = bounds_words loops x.answer x.between x.store typed.1.bounds x.first in
         bounds_early p core h most view left s b (bounds_of loops) t w.0 w.1 cells before a
-    early_goes roomy (reduce style fold acc loops body word comb) place rest after did typed cells e =
+    early_goes roomy (reduce style fold acc loops body word comb) place rest after did typed before cells e =
         let x = taken_apart (in_order (counter_range p.mems) loops) _ left s did rest after e in
         let w = bounds_words loops x.answer x.between x.store typed.1.bounds x.first in
         bounds_early p core h most view left s b (bounds_of loops) t w.0 w.1 cells before a
-    early_goes roomy (mem_reduce style acc loops body part comb) place rest after did typed cells e =
+    early_goes roomy (mem_reduce style acc loops body part comb) place rest after did typed before cells e =
         let x = taken_apart (in_order (counter_range p.mems) loops) _ left s did rest after e in
         let w = bounds_words loops x.answer x.between x.store typed.1.bounds x.first in
         bounds_early p core h most view left s b (bounds_of loops) t w.0 w.1 cells before a
-    early_goes roomy _ place rest after did typed cells e = nothing_early is_early
+    early_goes roomy _ place rest after did typed before cells e = nothing_early is_early

@@ -35,7 +35,7 @@ use Rattle.sp_desugar.proofs.MemoryLemmas.{changed_here, changed_elsewhere}
 use Rattle.sp_desugar.proofs.NumberLemmas.{either}
 use Rattle.sp_desugar.proofs.StepLemmas.{as_it_went, not_more, same_answer, same_left, same_store, taken_apart, then_on}
 use Rattle.sp_same.specs.Counts.{Count, turns, counts_in, counts_in_all, counts_of, body_counts, turn_count}
-use Rattle.sp_same.specs.Following.{AreBefore, NodeGoes, BodyFollowed, alone}
+use Rattle.sp_same.specs.Following.{AreSpare, NodeGoes, BodyFollowed, alone}
 use Rattle.sp_same.proofs.LoopNodes.{no_more_counts}
 use Rattle.sp_same.proofs.Registers.{agree_written, agree_besides, agree_bound, agree_outside, agree_kept}
 use Rattle.sp_same.proofs.StillWords.{is_no_fifo, unchanged, word_still}
@@ -43,7 +43,7 @@ use Rattle.sp_same.proofs.Turns.{body_falls, turn_falls}
 use Rattle.sp_same.proofs.WordsTaken.{Takes, word_taken}
 
 module _ (p : PlainProgram) (core : PlainCore) (h : HasMemories p core) (roomy : List ℕ) (most : ℕ) (view : View) (b n place : ℕ) (start : PlainExpr) (tested : ℕ) (test : PlainExpr) (state : ℕ) (body : PlainStmts) (last : ℕ) (next : PlainExpr)
-    (typed : StmtTyped p view.scope (fsm start tested test state body last next)) (added : IsAdded p core n) (before : AreBefore n view) where
+    (typed : StmtTyped p view.scope (fsm start tested test state body last next)) (added : IsAdded p core n) (before : AreSpare n (suc n) view) where
   abbrev ty : Ty
   ty = type_of start
 

@@ -49,7 +49,7 @@ use Rattle.sp_desugar.proofs.MemoryLemmas.{changed_here}
 use Rattle.sp_desugar.proofs.NumberLemmas.{either}
 use Rattle.sp_desugar.proofs.StepLemmas.{as_it_went, same_answer, same_store, taken_apart, then_on}
 use Rattle.sp_same.specs.Counts.{Count, loop, counts_in, counts_in_all, counts_of as node_counts}
-use Rattle.sp_same.specs.Following.{SourcesSeen, AreBefore, IsOwn, AreReady, NodeGoes}
+use Rattle.sp_same.specs.Following.{SourcesSeen, AreSpare, IsOwn, AreReady, NodeGoes}
 use Rattle.sp_same.proofs.BoundsTaken.{IsLoop, IsLive, core_loops, AreLoops, are_loops, SameValues, iterations, bounds_taken}
 use Rattle.sp_same.proofs.Combining.{same_combined, fold_goes, Reduced, reads, reduce_goes}
 use Rattle.sp_same.proofs.Counting.{enter, outside, leave}
@@ -191,14 +191,14 @@ module _ (p : PlainProgram) (core : PlainCore) (h : HasMemories p core) (roomy :
       )
 
   -- a Reduce, by the register that tells whether it has begun
-  module _ (begun : ℕ) (added : IsAdded p core begun) (before : AreBefore begun view) where
+  module _ (begun : ℕ) (added : IsAdded p core begun) (before : AreSpare begun (suc begun) view) where
     abbrev reduce_body : List PlainOp
     reduce_body = ops ++ reduce_ops (length ops) x.word (mem_number p.mems acc) begun ty comb
 
     abbrev Begun : ℕ → store.Store → Type 0
     Begun bk t = Finds p core view.around [] t (in_register begun) bk
 
-    before_inside : (around : counters.Scope) → AreBefore begun (inside around view.registers)
+    before_inside : (around : counters.Scope) → AreSpare begun (suc begun) (inside around view.registers)
     before_inside around = (λ v c. before.0 v (subst (λ l. Contains l v) (same_vals view.scope loops) c), before.1)
 
     abbrev Finished : (bk : ℕ) → List Loop → List ℤ → program_store.Store → store.Store → program_shape.Shape → Type 0
@@ -313,7 +313,7 @@ module _ (p : PlainProgram) (core : PlainCore) (h : HasMemories p core) (roomy :
       all_pairs (x ∷ xs) [] q = absurd q
       all_pairs (x ∷ xs) (y ∷ ys) q = ((refl, q.0), all_combine ls xs ys q.1)
 
-  module _ (begun : ℕ) (added : IsAdded p core begun) (before : AreBefore begun view) where
+  module _ (begun : ℕ) (added : IsAdded p core begun) (before : AreSpare begun (suc begun) view) where
     all_reduced : (ls : List Loop) (numbers : Pairs IsLoop loops ls) (xs : List (List ℕ)) (ys : List (List ℤ)) (left rest : ℕ) (s after : program_store.Store) (t : store.Store) (al : List program_shape.Shape) → Pairs (SameValues p view.sources ls) xs ys → Agree p core view [] s t → Finds p core view.around [] t (in_register begun) 0
         → step.in_order iteration (combining false xs) left s ≡ step.went al rest after → All_ran (core_iteration begun added before ls) ys t al after
     unfolding step.in_order step.pure core_step.in_order core_step.pure counts_in_all
@@ -394,7 +394,7 @@ module _ (p : PlainProgram) (core : PlainCore) (h : HasMemories p core) (roomy :
         (looped_goes fold_body (Some place_in) first.0 first.1 first.2
         (λ ls numbers xs ys left rest after al q g. all_folded ls numbers xs ys left rest s after t al q a (ap (λ c. step.in_order iteration (combining c xs) left s) (sym f) ∙ g))))
 
-    reduced : (n begun : ℕ) → fold ≡ false → IsAdded p core begun → AreBefore begun view → Finds p core view.around [] t (in_register begun) 0 → Goes (node_of n (reduces (mem_number p.mems acc) begun comb e))
+    reduced : (n begun : ℕ) → fold ≡ false → IsAdded p core begun → AreSpare begun (suc begun) view → Finds p core view.around [] t (in_register begun) 0 → Goes (node_of n (reduces (mem_number p.mems acc) begun comb e))
     reduced n begun f added before b0 =
         let first = first_counter p view.sources b loops typed.one_to_four.0 in
         let other : PlainNode = outer_node p.mems (length p.counters) n cs style body (ending_of loops e) (stages p.mems (length p.counters) (no_run view.sources) n body (ending_of loops e) (reduces (mem_number p.mems acc) begun comb e)) in
@@ -404,7 +404,7 @@ module _ (p : PlainProgram) (core : PlainCore) (h : HasMemories p core) (roomy :
         (looped_goes (reduce_body begun added before) (Some place_in) first.0 first.1 first.2
         (λ ls numbers xs ys left rest after al q g. all_reduced begun added before ls numbers xs ys left rest s after t al q a b0 (ap (λ c. step.in_order iteration (combining c xs) left s) (sym f) ∙ g))))
 
-    pub reduction_goes : (n : ℕ) → (fold ≡ false → IsAdded p core (b + length (registers_for is_early (bounds_of loops))) × AreBefore (b + length (registers_for is_early (bounds_of loops))) view × Finds p core view.around [] t (in_register (b + length (registers_for is_early (bounds_of loops)))) 0)
+    pub reduction_goes : (n : ℕ) → (fold ≡ false → IsAdded p core (b + length (registers_for is_early (bounds_of loops))) × AreSpare (b + length (registers_for is_early (bounds_of loops))) (suc (b + length (registers_for is_early (bounds_of loops)))) view × Finds p core view.around [] t (in_register (b + length (registers_for is_early (bounds_of loops)))) 0)
         → Goes (node p.mems (length p.counters) view.sources b n (reduce style fold acc loops body e comb))
     unfolding node
     reduction_goes n ready_too =

@@ -17,7 +17,7 @@ use Rattle.sp_desugar.specs.Values.{Source, at_place, in_register, constant, cou
 use Rattle.sp_desugar.proofs.Entering.{fresh_apart}
 use Rattle.sp_desugar.proofs.MemoryLemmas.{changed_here, changed_elsewhere, chip_place}
 use Rattle.sp_desugar.proofs.NumberLemmas.{either, number_below}
-use Rattle.sp_same.specs.Following.{SourceBefore, AreBefore}
+use Rattle.sp_same.specs.Following.{SourceBefore, AreSpare}
 use Rattle.sp_same.proofs.Places.{register_apart}
 
 module _ (p : PlainProgram) (core : PlainCore) (h : HasMemories p core) (view : View) where
@@ -26,7 +26,7 @@ module _ (p : PlainProgram) (core : PlainCore) (h : HasMemories p core) (view : 
   Keeps_cell t x = IsAdded p core x.0 × (t x.0 ≡ Some (cells (x.1 ∷ [])))
 
   -- a register after all that are kept
-  module _ (done : List Entry) (s : program_store.Store) (t : store.Store) (n w : ℕ) (added : IsAdded p core n) (before : AreBefore n view) (a : Agree p core view done s t) where
+  module _ (done : List Entry) (s : program_store.Store) (t : store.Store) (n w : ℕ) (added : IsAdded p core n) (before : AreSpare n (suc n) view) (a : Agree p core view done s t) where
     abbrev held : store.Store
     held = store.hold t n (cells (Some w ∷ []))
 
@@ -50,7 +50,7 @@ module _ (p : PlainProgram) (core : PlainCore) (h : HasMemories p core) (view : 
       vals = λ v c. still_found (view.sources v.0) (s.values v.0) (before.0 v c) (a.vals v c);
       counts = a.counts;
       waiting = λ m c. still_waits m (a.waiting m c);
-      registers = λ x c. let f = a.registers x c in (f.0, changed_elsewhere t n x.0 (Some (cells (Some w ∷ []))) (λ e. omega (arith, e, before.1 x c)) ∙ f.1);
+      registers = λ x c. let f = a.registers x c in (f.0, changed_elsewhere t n x.0 (Some (cells (Some w ∷ []))) (λ e. before.1 x c n (omega arith) (omega arith) e) ∙ f.1);
     }
 
   -- a value of a fresh name takes a word

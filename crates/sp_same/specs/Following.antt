@@ -37,13 +37,16 @@ SourceSeen scope _ = Unit {0}
 abbrev pub SourcesSeen : Scope → Sources → Type 0
 SourcesSeen scope sources = (v : ℕ × Ty) → Contains scope.vals v → SourceSeen scope (sources v.0)
 
--- no value that is visible stands in a register of this number or after it, and no register that is kept does
+-- the registers from a number up to another one are spare: no value that is visible stands in one of that number or after
+-- it, and no register that is kept is one of them
 abbrev pub SourceBefore : ℕ → Source → Type 0
 SourceBefore n (in_register r) = r < n
 SourceBefore n _ = Unit {0}
 
-abbrev pub AreBefore : ℕ → View → Type 0
-AreBefore n view = ((v : ℕ × Ty) → Contains view.scope.vals v → SourceBefore n (view.sources v.0)) × ((x : ℕ × Option ℕ) → Contains view.registers x → x.0 < n)
+abbrev pub AreSpare : (first last : ℕ) → View → Type 0
+AreSpare first last view =
+    ((v : ℕ × Ty) → Contains view.scope.vals v → SourceBefore first (view.sources v.0))
+    × ((x : ℕ × Option ℕ) → Contains view.registers x → (k : ℕ) → first ≤ k → k < last → x.0 ≡ k → ⊥)
 
 -- a memory on the chip that isn't visible
 pub record IsOwn (p : PlainProgram) (scope : Scope) (m : ℕ) : Type 0 where

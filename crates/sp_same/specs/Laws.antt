@@ -24,7 +24,7 @@ use Rattle.sp_desugar.specs.Registers.{registers_in}
 use Rattle.sp_desugar.specs.Stages.{style_of, node}
 use Rattle.sp_desugar.specs.Uses.{no_more}
 use Rattle.sp_desugar.specs.Values.{Sources, with_state}
-use Rattle.sp_same.specs.Following.{SourcesSeen, AreBefore, HoldsWord, AreReady, AreCells, EarlyGoes, NodeGoes, IsOwn, BodyFollowed, alone}
+use Rattle.sp_same.specs.Following.{SourcesSeen, AreSpare, HoldsWord, AreReady, AreCells, EarlyGoes, NodeGoes, IsOwn, BodyFollowed, alone}
 
 -- a transfer that moves words between a DRAM and an SRAM
 abbrev pub IsTransfer : PlainStmtKind → Type 0
@@ -92,13 +92,12 @@ IsBranchFollowed p roomy core test =
     → run_kind p.mems roomy (branch test first second) place left s ≡ program_step.went did rest after
     → NodeGoes p core most view (node p.mems (length p.counters) view.sources b n (branch test first second)) t after did
 
--- where the body of an FSM is followed, whatever word its state holds then, so is the FSM; nothing that is kept stands in
--- the register of its state or after it
+-- where the body of an FSM is followed, whatever word its state holds then, so is the FSM; the register of its state is spare
 abbrev pub IsMachineFollowed : PlainProgram → (roomy : List ℕ) → PlainCore → PlainStmts → Type 0
 IsMachineFollowed p roomy core body =
     (most : ℕ) (view : View) (start : PlainExpr) (tested : ℕ) (test : PlainExpr) (state last : ℕ) (next : PlainExpr) (b n place : ℕ) (s after : program_store.Store) (t : store.Store) (left rest : ℕ) (did : List Shape)
     → let kept : Sources = with_state view.sources tested state last n in
-    HasMemories p core → StmtTyped p view.scope (fsm start tested test state body last next) → IsAdded p core n → AreBefore n view → left ≤ most → Agree p core view [] s t
+    HasMemories p core → StmtTyped p view.scope (fsm start tested test state body last next) → IsAdded p core n → AreSpare n (suc n) view → left ≤ most → Agree p core view [] s t
     → ((w : ℕ) → BodyFollowed p core roomy most (record view { scope = with_val view.scope state (type_of start); sources = kept; registers = (n, Some w) ∷ view.registers }) (alone p kept (suc n) Pipe body) body)
     → run_kind p.mems roomy (fsm start tested test state body last next) place left s ≡ program_step.went did rest after
     → NodeGoes p core most view (node p.mems (length p.counters) view.sources b n (fsm start tested test state body last next)) t after did
@@ -120,15 +119,14 @@ IsReductionFollowed p roomy core body =
     → let begun : ℕ = b + length (registers_for is_early (bounds_of loops)) in
     HasMemories p core → HaveRooms p roomy core → IsTrue (is_inner body) → StmtTyped p view.scope (reduce style fold acc loops body e comb) → SourcesSeen view.scope view.sources → Apart (own_mems body ++ view.waiting)
     → ((m : ℕ) → Contains (own_mems body) m → IsOwn p (with_counters view.scope loops) m) → ((m : ℕ) → view.resets m ≡ false)
-    → Agree p core view [] s t → AreReady p core is_early left s t b (bounds_of loops) → (fold ≡ false → IsAdded p core begun × AreBefore begun view × HoldsWord p core t begun 0)
+    → Agree p core view [] s t → AreReady p core is_early left s t b (bounds_of loops) → (fold ≡ false → IsAdded p core begun × AreSpare begun (suc begun) view × HoldsWord p core t begun 0)
     → run_kind p.mems roomy (reduce style fold acc loops body e comb) place left s ≡ program_step.went did rest after
     → NodeGoes p core most view (node p.mems (length p.counters) view.sources b n (reduce style fold acc loops body e comb)) t after did
 
--- where a typed statement goes on, the stages before it put its early words into their registers, which nothing that is kept
--- stands in
+-- where a typed statement goes on, the stages before it put its early words into their registers, which are spare
 abbrev pub AreEarlyFollowed : PlainProgram → (roomy : List ℕ) → PlainCore → PlainStmtKind → Type 0
 AreEarlyFollowed p roomy core kind =
     (most : ℕ) (view : View) (b place : ℕ) (s after : program_store.Store) (t : store.Store) (left rest : ℕ) (did : List Shape)
-    → HasMemories p core → StmtTyped p view.scope kind → AreBefore b view → AreCells p core (crosses_in kind) t b (words_in kind) → Agree p core view [] s t
+    → HasMemories p core → StmtTyped p view.scope kind → AreSpare b (b + length (registers_for (crosses_in kind) (words_in kind))) view → AreCells p core (crosses_in kind) t b (words_in kind) → Agree p core view [] s t
     → run_kind p.mems roomy kind place left s ≡ program_step.went did rest after
     → EarlyGoes p core most view (crosses_in kind) (words_in kind) b (early_stages p.mems view.sources b kind) left t s
