@@ -28,3 +28,5 @@ pub mod Combining
 pub mod Reductions
 pub mod EarlyStages
 pub mod EarlyWords
+pub mod Lines
+pub mod LineNodes

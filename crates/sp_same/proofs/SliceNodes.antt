@@ -16,6 +16,7 @@ use Rattle.sp_tree.specs.Structure.{slice_lanes}
 use Rattle.sp_tree.specs.Transfers as slice
 use Rattle.sp_tree.specs.Typing.{StmtTyped}
 use Rattle.sp_core.specs.declared.node.SparseKind.TheVariants.{WideLoad, WideStore}
+use Rattle.sp_core.specs.Declarations.{dims}
 use Rattle.sp_core.specs.Elements.{numbers_below}
 use Rattle.sp_core.specs.History.{Taken, moved}
 use Rattle.sp_core.specs.PlainCore as plain
@@ -36,13 +37,13 @@ use Rattle.sp_desugar.proofs.StepLemmas.{same_answer, same_store, taken_apart, t
 use Rattle.sp_same.specs.Counts.{Count, words, counts_in, counts_in_all, counts_of}
 use Rattle.sp_same.specs.Following.{AreReady, NodeGoes}
 use Rattle.sp_same.proofs.LaneCounts.{lanes_same}
-use Rattle.sp_same.proofs.Moves.{loads, stores}
+use Rattle.sp_same.proofs.Moves.{sram_kind, sram_dims, dram_has, loads, stores}
 use Rattle.sp_same.proofs.SliceTwins.{as_core, same_lengths}
 use Rattle.sp_same.proofs.SlicesMoved.{ranges_taken, transferred}
 use Rattle.sp_same.proofs.SpansTaken.{spans_taken}
 
 -- one of two nodes does, by the number of lanes
-chosen_node : (P : PlainNode → Type 0) (b : Bool) (one wide : PlainNode) → (b ≡ true → P one) → (b ≡ false → P wide) → P (if b then one else wide)
+pub chosen_node : (P : PlainNode → Type 0) (b : Bool) (one wide : PlainNode) → (b ≡ true → P one) → (b ≡ false → P wide) → P (if b then one else wide)
 chosen_node P true one wide f g = f refl
 chosen_node P false one wide f g = g refl
 
@@ -52,7 +53,7 @@ module _ (p : PlainProgram) (core : PlainCore) (h : HasMemories p core) (ports :
     abbrev Counted : List Count → Type 0
     Counted cs = cs ≡ words (slice.words_by_lane (slice_lanes spans) (slice.lengths parts)) ∷ []
 
-    one_counted : (n : ℕ) → slice_lanes spans ≡ 1 → n ≡ slice.words_in_lane 1 0 (slice.lengths parts) → Counted (words (n ∷ []) ∷ [])
+    pub one_counted : (n : ℕ) → slice_lanes spans ≡ 1 → n ≡ slice.words_in_lane 1 0 (slice.lengths parts) → Counted (words (n ∷ []) ∷ [])
     one_counted n one e = ap (λ k. words (k ∷ []) ∷ []) e ∙ ap (λ l. words (slice.words_by_lane l (slice.lengths parts)) ∷ []) (sym one)
 
     wide_counted : (slice_lanes spans == 1) ≡ false → Counted (words (map (lane_words (row_count (core_slice.lengths (map part_of ts))) (last_length (core_slice.lengths (map part_of ts))) (slice_lanes spans)) (numbers_below (slice_lanes spans))) ∷ [])
@@ -72,8 +73,11 @@ module _ (p : PlainProgram) (core : PlainCore) (h : HasMemories p core) (ports :
         let y = taken_apart (slice.transfer place (expressions.dims p.mems dram) x.answer Bounds (expressions.dims p.mems sram) (move x.answer)) (λ _. step.pure (program_shape.moved (slice.words_by_lane (slice_lanes spans) (slice.lengths x.answer)) ∷ [])) x.between x.store did rest after x.second in
         let sp = spans_taken p core h most view (is_early_part spans) s t left a b spans x.answer x.between x.store typed.1.spans_typed ready x.first in
         let first : slice.transfer place (expressions.dims p.mems dram) x.answer Bounds (expressions.dims p.mems sram) (move x.answer) x.between s ≡ step.went y.answer y.between y.store = ap (λ v. slice.transfer place (expressions.dims p.mems dram) x.answer Bounds (expressions.dims p.mems sram) (move x.answer) x.between v) (sym sp.1) ∙ y.first in
-        let tr = transferred p core h ports view sram dram typed.0.seen typed.0.is_kind typed.1.from_dram.seen typed.1.from_dram.is_kind place x.between y.between s y.store t a sp.2 x.answer sp.4 (move x.answer) (core_slice.load_words core r m)
-        (λ left rest s after al g e. loads p core h ports view sram dram typed.0.seen typed.0.is_kind typed.1.from_dram.seen typed.1.from_dram.is_kind x.answer left rest s after t al g e) y.answer first in
+        let tr = transferred p core h ports view dram m Bounds (expressions.dims p.mems sram)
+        (dram_has p core h ports view sram dram typed.0.seen typed.0.is_kind typed.1.from_dram.seen typed.1.from_dram.is_kind s t a)
+        (ap (λ k. core_slice.range_limits k (dims core m)) (sram_kind p core h ports view sram dram typed.0.seen typed.0.is_kind typed.1.from_dram.seen typed.1.from_dram.is_kind s t a) ∙ sram_dims p core h ports view sram dram typed.0.seen typed.0.is_kind typed.1.from_dram.seen typed.1.from_dram.is_kind s t a)
+        place x.between y.between s y.store t a sp.2 x.answer sp.4 (move x.answer) (core_slice.load_words core r m)
+        (λ left rest after al fits g e. loads p core h ports view sram dram typed.0.seen typed.0.is_kind typed.1.from_dram.seen typed.1.from_dram.is_kind x.answer left rest s after t al g e) y.answer first in
         let shaped : program_shape.moved (slice.words_by_lane (slice_lanes spans) (slice.lengths x.answer)) ∷ [] ≡ did = same_answer (program_shape.moved (slice.words_by_lane (slice_lanes spans) (slice.lengths x.answer)) ∷ []) did y.between rest y.store after y.second in
         let ends : y.store ≡ after = same_store (program_shape.moved (slice.words_by_lane (slice_lanes spans) (slice.lengths x.answer)) ∷ []) did y.between rest y.store after y.second in
         let none : slice.lengths x.answer ≡ [] → slice_lanes spans ≡ 1 = ranges_taken p spans left x.between s x.store x.answer x.first in
@@ -106,8 +110,11 @@ module _ (p : PlainProgram) (core : PlainCore) (h : HasMemories p core) (ports :
         let y = taken_apart (slice.transfer place (expressions.dims p.mems dram) x.answer Bounds (expressions.dims p.mems sram) (move x.answer)) (λ _. step.pure (program_shape.moved (slice.words_by_lane (slice_lanes spans) (slice.lengths x.answer)) ∷ [])) x.between x.store did rest after x.second in
         let sp = spans_taken p core h most view (is_early_part spans) s t left a b spans x.answer x.between x.store typed.1.spans_typed ready x.first in
         let first : slice.transfer place (expressions.dims p.mems dram) x.answer Bounds (expressions.dims p.mems sram) (move x.answer) x.between s ≡ step.went y.answer y.between y.store = ap (λ v. slice.transfer place (expressions.dims p.mems dram) x.answer Bounds (expressions.dims p.mems sram) (move x.answer) x.between v) (sym sp.1) ∙ y.first in
-        let tr = transferred p core h ports view sram dram typed.0.seen typed.0.is_kind typed.1.from_dram.seen typed.1.from_dram.is_kind place x.between y.between s y.store t a sp.2 x.answer sp.4 (move x.answer) (core_slice.store_words core r m)
-        (λ left rest s after al g e. stores p core h ports view sram dram typed.0.seen typed.0.is_kind typed.1.from_dram.seen typed.1.from_dram.is_kind x.answer place left rest s after t al g e) y.answer first in
+        let tr = transferred p core h ports view dram m Bounds (expressions.dims p.mems sram)
+        (dram_has p core h ports view sram dram typed.0.seen typed.0.is_kind typed.1.from_dram.seen typed.1.from_dram.is_kind s t a)
+        (ap (λ k. core_slice.range_limits k (dims core m)) (sram_kind p core h ports view sram dram typed.0.seen typed.0.is_kind typed.1.from_dram.seen typed.1.from_dram.is_kind s t a) ∙ sram_dims p core h ports view sram dram typed.0.seen typed.0.is_kind typed.1.from_dram.seen typed.1.from_dram.is_kind s t a)
+        place x.between y.between s y.store t a sp.2 x.answer sp.4 (move x.answer) (core_slice.store_words core r m)
+        (λ left rest after al fits g e. stores p core h ports view sram dram typed.0.seen typed.0.is_kind typed.1.from_dram.seen typed.1.from_dram.is_kind x.answer place left rest s after t al g e) y.answer first in
         let shaped : program_shape.moved (slice.words_by_lane (slice_lanes spans) (slice.lengths x.answer)) ∷ [] ≡ did = same_answer (program_shape.moved (slice.words_by_lane (slice_lanes spans) (slice.lengths x.answer)) ∷ []) did y.between rest y.store after y.second in
         let ends : y.store ≡ after = same_store (program_shape.moved (slice.words_by_lane (slice_lanes spans) (slice.lengths x.answer)) ∷ []) did y.between rest y.store after y.second in
         let none : slice.lengths x.answer ≡ [] → slice_lanes spans ≡ 1 = ranges_taken p spans left x.between s x.store x.answer x.first in

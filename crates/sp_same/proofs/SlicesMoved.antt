@@ -2,6 +2,7 @@
 use Rattle.std.proofs.Common.{◌≡◌, ℕ, suc, Bool, true, false, List, [], ◌∷◌, refl, sym, ◌∙◌, ap, subst, arith}
 use Rattle.std.specs.Prelude.{length, map, Contains}
 use Rattle.sp_words.specs.declared.kind.Kind.TheVariants.{Sram, Dram}
+use Rattle.sp_tree.specs.declared.statement.FaultKind.{FaultKind}
 use Rattle.sp_tree.specs.declared.statement.FaultKind.TheVariants.{Bounds, DramBounds}
 use Rattle.sp_tree.specs.Elements.{index_value}
 use Rattle.sp_tree.specs.Expressions as expressions
@@ -58,10 +59,7 @@ module _ (p : PlainProgram) where
       absurd (nonempty _ (slice.lengths d.answer) (ap (λ q. slice.lengths (q ∷ d.answer)) g ∙ ap slice.lengths f ∙ none))
 
 module _ (p : PlainProgram) (core : PlainCore) (h : HasMemories p core) (ports : p.ports ≡ ports_of p.mems) (view : View)
-    (m r : ℕ) (seen : Contains view.scope.mems m) (is : (expressions.mem p.mems m).kind ≡ Sram) (seen_dram : Contains view.scope.mems r) (on : (expressions.mem p.mems r).kind ≡ Dram) where
-  abbrev n : ℕ
-  n = mem_number p.mems m
-
+    (r n : ℕ) (too_long : FaultKind) (limits : List ℕ) (dram_same : dims core (dram_place core (dram_number p.mems r)) ≡ expressions.dims p.mems r) (limits_same : core_slice.range_limits (kind_of core n) (dims core n) ≡ limits) where
   abbrev q : ℕ
   q = dram_number p.mems r
 
@@ -74,10 +72,10 @@ module _ (p : PlainProgram) (core : PlainCore) (h : HasMemories p core) (ports :
     pub counted : length ws ≡ slice.words_in_lane 1 0 (slice.lengths parts)
 
   module _ (place left rest : ℕ) (s after : program_store.Store) (t : store.Store) (a : Agree p core view [] s t) (ts : List Taken) (parts : List slice.Part) (same : map part_of ts ≡ map as_core parts)
-      (program_move : step.Step (List (Unit {0}))) (move : List core_slice.Part → core_step.Step (List ℕ))
-      (follow : (left rest : ℕ) (s after : program_store.Store) (al : List (Unit {0})) → Moving p core h ports view s t → program_move left s ≡ step.went al rest after
+      {A : Type 0} (program_move : step.Step A) (move : List core_slice.Part → core_step.Step (List ℕ))
+      (follow : (left rest : ℕ) (after : program_store.Store) (al : A) → slice.do_fit limits (slice.lengths parts) ≡ true → Moving p core h ports view s t → program_move left s ≡ step.went al rest after
       → (ws : List ℕ) × (u : store.Store) × (move (map as_core parts) t ≡ core_step.went ws u) × Moving p core h ports view after u × (length ws ≡ length (slice.all_offsets parts)))
-      (x : Unit {0}) (e : slice.transfer place (expressions.dims p.mems r) parts Bounds (expressions.dims p.mems m) program_move left s ≡ step.went x rest after) where
+      (x : Unit {0}) (e : slice.transfer place (expressions.dims p.mems r) parts too_long limits program_move left s ≡ step.went x rest after) where
     start : Moving p core h ports view s t
     start = a
 
@@ -88,7 +86,7 @@ module _ (p : PlainProgram) (core : PlainCore) (h : HasMemories p core) (ports :
     none_same = ap core_slice.has_none lengths_same ∙ same_none (slice.lengths parts)
 
     abbrev checked : step.Step (Unit {0})
-    checked = step.◌>>◌ (step.ensure (slice.are_parts_inside (expressions.dims p.mems r) parts) DramBounds place) (step.◌>>◌ (step.ensure (slice.do_fit (expressions.dims p.mems m) (slice.lengths parts)) Bounds place) (step.◌>>◌ program_move (step.pure tt)))
+    checked = step.◌>>◌ (step.ensure (slice.are_parts_inside (expressions.dims p.mems r) parts) DramBounds place) (step.◌>>◌ (step.ensure (slice.do_fit limits (slice.lengths parts)) too_long place) (step.◌>>◌ program_move (step.pure tt)))
 
     abbrev core_checked : core_step.Step History
     core_checked = core_step.◌>>◌ (core_step.ensure (core_slice.are_parts_inside (dims core (dram_place core q)) (map part_of ts))) (core_step.◌>>◌ (core_step.ensure (core_slice.do_fit (core_slice.range_limits (kind_of core n) (dims core n)) (core_slice.lengths (map part_of ts)))) (core_step.◌>>=◌ (move (map part_of ts)) (λ ws. core_step.pure (moved ts ws))))
@@ -112,17 +110,16 @@ module _ (p : PlainProgram) (core : PlainCore) (h : HasMemories p core) (ports :
     full : slice.has_none (slice.lengths parts) ≡ false → Transferred t ts parts (move (map part_of ts)) after
     unfolding step.pure core_step.pure
     full f =
-        let one = passed (slice.are_parts_inside (expressions.dims p.mems r) parts) DramBounds place (step.◌>>◌ (step.ensure (slice.do_fit (expressions.dims p.mems m) (slice.lengths parts)) Bounds place) (step.◌>>◌ program_move (step.pure tt))) x left rest s after (chosen false f) in
-        let two = passed (slice.do_fit (expressions.dims p.mems m) (slice.lengths parts)) Bounds place (step.◌>>◌ program_move (step.pure tt)) x left rest s after one.1 in
+        let one = passed (slice.are_parts_inside (expressions.dims p.mems r) parts) DramBounds place (step.◌>>◌ (step.ensure (slice.do_fit limits (slice.lengths parts)) too_long place) (step.◌>>◌ program_move (step.pure tt))) x left rest s after (chosen false f) in
+        let two = passed (slice.do_fit limits (slice.lengths parts)) too_long place (step.◌>>◌ program_move (step.pure tt)) x left rest s after one.1 in
         let b = taken_apart program_move (λ _. step.pure tt) left s x rest after two.1 in
-        let all = follow left b.between s b.store b.answer start b.first in
+        let all = follow left b.between b.store b.answer two.0 start b.first in
         let inside : core_slice.are_parts_inside (dims core (dram_place core q)) (map part_of ts) ≡ true =
-        ap (λ l. core_slice.are_parts_inside l (map part_of ts)) (dram_has p core h ports view m r seen is seen_dram on s t start)
+        ap (λ l. core_slice.are_parts_inside l (map part_of ts)) dram_same
         ∙ ap (core_slice.are_parts_inside (expressions.dims p.mems r)) same ∙ same_parts_inside (expressions.dims p.mems r) parts ∙ one.0 in
         let fits : core_slice.do_fit (core_slice.range_limits (kind_of core n) (dims core n)) (core_slice.lengths (map part_of ts)) ≡ true =
-        ap (λ k. core_slice.do_fit (core_slice.range_limits k (dims core n)) (core_slice.lengths (map part_of ts))) (sram_kind p core h ports view m r seen is seen_dram on s t start)
-        ∙ ap (λ l. core_slice.do_fit l (core_slice.lengths (map part_of ts))) (sram_dims p core h ports view m r seen is seen_dram on s t start)
-        ∙ ap (core_slice.do_fit (expressions.dims p.mems m)) lengths_same ∙ same_fit (expressions.dims p.mems m) (slice.lengths parts) ∙ two.0 in
+        ap (λ l. core_slice.do_fit l (core_slice.lengths (map part_of ts))) limits_same
+        ∙ ap (core_slice.do_fit limits) lengths_same ∙ same_fit limits (slice.lengths parts) ∙ two.0 in
         record {
           ws = all.0;
           end = all.1;

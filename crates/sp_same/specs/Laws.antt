@@ -1,5 +1,5 @@
 -- Laws of what cores mean, as statements.
-use Rattle.std.specs.Prelude.{◌≡◌, ℕ, suc, ◌+◌, ◌≤◌, Bool, false, IsTrue, List, [], ◌∷◌, ◌++◌, length, Contains, Some}
+use Rattle.std.specs.Prelude.{◌≡◌, ℕ, suc, ◌+◌, ◌≤◌, Bool, false, IsTrue, List, [], ◌∷◌, ◌++◌, length, slice_index, Contains, Some}
 use Rattle.sp_words.specs.declared.kind.Style.{Style}
 use Rattle.sp_words.specs.declared.kind.Style.TheVariants.{Pipe}
 use Rattle.sp_words.specs.declared.types.Ty.TheVariants.{Bit}
@@ -12,6 +12,8 @@ use Rattle.sp_tree.specs.Sequential.{run_kind}
 use Rattle.sp_tree.specs.Shape.{Shape}
 use Rattle.sp_tree.specs.Step as program_step
 use Rattle.sp_tree.specs.Store as program_store
+use Rattle.sp_tree.specs.Store.{rows_of}
+use Rattle.sp_tree.specs.Expressions.{dims}
 use Rattle.sp_tree.specs.Streams.{fifos_with_room}
 use Rattle.sp_tree.specs.Structure.{own_mems, is_inner}
 use Rattle.sp_tree.specs.Typing.{StmtTyped, BodyTyped, HasTypeStill, CountersTyped, with_counters, with_val}
@@ -26,13 +28,14 @@ use Rattle.sp_desugar.specs.Uses.{no_more}
 use Rattle.sp_desugar.specs.Values.{Sources, with_state}
 use Rattle.sp_same.specs.Following.{SourcesSeen, AreSpare, HoldsWord, AreReady, AreCells, EarlyGoes, NodeGoes, IsOwn, BodyFollowed, alone}
 
--- a transfer that moves words between a DRAM and an SRAM
-abbrev pub IsTransfer : PlainStmtKind → Type 0
-IsTransfer (load_sram sram dram spans) = Unit {0}
-IsTransfer (store dram spans sram) = Unit {0}
-IsTransfer (gather sram dram places n) = Unit {0}
-IsTransfer (scatter dram places n sram) = Unit {0}
-IsTransfer _ = ⊥
+-- a transfer; the line buffer that a row is loaded into has as many rows as its first dimension
+abbrev pub IsTransfer : PlainProgram → program_store.Store → PlainStmtKind → Type 0
+IsTransfer p s (load_sram sram dram spans) = Unit {0}
+IsTransfer p s (load_line line dram spans) = length (rows_of (s.held line)) ≡ slice_index (dims p.mems line) 0
+IsTransfer p s (store dram spans sram) = Unit {0}
+IsTransfer p s (gather sram dram places n) = Unit {0}
+IsTransfer p s (scatter dram places n sram) = Unit {0}
+IsTransfer _ _ _ = ⊥
 
 -- which of the indices, bounds and counts of a statement are computed before it, and all of them
 abbrev pub crosses_in : PlainStmtKind → PlainExpr → Bool
@@ -57,7 +60,7 @@ words_in _ = []
 abbrev pub IsTransferFollowed : PlainProgram → (roomy : List ℕ) → PlainCore → PlainStmtKind → Type 0
 IsTransferFollowed p roomy core kind =
     (most : ℕ) (view : View) (b n place : ℕ) (s after : program_store.Store) (t : store.Store) (left rest : ℕ) (did : List Shape)
-    → HasMemories p core → p.ports ≡ ports_of p.mems → IsTransfer kind → StmtTyped p view.scope kind
+    → HasMemories p core → p.ports ≡ ports_of p.mems → IsTransfer p s kind → StmtTyped p view.scope kind
     → Agree p core view [] s t → AreReady p core (crosses_in kind) left s t b (words_in kind)
     → run_kind p.mems roomy kind place left s ≡ program_step.went did rest after
     → NodeGoes p core most view (node p.mems (length p.counters) view.sources b n kind) t after did

@@ -7,7 +7,7 @@ ghost use Rattle.sp_tree.specs.PlainStatement.{PlainStmtKind, PlainStmts};
 ghost use Rattle.sp_core.specs.PlainCore.{PlainCore};
 ghost use Rattle.sp_same.specs.Laws.{IsTransferFollowed, IsLoopFollowed, IsBlockFollowed, IsBranchFollowed, IsMachineFollowed, IsInnerBodyFollowed, IsReductionFollowed, AreEarlyFollowed};
 
-/// The node of a transfer between a DRAM and an SRAM moves the words that the transfer moves.
+/// The node of a transfer moves the words that the transfer moves.
 pub fn transfers_are_followed()
     ensures { (p : PlainProgram) (roomy : List ℕ) (core : PlainCore) (kind : PlainStmtKind) → IsTransferFollowed p roomy core kind }
 {}
