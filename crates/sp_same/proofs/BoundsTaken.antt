@@ -10,8 +10,7 @@ use Rattle.sp_tree.specs.Sequential.{counter_range}
 use Rattle.sp_tree.specs.Step as program_step
 use Rattle.sp_tree.specs.Store as program_store
 use Rattle.sp_tree.specs.Typing.{Scope, BoundsTyped}
-use Rattle.sp_core.specs.Elements as core_elements
-use Rattle.sp_core.specs.Elements.{index_value, count_below, values_below}
+use Rattle.sp_core.specs.Elements.{index_value, values_below}
 use Rattle.sp_core.specs.History.{Bounds, last_word}
 use Rattle.sp_core.specs.Operations.{operations}
 use Rattle.sp_core.specs.PlainCore as core_tree

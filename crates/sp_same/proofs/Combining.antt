@@ -1,6 +1,6 @@
 -- The operations of a combination do what a program does with a word and its accumulator.
-use Rattle.std.proofs.Common.{◌≡◌, ℕ, zero, suc, ◌+◌, ◌<◌, Bool, true, false, not, List, [], ◌∷◌, ◌++◌, Option, Some, None, refl, sym, ◌∙◌, ap, subst, arith, length-append, append_assoc, ◌==◌}
-use Rattle.std.specs.Prelude.{length, map, slice_index, slice_index_or, slice_set, Contains}
+use Rattle.std.proofs.Common.{◌≡◌, ℕ, ◌+◌, ◌<◌, true, not, List, [], ◌∷◌, ◌++◌, Some, None, refl, sym, ◌∙◌, ap, subst, arith, length-append, append_assoc}
+use Rattle.std.specs.Prelude.{length, slice_index_or, slice_set, Contains}
 use Rattle.sp_words.specs.declared.kind.Kind.TheVariants.{Reg}
 use Rattle.sp_words.specs.declared.types.Ty.{Ty}
 use Rattle.sp_words.specs.declared.types.Ty.TheVariants.{Bit}
@@ -18,24 +18,23 @@ use Rattle.sp_tree.specs.Store as program_store
 use Rattle.sp_tree.specs.Typing.{IsMem}
 use Rattle.sp_core.specs.declared.operation.OpKind.TheVariants as kind
 use Rattle.sp_core.specs.Accesses.{with_word}
-use Rattle.sp_core.specs.Declarations.{dims, kind_of}
+use Rattle.sp_core.specs.Declarations.{dims}
 use Rattle.sp_core.specs.Elements.{are_inside}
-use Rattle.sp_core.specs.History.{Entry, left_out, gave, touched, word_of, word_at}
+use Rattle.sp_core.specs.History.{Entry, gave, touched, word_of, word_at}
 use Rattle.sp_core.specs.Operations.{done_by, operation, operations_after}
 use Rattle.sp_core.specs.Operators.{two_word, chosen}
 use Rattle.sp_core.specs.PlainCore.{PlainOp, PlainCore}
-use Rattle.sp_core.specs.Step as core_step
-use Rattle.sp_core.specs.Step.{Step, went, pure}
+use Rattle.sp_core.specs.Step.{went, pure}
 use Rattle.sp_core.specs.Store as store
-use Rattle.sp_desugar.specs.Agreement.{HasMemories, View, IsAdded, Finds, GiveAt, Agree, GoOn}
+use Rattle.sp_desugar.specs.Agreement.{HasMemories, View, IsAdded, Finds, Agree, GoOn}
 use Rattle.sp_desugar.specs.Combination.{operator_of, fold_ops, reduce_ops}
 use Rattle.sp_desugar.specs.Numbers.{is_off_dram, mem_number}
 use Rattle.sp_desugar.specs.Operations.{computes, read_op, write_op, literal_op, under}
 use Rattle.sp_desugar.specs.Values.{in_register}
 use Rattle.sp_desugar.proofs.GoOnLemmas.{keeps_front, at_end, agree_still, give_still, ops_append}
 use Rattle.sp_desugar.proofs.MemoryLemmas.{dimensionless, chip_kind, chip_dims, chip_holds, agree_held, core_reads, core_writes, reg_word}
-use Rattle.sp_desugar.proofs.StepLemmas.{same_store, same_answer, taken_apart, then_on}
-use Rattle.sp_desugar.proofs.TwinLemmas.{same_cells, same_two}
+use Rattle.sp_desugar.proofs.StepLemmas.{same_store, taken_apart, then_on}
+use Rattle.sp_desugar.proofs.TwinLemmas.{same_cells}
 use Rattle.sp_same.proofs.Picks.{read_found}
 
 snoc : (xs : List PlainOp) (y : PlainOp) (zs : List PlainOp) → (xs ++ y ∷ []) ++ zs ≡ xs ++ y ∷ zs

@@ -27,7 +27,7 @@ use Rattle.sp_core.specs.Shape.{shape_of}
 use Rattle.sp_core.specs.Step as core_step
 use Rattle.sp_core.specs.Store as store
 use Rattle.sp_desugar.specs.Agreement.{HasMemories, View, Agree}
-use Rattle.sp_desugar.specs.Early.{is_early, after as next_register, bounds_of, counters_of}
+use Rattle.sp_desugar.specs.Early.{is_early, bounds_of, counters_of}
 use Rattle.sp_desugar.specs.Numbers.{mem_number}
 use Rattle.sp_desugar.specs.Operations.{word_list}
 use Rattle.sp_desugar.specs.Registers.{registers_in, owned_registers}
@@ -35,7 +35,7 @@ use Rattle.sp_desugar.specs.Runs.{no_run, inner_run}
 use Rattle.sp_desugar.specs.Stages.{nothing, style_of, stages, node}
 use Rattle.sp_desugar.specs.Uses.{no_more}
 use Rattle.sp_desugar.proofs.NumberLemmas.{either}
-use Rattle.sp_desugar.proofs.StepLemmas.{as_it_went, same_answer, same_store, taken_apart, then_on}
+use Rattle.sp_desugar.proofs.StepLemmas.{same_answer, same_store, taken_apart, then_on}
 use Rattle.sp_same.specs.Counts.{Count, taken, counts_in, counts_in_all, counts_of}
 use Rattle.sp_same.specs.Following.{SourcesSeen, AreReady, NodeGoes, BodyFollowed, alone}
 use Rattle.sp_same.proofs.LaneZero.{of_stages}

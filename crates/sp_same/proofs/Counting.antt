@@ -1,9 +1,8 @@
 -- Counters in an iteration of a loop: inside they stand for their words, and outside all is as it was.
-use Rattle.std.proofs.Common.{◌≡◌, ℕ, zero, suc, ◌*◌, Bool, true, false, List, [], ◌∷◌, ◌++◌, refl, sym, ◌∙◌, ap, subst, arith, ◌==◌}
+use Rattle.std.proofs.Common.{◌≡◌, ℕ, zero, suc, ◌*◌, Bool, List, [], ◌∷◌, ◌++◌, refl, sym, ◌∙◌, ap, subst, arith, ◌==◌}
 use Rattle.std.proofs.lemmas.Bool.{eqb-true, eqb-false}
 use Rattle.std.proofs.Math.IntN.{+ℤ_idr}
 use Rattle.std.specs.Prelude.{ℤ, pos, ◌+ℤ◌, Contains, slice_index_or, map}
-use Rattle.sp_words.specs.declared.types.Ty.{Ty}
 use Rattle.sp_words.specs.Types.{int_type}
 use Rattle.sp_words.specs.Words.{wrap}
 use Rattle.sp_tree.specs.PlainProgram.{PlainProgram, no_mem}
@@ -13,19 +12,18 @@ use Rattle.sp_tree.specs.Step as program_step
 use Rattle.sp_tree.specs.Store as program_store
 use Rattle.sp_tree.specs.Typing as typing
 use Rattle.sp_tree.specs.Typing.{Scope, with_counter, visible, IsFresh, BindersFresh}
-use Rattle.sp_core.specs.History.{Entry}
 use Rattle.sp_core.specs.PlainCore.{PlainCore}
 use Rattle.sp_core.specs.Scope as counters
 use Rattle.sp_core.specs.Scope.{Loop, InGroup, lane_step, is_live, in_group, count_word}
 use Rattle.sp_core.specs.Store as store
 use Rattle.sp_core.specs.Store.{changed}
 use Rattle.sp_desugar.specs.Agreement.{View, Finds, IsWaiting, Agree}
-use Rattle.sp_desugar.specs.Values.{Source, at_place, in_register, constant, count, Sources}
+use Rattle.sp_desugar.specs.Values.{Source, at_place, in_register, constant, count}
 use Rattle.sp_desugar.proofs.Entering.{same_mems, same_vals}
 use Rattle.sp_desugar.proofs.MemoryLemmas.{changed_here, changed_elsewhere}
 use Rattle.sp_desugar.proofs.NumberLemmas.{either}
 use Rattle.sp_desugar.proofs.RunKeeps.{in_back, in_map}
-use Rattle.sp_desugar.proofs.StepLemmas.{as_it_went, taken_apart, same_store}
+use Rattle.sp_desugar.proofs.StepLemmas.{as_it_went}
 use Rattle.sp_same.specs.Following.{SourceSeen, SourcesSeen}
 use Rattle.sp_same.proofs.BoundsTaken.{IsLoop, IsLive}
 use Rattle.sp_same.proofs.Quietly.{Pairs}

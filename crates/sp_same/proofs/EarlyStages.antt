@@ -1,8 +1,7 @@
 -- Early words are put into their registers.
-use Rattle.std.proofs.Common.{◌≡◌, ℕ, zero, suc, ◌+◌, ◌<◌, ◌≤◌, Bool, true, false, not, ◌&&◌, ◌==◌, List, [], ◌∷◌, ◌++◌, Option, Some, None, refl, sym, ◌∙◌, ap, subst, arith, length-append, if◌then◌else◌}
+use Rattle.std.proofs.Common.{◌≡◌, ℕ, suc, ◌+◌, ◌<◌, ◌≤◌, Bool, true, false, not, ◌&&◌, ◌==◌, List, [], ◌∷◌, ◌++◌, Option, Some, None, refl, sym, ◌∙◌, ap, subst, arith, length-append, if◌then◌else◌}
 use Rattle.std.proofs.lemmas.Bool.{false≢true}
-use Rattle.std.specs.Prelude.{length, slice_set, Contains}
-use Rattle.sp_words.specs.declared.types.Ty.{Ty}
+use Rattle.std.specs.Prelude.{length, slice_set}
 use Rattle.sp_words.specs.Memory.{cells}
 use Rattle.sp_words.specs.Types.{int_type}
 use Rattle.sp_tree.specs.Expressions.{word}
@@ -17,9 +16,9 @@ use Rattle.sp_core.specs.declared.operation.OpKind.TheVariants as kind
 use Rattle.sp_core.specs.Accesses.{with_word}
 use Rattle.sp_core.specs.Declarations.{dims}
 use Rattle.sp_core.specs.Elements.{are_inside}
-use Rattle.sp_core.specs.History.{Entry, Runs, touched, word_at, inner_ran, masked_run, more_run}
+use Rattle.sp_core.specs.History.{Entry, Runs, touched, inner_ran, masked_run, more_run}
 use Rattle.sp_core.specs.Operations.{done_by, operation, operations_after}
-use Rattle.sp_core.specs.PlainCore.{PlainOp, PlainNode, PlainStages, PlainCore, inner}
+use Rattle.sp_core.specs.PlainCore.{PlainOp, PlainStages, PlainCore, inner}
 use Rattle.sp_core.specs.Scope.{plainly}
 use Rattle.sp_core.specs.Sequential.{renew_in_body, run, run_stages}
 use Rattle.sp_core.specs.Shape.{shape_of, stage_shapes}
@@ -36,8 +35,8 @@ use Rattle.sp_desugar.proofs.GoOnLemmas.{agree_still, keeps_front, ops_append}
 use Rattle.sp_desugar.proofs.MemoryLemmas.{changed_here, changed_elsewhere, core_writes}
 use Rattle.sp_desugar.proofs.NumberLemmas.{either}
 use Rattle.sp_desugar.proofs.StepLemmas.{same_answer, then_on}
-use Rattle.sp_same.specs.Counts.{Count, counts_of, stage_counts}
-use Rattle.sp_same.specs.Following.{SourceBefore, AreSpare, HoldsWord, AreReady, AreCells, EarlyGoes}
+use Rattle.sp_same.specs.Counts.{counts_of, stage_counts}
+use Rattle.sp_same.specs.Following.{SourceBefore, AreSpare, AreReady, AreCells, EarlyGoes}
 use Rattle.sp_same.proofs.Groups.{inner_alone}
 use Rattle.sp_same.proofs.Registers.{agree_written}
 use Rattle.sp_same.proofs.StillOps.{ops_still, code_still}

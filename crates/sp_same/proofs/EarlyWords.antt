@@ -1,19 +1,18 @@
 -- The bounds, slices and counts of a statement that goes on have words.
 use Rattle.std.proofs.Common.{◌≡◌, ℕ, ◌+◌, Bool, List, [], ◌∷◌, refl, sym, ◌∙◌, ap}
-use Rattle.std.specs.Prelude.{map, length}
+use Rattle.std.specs.Prelude.{length}
 use Rattle.sp_words.specs.Types.{int_type}
-use Rattle.sp_tree.specs.Elements.{index_value, natural, counter_words, tuples}
+use Rattle.sp_tree.specs.Elements.{index_value, counter_words}
 use Rattle.sp_tree.specs.Expressions.{word}
 use Rattle.sp_tree.specs.PlainExpression.{PlainExpr}
 use Rattle.sp_tree.specs.PlainProgram.{PlainProgram}
-use Rattle.sp_tree.specs.PlainStatement.{PlainSpan, single, range, PlainCounter, PlainStmtKind, declare, name, set_reg, set_out, set_sram, enq, load_sram, load_line, store, gather, scatter, block, foreach, reduce, mem_reduce, fsm, branch}
+use Rattle.sp_tree.specs.PlainStatement.{PlainSpan, single, range, PlainCounter, PlainStmtKind, load_sram, load_line, store, gather, scatter, foreach, reduce, mem_reduce}
 use Rattle.sp_tree.specs.Sequential.{part, counter_range, run_kind}
 use Rattle.sp_tree.specs.Shape.{Shape}
-use Rattle.sp_tree.specs.Step as step
-use Rattle.sp_tree.specs.Step.{Step, went, pure, ◌>>=◌, in_order}
+use Rattle.sp_tree.specs.Step.{went, pure, ◌>>=◌, in_order}
 use Rattle.sp_tree.specs.Store as program_store
 use Rattle.sp_tree.specs.Transfers as slice
-use Rattle.sp_tree.specs.Typing.{Scope, Typed, HasTypeStill, BoundsTyped, SpansTyped, StmtTyped}
+use Rattle.sp_tree.specs.Typing.{HasTypeStill, BoundsTyped, SpansTyped, StmtTyped}
 use Rattle.sp_core.specs.PlainCore.{PlainCore}
 use Rattle.sp_core.specs.Store as store_of
 use Rattle.sp_desugar.specs.Agreement.{HasMemories, View, Agree}

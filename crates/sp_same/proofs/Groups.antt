@@ -1,10 +1,10 @@
 -- A group of iterations of a node is a run of the node without its counters.
-use Rattle.std.proofs.Common.{◌≡◌, ℕ, Bool, true, false, List, [], ◌∷◌, Option, refl, sym, ◌∙◌, ap, subst, arith}
+use Rattle.std.proofs.Common.{◌≡◌, ℕ, Bool, true, false, List, [], ◌∷◌, Option, refl, sym, ◌∙◌, ap}
 use Rattle.std.specs.Prelude.{ℤ}
 use Rattle.sp_words.specs.declared.kind.Style.{Style}
-use Rattle.sp_core.specs.History.{Entry, History, Runs, inner_ran, outer_ran, no_run, masked_run, more_run, groups_of}
+use Rattle.sp_core.specs.History.{Entry, History, Runs, inner_ran, outer_ran, masked_run, more_run, groups_of}
 use Rattle.sp_core.specs.Operations.{operations}
-use Rattle.sp_core.specs.PlainCore.{PlainOp, PlainNode, PlainStages, PlainCore, PlainCounter, inner, outer, no_stage, more_stage}
+use Rattle.sp_core.specs.PlainCore.{PlainOp, PlainStages, PlainCore, inner, outer, no_stage, more_stage}
 use Rattle.sp_core.specs.Scope.{Loop, Scope, plainly, loops_of, counts_of, group_values, is_live, is_some_live, in_group}
 use Rattle.sp_core.specs.Sequential.{renew, renew_in_body, end_of_group, bounds, run, run_stages}
 use Rattle.sp_core.specs.Step.{Step, went, pure, ◌>>=◌, ◌>>◌, in_order}

@@ -1,20 +1,20 @@
 -- An inner body does what its statements do.
-use Rattle.std.proofs.Common.{◌≡◌, ℕ, zero, suc, ◌<◌, ◌≤◌, Bool, true, false, not, ◌&&◌, ◌||◌, List, [], ◌∷◌, ◌++◌, Option, Some, None, refl, sym, ◌∙◌, ap, subst, arith, ◌==◌, if◌then◌else◌}
+use Rattle.std.proofs.Common.{◌≡◌, ℕ, zero, suc, Bool, true, false, ◌&&◌, ◌||◌, List, [], ◌∷◌, ◌++◌, Option, Some, None, refl, sym, ◌∙◌, ap, subst, arith, ◌==◌, if◌then◌else◌}
 use Rattle.std.proofs.lemmas.Bool.{false≢true, eqb-true, eq-eqb, or_left, or_right}
 use Rattle.std.specs.Prelude.{map, length, Contains, IsTrue}
 use Rattle.sp_words.specs.declared.kind.Style.{Style}
 use Rattle.sp_words.specs.declared.types.Ty.{Ty}
 use Rattle.sp_tree.specs.Expressions as expressions
 use Rattle.sp_tree.specs.PlainExpression.{PlainExpr}
-use Rattle.sp_tree.specs.PlainProgram.{PlainMem, PlainProgram}
-use Rattle.sp_tree.specs.PlainStatement.{PlainStmtKind, PlainStmts, stmt, declare, name, set_reg, set_out, set_sram, enq, no_stmt, more_stmt}
+use Rattle.sp_tree.specs.PlainProgram.{PlainProgram}
+use Rattle.sp_tree.specs.PlainStatement.{PlainStmts, stmt, declare, name, set_reg, set_out, set_sram, enq, no_stmt, more_stmt}
 use Rattle.sp_tree.specs.Sequential.{run_all}
 use Rattle.sp_tree.specs.Shape as program_shape
 use Rattle.sp_tree.specs.Shape.{shapes}
 use Rattle.sp_tree.specs.Step as step
 use Rattle.sp_tree.specs.Store as program_store
 use Rattle.sp_tree.specs.Structure.{own_mems, is_inner}
-use Rattle.sp_tree.specs.Typing.{Scope, BodyTyped, IsFreshVal, after, after_all}
+use Rattle.sp_tree.specs.Typing.{Scope, BodyTyped, after, after_all}
 use Rattle.sp_core.specs.Declarations.{is_among}
 use Rattle.sp_core.specs.History.{Entry, inner_ran}
 use Rattle.sp_core.specs.Operations.{operations}
@@ -25,7 +25,7 @@ use Rattle.sp_core.specs.Sequential.{has_reset, renew_in_body, run}
 use Rattle.sp_core.specs.Shape.{shape_of}
 use Rattle.sp_core.specs.Step as core_step
 use Rattle.sp_core.specs.Store as store
-use Rattle.sp_desugar.specs.Agreement.{HasMemories, View, at_run, HaveRooms, Apart, Finds, IsWaiting, Agree, GoOn}
+use Rattle.sp_desugar.specs.Agreement.{HasMemories, View, at_run, HaveRooms, Apart, Finds, Agree, GoOn}
 use Rattle.sp_desugar.specs.Numbers.{mem_number}
 use Rattle.sp_core.specs.declared.operation.OpKind.TheVariants as kind
 use Rattle.sp_desugar.specs.Operations.{accesses}
@@ -33,7 +33,7 @@ use Rattle.sp_desugar.specs.Registers.{owned_registers}
 use Rattle.sp_desugar.specs.Runs.{Run, no_run, with_named, with_computed, with_reset, with_stmt, inner_run, with_ops, source_or}
 use Rattle.sp_desugar.specs.Stages.{nothing, stages}
 use Rattle.sp_desugar.specs.Uses.{no_more}
-use Rattle.sp_desugar.specs.Values.{Source, Sources, at_place, in_register, constant, count, stands_for, with_value}
+use Rattle.sp_desugar.specs.Values.{Source, at_place, in_register, constant, count, stands_for, with_value}
 use Rattle.sp_desugar.proofs.Entering.{fresh_apart}
 use Rattle.sp_desugar.proofs.GoOnLemmas.{at_rest}
 use Rattle.sp_desugar.proofs.InnerRuns.{runs_follow}
@@ -43,7 +43,7 @@ use Rattle.sp_desugar.proofs.RunKeeps.{in_back}
 use Rattle.sp_desugar.proofs.StepLemmas.{then_on}
 use Rattle.sp_same.specs.Counts.{counts_in_all, counts_of}
 use Rattle.sp_same.specs.Following.{IsOwn, NodeGoes, BodyFollowed, alone}
-use Rattle.sp_same.proofs.Groups.{inner_group, inner_alone}
+use Rattle.sp_same.proofs.Groups.{inner_alone}
 use Rattle.sp_same.proofs.Renewed.{in_body, all_renewed}
 
 -- what is visible stays so

@@ -1,17 +1,17 @@
 -- The stages of a program's core are of lane 0.
-use Rattle.std.proofs.Common.{◌≡◌, ℕ, suc, ◌+◌, ◌==◌, Bool, true, false, List, [], ◌∷◌, ◌++◌, refl, if◌then◌else◌}
+use Rattle.std.proofs.Common.{ℕ, suc, ◌+◌, Bool, true, false, List, [], ◌∷◌, ◌++◌, refl, if◌then◌else◌}
 use Rattle.std.specs.Prelude.{length}
 use Rattle.sp_tree.specs.PlainExpression.{PlainExpr, type_of}
 use Rattle.sp_tree.specs.PlainProgram.{PlainMem}
-use Rattle.sp_tree.specs.PlainStatement.{PlainSpan, PlainStmtKind, PlainStmts, stmt, declare, name, set_reg, set_out, set_sram, enq, load_sram, load_line, store, gather, scatter, block, foreach, reduce, mem_reduce, fsm, branch, no_stmt, more_stmt}
+use Rattle.sp_tree.specs.PlainStatement.{PlainSpan, PlainStmtKind, PlainStmts, stmt, declare, name, set_reg, set_out, set_sram, enq, load_sram, load_line, store, gather, scatter, foreach, reduce, mem_reduce, no_stmt, more_stmt}
 use Rattle.sp_core.specs.PlainCore.{PlainOp, PlainNode, PlainStages, no_stage, more_stage}
-use Rattle.sp_desugar.specs.Early.{bounds_of, is_early, is_early_slice, bound_stages, slice_stage, early_stages, into_register}
+use Rattle.sp_desugar.specs.Early.{bounds_of, is_early, is_early_slice, bound_stages, slice_stage, early_stages}
 use Rattle.sp_desugar.specs.Combination.{element_loop}
 use Rattle.sp_desugar.specs.Operations.{Code, alone, code, read_op, write_op}
 use Rattle.sp_tree.specs.Expressions.{mem, dims}
 use Rattle.sp_desugar.specs.Registers.{beside, inside}
 use Rattle.sp_desugar.specs.Runs.{Run, no_run, next_code}
-use Rattle.sp_desugar.specs.Stages.{Combines, nothing, folds, reduces, reduces_elements, combination_stage, run_stage, first_of, last_stages, stages, node}
+use Rattle.sp_desugar.specs.Stages.{Combines, nothing, folds, reduces, reduces_elements, combination_stage, run_stage, last_stages, stages, node}
 use Rattle.sp_desugar.specs.Uses.{Ending, no_more, in_last_run, in_combination}
 use Rattle.sp_desugar.specs.Values.{Sources}
 use Rattle.sp_desugar.proofs.NodeParts.{InLaneZero}

@@ -1,8 +1,7 @@
 -- The node of a load of a line buffer does what its statement does.
-use Rattle.std.proofs.Common.{◌≡◌, ℕ, zero, suc, ◌-◌, ◌≤◌, Bool, true, false, not, ◌&&◌, List, [], ◌∷◌, None, refl, sym, ◌∙◌, ap, subst, arith, length-drop, nat_le, if◌then◌else◌}
+use Rattle.std.proofs.Common.{◌≡◌, ℕ, ◌-◌, ◌≤◌, true, List, [], ◌∷◌, None, sym, ◌∙◌, ap, subst, arith, length-drop, nat_le}
 use Rattle.std.proofs.lemmas.Bool.{eq-eqb, false≢true, and_parts, leb-true}
-use Rattle.std.specs.Prelude.{length, map, drop, slice_index, ◌==◌}
-use Rattle.sp_words.specs.declared.kind.Kind.TheVariants.{LineBuf}
+use Rattle.std.specs.Prelude.{length, drop, slice_index, ◌==◌}
 use Rattle.sp_tree.specs.declared.statement.FaultKind.TheVariants.{RowLength}
 use Rattle.sp_tree.specs.Declarations.{HasRank}
 use Rattle.sp_tree.specs.Expressions as expressions
@@ -33,7 +32,7 @@ use Rattle.sp_desugar.specs.Early.{is_early_part, spans_of, parts_of}
 use Rattle.sp_desugar.specs.Numbers.{mem_number, dram_number}
 use Rattle.sp_desugar.specs.Stages.{node}
 use Rattle.sp_desugar.proofs.StepLemmas.{same_answer, same_store, taken_apart, then_on}
-use Rattle.sp_same.specs.Counts.{words, counts_in, counts_in_all, counts_of}
+use Rattle.sp_same.specs.Counts.{counts_in, counts_in_all, counts_of}
 use Rattle.sp_same.specs.Following.{AreReady, NodeGoes}
 use Rattle.sp_same.proofs.Lines.{ends_taken, line_kind, line_dims, dram_there, line_loads}
 use Rattle.sp_same.proofs.SliceNodes.{chosen_node, one_counted}

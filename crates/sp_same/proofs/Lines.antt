@@ -1,6 +1,5 @@
 -- A row of a line buffer is loaded word by word, and stands as the program leaves it.
-use Rattle.std.proofs.Common.{◌≡◌, ℕ, zero, suc, ◌+◌, ◌-◌, ◌<◌, ◌≤◌, Bool, true, false, not, ◌&&◌, List, [], ◌∷◌, ◌++◌, Option, Some, None, refl, sym, ◌∙◌, ap, subst, arith, length-append, append_assoc, nat_le}
-use Rattle.std.proofs.lemmas.Bool.{and_parts, leb-true}
+use Rattle.std.proofs.Common.{◌≡◌, ℕ, zero, suc, ◌+◌, ◌-◌, ◌<◌, ◌≤◌, true, not, List, [], ◌∷◌, ◌++◌, Option, Some, None, refl, sym, ◌∙◌, ap, subst, arith, length-append, append_assoc}
 use Rattle.std.specs.Prelude.{length, map, drop, flat_map, replicate, slice_index, slice_index_or, slice_set, Contains}
 use Rattle.sp_words.specs.declared.kind.Kind.TheVariants.{LineBuf, Dram}
 use Rattle.sp_words.specs.Memory.{Contents, rows}
@@ -24,7 +23,7 @@ use Rattle.sp_core.specs.PlainCore.{PlainCore}
 use Rattle.sp_core.specs.Step as core_step
 use Rattle.sp_core.specs.Store as store
 use Rattle.sp_core.specs.Transfers as core_slice
-use Rattle.sp_desugar.specs.Agreement.{HasMemories, View, place_of, Agree}
+use Rattle.sp_desugar.specs.Agreement.{HasMemories, View, Agree}
 use Rattle.sp_desugar.specs.Numbers.{is_off_dram, mem_number, dram_number, numbers_from}
 use Rattle.sp_desugar.proofs.MemoryLemmas.{changed_here, changed_elsewhere, chip_exists, chip_kind, chip_dims, chip_holds, chip_place}
 use Rattle.sp_desugar.proofs.StepLemmas.{as_it_went, same_answer, same_store, taken_apart, then_on, turn_taken}

@@ -1,6 +1,6 @@
 -- A loop does what its statement does, where its body does.
-use Rattle.std.proofs.Common.{◌≡◌, ℕ, ◌≤◌, Bool, true, false, List, [], ◌∷◌, ◌++◌, Option, None, refl, sym, ◌∙◌, ap, subst, arith, if◌then◌else◌}
-use Rattle.std.specs.Prelude.{ℤ, map, length, Contains}
+use Rattle.std.proofs.Common.{◌≡◌, ℕ, ◌≤◌, Bool, true, List, [], ◌∷◌, ◌++◌, Option, refl, sym, ◌∙◌, ap, subst, arith}
+use Rattle.std.specs.Prelude.{ℤ, map, length}
 use Rattle.sp_words.specs.declared.kind.Style.{Style}
 use Rattle.sp_tree.specs.Elements.{tuples}
 use Rattle.sp_tree.specs.PlainProgram.{PlainProgram}
@@ -10,7 +10,6 @@ use Rattle.sp_tree.specs.Shape as program_shape
 use Rattle.sp_tree.specs.Shape.{shapes, ran, looped}
 use Rattle.sp_tree.specs.Step as step
 use Rattle.sp_tree.specs.Store as program_store
-use Rattle.sp_tree.specs.Structure.{own_mems, is_inner}
 use Rattle.sp_tree.specs.Typing.{CountersTyped, with_counters}
 use Rattle.sp_core.specs.History.{Entry, History, Bounds, Runs, inner_ran, outer_ran, groups_of}
 use Rattle.sp_core.specs.PlainCore as plain
@@ -27,7 +26,7 @@ use Rattle.sp_desugar.proofs.NodeParts.{InLaneZero}
 use Rattle.sp_desugar.proofs.StepLemmas.{same_answer, same_left, same_store, taken_apart, then_on}
 use Rattle.sp_same.specs.Counts.{Count, loop, counts_in, counts_in_all, counts_of as node_counts, group_counts, stage_counts}
 use Rattle.sp_same.specs.Following.{SourcesSeen, AreReady, NodeGoes, BodyFollowed}
-use Rattle.sp_same.proofs.BoundsTaken.{IsLoop, IsLive, core_loops, AreLoops, are_loops, SameValues, iterations, bounds_taken}
+use Rattle.sp_same.proofs.BoundsTaken.{IsLoop, core_loops, AreLoops, are_loops, SameValues, iterations, bounds_taken}
 use Rattle.sp_same.proofs.Counting.{enter, outside, leave}
 use Rattle.sp_same.proofs.Groups.{inner_group, one_inner, outer_group, one_outer, first_is_live}
 use Rattle.sp_same.proofs.Quietly.{Pairs}

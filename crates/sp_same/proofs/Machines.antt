@@ -1,5 +1,5 @@
 -- An FSM does what its statement does, where its body does.
-use Rattle.std.proofs.Common.{◌≡◌, ℕ, zero, suc, ◌+◌, ◌<◌, ◌≤◌, Bool, true, false, List, [], ◌∷◌, ◌++◌, Some, refl, sym, ◌∙◌, ap, subst, arith, ◌==◌}
+use Rattle.std.proofs.Common.{◌≡◌, ℕ, zero, suc, ◌≤◌, Bool, true, false, List, [], ◌∷◌, ◌++◌, Some, refl, sym, ◌∙◌, ap, subst, arith, ◌==◌}
 use Rattle.std.proofs.lemmas.Bool.{eqb-true, eq-eqb, false≢true}
 use Rattle.std.specs.Prelude.{length, Contains}
 use Rattle.sp_words.specs.declared.kind.Style.TheVariants.{Pipe}
@@ -17,7 +17,7 @@ use Rattle.sp_tree.specs.Step as step
 use Rattle.sp_tree.specs.Store as program_store
 use Rattle.sp_tree.specs.Typing.{IsFreshVal, HasTypeStill, StmtTyped, with_val}
 use Rattle.sp_core.specs.Accesses.{hold_now}
-use Rattle.sp_core.specs.History.{Entry, History, Turn, Turns, fsm_ran, turns_of, last_word}
+use Rattle.sp_core.specs.History.{Entry, Turn, fsm_ran, turns_of, last_word}
 use Rattle.sp_core.specs.Operations.{operations}
 use Rattle.sp_core.specs.PlainCore.{PlainOp, PlainNode, PlainCore}
 use Rattle.sp_core.specs.Scope.{plainly}
@@ -33,12 +33,12 @@ use Rattle.sp_desugar.specs.Values.{in_register, Sources, with_state}
 use Rattle.sp_desugar.proofs.Entering.{fresh_apart}
 use Rattle.sp_desugar.proofs.MemoryLemmas.{changed_here, changed_elsewhere}
 use Rattle.sp_desugar.proofs.NumberLemmas.{either}
-use Rattle.sp_desugar.proofs.StepLemmas.{as_it_went, not_more, same_answer, same_left, same_store, taken_apart, then_on}
-use Rattle.sp_same.specs.Counts.{Count, turns, counts_in, counts_in_all, counts_of, body_counts, turn_count}
+use Rattle.sp_desugar.proofs.StepLemmas.{as_it_went, not_more, same_answer, same_store, taken_apart, then_on}
+use Rattle.sp_same.specs.Counts.{turns, counts_in, counts_in_all, counts_of, body_counts, turn_count}
 use Rattle.sp_same.specs.Following.{AreSpare, NodeGoes, BodyFollowed, alone}
 use Rattle.sp_same.proofs.LoopNodes.{no_more_counts}
 use Rattle.sp_same.proofs.Registers.{agree_written, agree_besides, agree_bound, agree_outside, agree_kept}
-use Rattle.sp_same.proofs.StillWords.{is_no_fifo, unchanged, word_still}
+use Rattle.sp_same.proofs.StillWords.{unchanged, word_still}
 use Rattle.sp_same.proofs.Turns.{body_falls, turn_falls}
 use Rattle.sp_same.proofs.WordsTaken.{Takes, word_taken}
 

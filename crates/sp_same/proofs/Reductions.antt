@@ -1,6 +1,6 @@
 -- A Reduce or a Fold over an inner body does what its statement does.
-use Rattle.std.proofs.Common.{◌≡◌, ℕ, zero, suc, ◌+◌, ◌<◌, ◌≤◌, Bool, true, false, List, [], ◌∷◌, ◌++◌, Option, Some, None, refl, sym, ◌∙◌, ap, subst, arith, length-append, ◌==◌, if◌then◌else◌}
-use Rattle.std.specs.Prelude.{ℤ, map, length, slice_index_or, slice_set, Contains, IsTrue}
+use Rattle.std.proofs.Common.{◌≡◌, ℕ, suc, ◌+◌, ◌≤◌, Bool, true, false, List, [], ◌∷◌, ◌++◌, Option, Some, refl, sym, ◌∙◌, ap, subst, arith, length-append, ◌==◌, if◌then◌else◌}
+use Rattle.std.specs.Prelude.{ℤ, map, length, slice_set, Contains, IsTrue}
 use Rattle.sp_words.specs.declared.kind.Kind.TheVariants.{Reg}
 use Rattle.sp_words.specs.declared.kind.Style.{Style}
 use Rattle.sp_words.specs.declared.types.Ty.{Ty}
@@ -23,7 +23,7 @@ use Rattle.sp_tree.specs.Structure.{own_mems, is_inner}
 use Rattle.sp_tree.specs.Typing.{Typed, IsMem, BodyTyped, CountersTyped, with_counters, after_all}
 use Rattle.sp_core.specs.declared.operation.OpKind.TheVariants as kind
 use Rattle.sp_core.specs.History.{Entry, Bounds, left_out, touched, word_of, word_at, inner_ran}
-use Rattle.sp_core.specs.Operations.{done_by, is_masked, operation, operations, operations_after}
+use Rattle.sp_core.specs.Operations.{done_by, operation, operations}
 use Rattle.sp_core.specs.Operators.{two_word, chosen}
 use Rattle.sp_core.specs.PlainCore as plain
 use Rattle.sp_core.specs.PlainCore.{PlainOp, PlainNode, PlainCore, inner}
@@ -39,7 +39,7 @@ use Rattle.sp_desugar.specs.Early.{is_early, registers_for, counters_of, bounds_
 use Rattle.sp_desugar.specs.Numbers.{mem_number}
 use Rattle.sp_desugar.specs.Operations.{Code, read_op, under}
 use Rattle.sp_desugar.specs.Runs.{Run, no_run, next_code, inner_run}
-use Rattle.sp_desugar.specs.Registers.{ending_of, owned_registers}
+use Rattle.sp_desugar.specs.Registers.{ending_of}
 use Rattle.sp_desugar.specs.Stages.{Combines, folds, reduces, combines, outer_node, body_node, stages, node}
 use Rattle.sp_desugar.specs.Values.{in_register, Sources}
 use Rattle.sp_desugar.proofs.Entering.{same_mems, same_vals}
@@ -47,11 +47,11 @@ use Rattle.sp_desugar.proofs.Follows.{follows}
 use Rattle.sp_desugar.proofs.GoOnLemmas.{then_others}
 use Rattle.sp_desugar.proofs.MemoryLemmas.{changed_here}
 use Rattle.sp_desugar.proofs.NumberLemmas.{either}
-use Rattle.sp_desugar.proofs.StepLemmas.{as_it_went, same_answer, same_store, taken_apart, then_on}
-use Rattle.sp_same.specs.Counts.{Count, loop, counts_in, counts_in_all, counts_of as node_counts}
+use Rattle.sp_desugar.proofs.StepLemmas.{same_answer, same_store, taken_apart, then_on}
+use Rattle.sp_same.specs.Counts.{loop, counts_in, counts_in_all, counts_of as node_counts}
 use Rattle.sp_same.specs.Following.{SourcesSeen, AreSpare, IsOwn, AreReady, NodeGoes}
-use Rattle.sp_same.proofs.BoundsTaken.{IsLoop, IsLive, core_loops, AreLoops, are_loops, SameValues, iterations, bounds_taken}
-use Rattle.sp_same.proofs.Combining.{same_combined, fold_goes, Reduced, reads, reduce_goes}
+use Rattle.sp_same.proofs.BoundsTaken.{IsLoop, core_loops, AreLoops, are_loops, SameValues, iterations, bounds_taken}
+use Rattle.sp_same.proofs.Combining.{same_combined, fold_goes, reads, reduce_goes}
 use Rattle.sp_same.proofs.Counting.{enter, outside, leave}
 use Rattle.sp_same.proofs.Groups.{inner_group}
 use Rattle.sp_same.proofs.InnerBodies.{after_mems, ended, Ran, ran, left_group}

@@ -1,22 +1,20 @@
 -- A register that the compiler added takes a word, and what agreed still does.
-use Rattle.std.proofs.Common.{◌≡◌, ℕ, zero, suc, ◌<◌, List, [], ◌∷◌, Option, Some, refl, sym, ◌∙◌, ap, subst, arith, ◌==◌}
-use Rattle.std.proofs.lemmas.Bool.{eqb-true, eqb-false}
+use Rattle.std.proofs.Common.{◌≡◌, ℕ, zero, suc, List, [], ◌∷◌, Option, Some, refl, sym, ◌∙◌, ap, subst, arith}
 use Rattle.std.specs.Prelude.{Contains}
 use Rattle.sp_words.specs.declared.types.Ty.{Ty}
-use Rattle.sp_words.specs.Memory.{Contents, cells}
+use Rattle.sp_words.specs.Memory.{cells}
 use Rattle.sp_tree.specs.PlainProgram.{PlainProgram}
 use Rattle.sp_tree.specs.Store as program_store
 use Rattle.sp_tree.specs.Typing.{IsFreshVal, with_val}
 use Rattle.sp_core.specs.History.{Entry}
 use Rattle.sp_core.specs.PlainCore.{PlainCore}
-use Rattle.sp_core.specs.Scope as counters
 use Rattle.sp_core.specs.Store as store
 use Rattle.sp_desugar.specs.Agreement.{HasMemories, View, IsAdded, Finds, IsWaiting, Agree}
 use Rattle.sp_desugar.specs.Numbers.{mem_number}
 use Rattle.sp_desugar.specs.Values.{Source, at_place, in_register, constant, count, Sources}
 use Rattle.sp_desugar.proofs.Entering.{fresh_apart}
-use Rattle.sp_desugar.proofs.MemoryLemmas.{changed_here, changed_elsewhere, chip_place}
-use Rattle.sp_desugar.proofs.NumberLemmas.{either, number_below}
+use Rattle.sp_desugar.proofs.MemoryLemmas.{changed_here, changed_elsewhere}
+use Rattle.sp_desugar.proofs.NumberLemmas.{number_below}
 use Rattle.sp_same.specs.Following.{SourceBefore, AreSpare}
 use Rattle.sp_same.proofs.Places.{register_apart}
 

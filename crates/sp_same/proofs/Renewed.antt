@@ -1,12 +1,12 @@
 -- The memories of a body are made fresh, and wait for their declarations.
-use Rattle.std.proofs.Common.{◌≡◌, ℕ, zero, suc, ◌<◌, Bool, true, false, not, ◌&&◌, List, [], ◌∷◌, ◌++◌, Option, Some, refl, sym, ◌∙◌, ap, subst, arith, ◌==◌}
-use Rattle.std.proofs.lemmas.Bool.{false≢true, eqb-true, eqb-false}
+use Rattle.std.proofs.Common.{◌≡◌, ℕ, zero, suc, Bool, true, false, ◌&&◌, List, [], ◌∷◌, ◌++◌, Some, refl, sym, ◌∙◌, ap, subst, arith}
+use Rattle.std.proofs.lemmas.Bool.{false≢true}
 use Rattle.std.specs.Prelude.{map, Contains}
 use Rattle.sp_words.specs.Memory.{Contents, fresh_of}
 use Rattle.sp_tree.specs.Expressions as expressions
 use Rattle.sp_tree.specs.PlainProgram.{PlainProgram}
 use Rattle.sp_tree.specs.Store as program_store
-use Rattle.sp_core.specs.Declarations.{mem, fresh}
+use Rattle.sp_core.specs.Declarations.{mem}
 use Rattle.sp_core.specs.PlainCore as plain
 use Rattle.sp_core.specs.PlainCore.{PlainCore}
 use Rattle.sp_core.specs.Scope.{plainly}
@@ -14,9 +14,9 @@ use Rattle.sp_core.specs.Sequential.{has_reset, renew, renew_in_body}
 use Rattle.sp_core.specs.Step.{Step, went, pure, change, in_order, ◌>>=◌}
 use Rattle.sp_core.specs.Store as store
 use Rattle.sp_desugar.specs.Agreement.{HasMemories, View, place_of, Finds, IsWaiting, Apart, Agree}
-use Rattle.sp_desugar.specs.Numbers.{is_off_dram, mem_number}
+use Rattle.sp_desugar.specs.Numbers.{mem_number}
 use Rattle.sp_desugar.specs.Values.{Source, at_place, in_register, constant, count}
-use Rattle.sp_desugar.proofs.MemoryLemmas.{changed_here, changed_elsewhere, chip_mem, chip_place, place_apart}
+use Rattle.sp_desugar.proofs.MemoryLemmas.{changed_here, changed_elsewhere, chip_mem, place_apart}
 use Rattle.sp_desugar.proofs.NumberLemmas.{either, number_below, numbers_apart}
 use Rattle.sp_desugar.proofs.RunKeeps.{in_front, in_back}
 use Rattle.sp_desugar.proofs.StepLemmas.{then_on}

@@ -1,9 +1,8 @@
 -- The node of a load or a store does what its statement does.
 use Rattle.std.proofs.Common.{◌≡◌, ℕ, suc, Bool, true, false, List, [], ◌∷◌, refl, sym, ◌∙◌, ap, subst, arith}
-use Rattle.std.specs.Prelude.{length, map, Contains}
-use Rattle.sp_words.specs.declared.kind.Kind.TheVariants.{Sram, Dram}
+use Rattle.std.specs.Prelude.{length, map}
 use Rattle.sp_tree.specs.declared.statement.FaultKind.{FaultKind}
-use Rattle.sp_tree.specs.declared.statement.FaultKind.TheVariants.{Bounds, DramBounds}
+use Rattle.sp_tree.specs.declared.statement.FaultKind.TheVariants.{DramBounds}
 use Rattle.sp_tree.specs.Elements.{index_value}
 use Rattle.sp_tree.specs.Expressions as expressions
 use Rattle.sp_tree.specs.Expressions.{word}
@@ -23,12 +22,12 @@ use Rattle.sp_core.specs.Store as store
 use Rattle.sp_core.specs.Transfers as core_slice
 use Rattle.sp_core.specs.Transfers.{part_of}
 use Rattle.sp_desugar.specs.Agreement.{HasMemories, View, Agree}
-use Rattle.sp_desugar.specs.Numbers.{mem_number, dram_number}
+use Rattle.sp_desugar.specs.Numbers.{dram_number}
 use Rattle.sp_desugar.proofs.MemoryLemmas.{passed}
 use Rattle.sp_desugar.proofs.NumberLemmas.{either}
 use Rattle.sp_desugar.proofs.StepLemmas.{same_answer, same_store, taken_apart, then_on}
 use Rattle.sp_same.proofs.LaneCounts.{one_lane, no_words}
-use Rattle.sp_same.proofs.Moves.{Moving, sram_kind, sram_dims, dram_has}
+use Rattle.sp_same.proofs.Moves.{Moving}
 use Rattle.sp_same.proofs.SliceTwins.{as_core, same_lengths, same_none, same_parts_inside, same_fit}
 
 -- a slice of no range has one lane
