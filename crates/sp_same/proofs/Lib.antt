@@ -30,3 +30,5 @@ pub mod EarlyStages
 pub mod EarlyWords
 pub mod Lines
 pub mod LineNodes
+pub mod Ends
+pub mod Whole

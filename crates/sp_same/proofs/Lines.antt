@@ -56,7 +56,7 @@ from_snoc : (a n : ℕ) → numbers_from a (suc n) ≡ numbers_from a n ++ (a + 
 from_snoc a zero = ap (λ k. k ∷ []) {x = a} {y = a + 0} (omega arith)
 from_snoc a (suc n) = ap (λ l. a ∷ l) (from_snoc (suc a) n ∙ ap (λ k. numbers_from (suc a) n ++ k ∷ []) {x = suc a + n} {y = a + suc n} (omega arith))
 
-below_from : (n : ℕ) → elements.numbers_below n ≡ numbers_from 0 n
+pub below_from : (n : ℕ) → elements.numbers_below n ≡ numbers_from 0 n
 below_from zero = refl
 below_from (suc n) = ap (λ l. l ++ n ∷ []) (below_from n) ∙ ap (λ k. numbers_from 0 n ++ k ∷ []) {x = n} {y = 0 + n} (omega arith) ∙ sym (from_snoc 0 n)
 

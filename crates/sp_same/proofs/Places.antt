@@ -26,10 +26,10 @@ use Rattle.sp_desugar.proofs.NumberLemmas.{either, number_below}
 dram_cons : (x : PlainMem) (xs : List PlainMem) (m : ℕ) → dram_number (x ∷ xs) (suc m) ≡ cond (is_on_dram x) 1 0 + dram_number xs m
 dram_cons x xs m = sum_by-cons (λ y. cond (is_on_dram y) 1 0) x (take m xs)
 
-dram_kept : (x : PlainMem) (xs : List PlainMem) (m : ℕ) → is_on_dram x ≡ true → dram_number (x ∷ xs) (suc m) ≡ suc (dram_number xs m)
+pub dram_kept : (x : PlainMem) (xs : List PlainMem) (m : ℕ) → is_on_dram x ≡ true → dram_number (x ∷ xs) (suc m) ≡ suc (dram_number xs m)
 dram_kept x xs m e = dram_cons x xs m ∙ ap (λ b. cond b 1 0 + dram_number xs m) e ∙ omega arith
 
-dram_skipped : (x : PlainMem) (xs : List PlainMem) (m : ℕ) → is_on_dram x ≡ false → dram_number (x ∷ xs) (suc m) ≡ dram_number xs m
+pub dram_skipped : (x : PlainMem) (xs : List PlainMem) (m : ℕ) → is_on_dram x ≡ false → dram_number (x ∷ xs) (suc m) ≡ dram_number xs m
 dram_skipped x xs m e = dram_cons x xs m ∙ ap (λ b. cond b 1 0 + dram_number xs m) e ∙ omega arith
 
 -- no two DRAMs have one number

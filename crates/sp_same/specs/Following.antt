@@ -1,9 +1,10 @@
 -- What it means that a node of a core does what a statement of its program does.
-use Rattle.std.specs.Prelude.{◌≡◌, ℕ, ◌<◌, ◌≤◌, Bool, true, List, [], ◌∷◌, length, Contains, Option, Some}
+use Rattle.std.specs.Prelude.{◌≡◌, ℕ, ◌<◌, ◌≤◌, Bool, true, false, List, [], ◌∷◌, length, Contains, Option, Some}
 use Rattle.sp_words.specs.declared.kind.Style.{Style}
 use Rattle.sp_words.specs.declared.types.Ty.{Ty}
 use Rattle.sp_words.specs.Memory.{cells}
 use Rattle.sp_tree.specs.Expressions.{mem, word}
+use Rattle.sp_tree.specs.Invariant.{outer_scope}
 use Rattle.sp_tree.specs.PlainExpression.{PlainExpr}
 use Rattle.sp_tree.specs.PlainProgram.{PlainProgram}
 use Rattle.sp_tree.specs.PlainStatement.{PlainStmts}
@@ -15,7 +16,7 @@ use Rattle.sp_tree.specs.Store as program_store
 use Rattle.sp_tree.specs.Typing.{Scope}
 use Rattle.sp_core.specs.History.{History, Runs}
 use Rattle.sp_core.specs.PlainCore.{PlainNode, PlainStages, PlainCore}
-use Rattle.sp_core.specs.Scope.{plainly}
+use Rattle.sp_core.specs.Scope.{plainly, no_scope}
 use Rattle.sp_core.specs.Sequential.{run, run_stages}
 use Rattle.sp_core.specs.Shape.{shape_of, stage_shapes}
 use Rattle.sp_core.specs.Step.{went}
@@ -26,7 +27,7 @@ use Rattle.sp_desugar.specs.Numbers.{is_off_dram}
 use Rattle.sp_desugar.specs.Runs.{no_run}
 use Rattle.sp_desugar.specs.Stages.{nothing, body_node, stages}
 use Rattle.sp_desugar.specs.Uses.{no_more}
-use Rattle.sp_desugar.specs.Values.{Source, in_register, count, Sources}
+use Rattle.sp_desugar.specs.Values.{Source, in_register, count, Sources, no_sources}
 use Rattle.sp_same.specs.Counts.{counts_in_all, counts_of, stage_counts}
 
 -- a value that stands for a counter stands for one that is visible
@@ -99,3 +100,7 @@ module _ (p : PlainProgram) (core : PlainCore) where
 abbrev pub alone : PlainProgram → Sources → (n : ℕ) → Style → PlainStmts → PlainNode
 alone p sources n style body =
     body_node p.mems (length p.counters) sources n [] style body no_more nothing (stages p.mems (length p.counters) (no_run sources) n body no_more nothing)
+
+-- what is known where a program begins: its ports are visible
+abbrev pub first_view : PlainProgram → View
+first_view p = record { scope = outer_scope p; sources = no_sources; around = no_scope; waiting = []; resets = λ m. false; registers = [] }

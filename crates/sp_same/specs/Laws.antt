@@ -3,8 +3,10 @@ use Rattle.std.specs.Prelude.{◌≡◌, ℕ, suc, ◌+◌, ◌≤◌, Bool, fal
 use Rattle.sp_words.specs.declared.kind.Style.{Style}
 use Rattle.sp_words.specs.declared.kind.Style.TheVariants.{Pipe}
 use Rattle.sp_words.specs.declared.types.Ty.TheVariants.{Bit}
+use Rattle.sp_words.specs.Ports.{PlainInput}
 use Rattle.sp_tree.specs.declared.statement.Comb.{Comb}
 use Rattle.sp_tree.specs.Invariant.{ports_of}
+use Rattle.sp_tree.specs.Meaning as program
 use Rattle.sp_tree.specs.PlainExpression.{PlainExpr, type_of}
 use Rattle.sp_tree.specs.PlainProgram.{PlainProgram}
 use Rattle.sp_tree.specs.PlainStatement.{PlainCounter, PlainStmtKind, PlainStmts, load_sram, load_line, store, gather, scatter, block, foreach, reduce, mem_reduce, fsm, branch}
@@ -17,16 +19,19 @@ use Rattle.sp_tree.specs.Expressions.{dims}
 use Rattle.sp_tree.specs.Streams.{fifos_with_room}
 use Rattle.sp_tree.specs.Structure.{own_mems, is_inner}
 use Rattle.sp_tree.specs.Typing.{StmtTyped, BodyTyped, HasTypeStill, CountersTyped, with_counters, with_val}
+use Rattle.sp_core.specs.History.{Entry}
+use Rattle.sp_core.specs.Meaning as core_meaning
 use Rattle.sp_core.specs.PlainCore.{PlainCore}
 use Rattle.sp_core.specs.Scope as counters
 use Rattle.sp_core.specs.Store as store
 use Rattle.sp_desugar.specs.Agreement.{HasMemories, View, HaveRooms, Apart, IsAdded, Agree}
+use Rattle.sp_desugar.specs.Core.{core_of}
 use Rattle.sp_desugar.specs.Early.{is_early, is_early_part, registers_for, bounds_of, parts_of, early_stages}
 use Rattle.sp_desugar.specs.Registers.{registers_in}
 use Rattle.sp_desugar.specs.Stages.{style_of, node}
 use Rattle.sp_desugar.specs.Uses.{no_more}
 use Rattle.sp_desugar.specs.Values.{Sources, with_state}
-use Rattle.sp_same.specs.Following.{SourcesSeen, AreSpare, HoldsWord, AreReady, AreCells, EarlyGoes, NodeGoes, IsOwn, BodyFollowed, alone}
+use Rattle.sp_same.specs.Following.{SourcesSeen, AreSpare, HoldsWord, AreReady, AreCells, EarlyGoes, NodeGoes, IsOwn, BodyFollowed, alone, first_view}
 
 -- a transfer; the line buffer that a row is loaded into has as many rows as its first dimension
 abbrev pub IsTransfer : PlainProgram → program_store.Store → PlainStmtKind → Type 0
@@ -133,3 +138,14 @@ AreEarlyFollowed p roomy core kind =
     → HasMemories p core → StmtTyped p view.scope kind → AreSpare b (b + length (registers_for (crosses_in kind) (words_in kind))) view → AreCells p core (crosses_in kind) t b (words_in kind) → Agree p core view [] s t
     → run_kind p.mems roomy kind place left s ≡ program_step.went did rest after
     → EarlyGoes p core most view (crosses_in kind) (words_in kind) b (early_stages p.mems view.sources b kind) left t s
+
+-- before a program begins its store and that of its core agree, for each input
+abbrev pub BeginAlike : PlainProgram → Type 0
+BeginAlike p = (input : PlainInput) → Agree p (core_of p) (first_view p) [] (program.first_store p input) (core_meaning.first_store (core_of p) input)
+
+-- where stores agree in outputs and DRAMs, their words are the same
+abbrev pub ArePutOutAlike : PlainProgram → Type 0
+ArePutOutAlike p =
+    (view : View) (done : List Entry) (s : program_store.Store) (t : store.Store)
+    → Agree p (core_of p) view done s t → ((m : ℕ) → Contains (program.outs_of p ++ program.drams_of p) m → Contains view.scope.mems m)
+    → (core_meaning.out_words (core_of p) t ≡ program.out_words p s) × (core_meaning.dram_words (core_of p) t ≡ program.dram_words p s)
