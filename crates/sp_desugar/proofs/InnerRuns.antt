@@ -33,7 +33,7 @@ use Rattle.sp_core.specs.PlainCore.{PlainOp, PlainCore}
 use Rattle.sp_core.specs.Sequential.{has_reset}
 use Rattle.sp_core.specs.Step as core_step
 use Rattle.sp_core.specs.Store as store
-use Rattle.sp_desugar.specs.Agreement.{HasMemories, View, at_run, Apart, HaveRooms, Finds, IsWaiting, Agree, GoOn}
+use Rattle.sp_desugar.specs.Agreement.{HasMemories, View, at_run, Apart, puts_in, HaveRooms, Finds, IsWaiting, Agree, GoOn}
 use Rattle.sp_desugar.specs.Numbers.{is_off_dram, mem_number}
 use Rattle.sp_desugar.specs.Operations.{Code, Codes, accesses, write_op, code, codes}
 use Rattle.sp_desugar.specs.Runs.{Run, with_ops, next_code, with_computed, with_reset, with_word as with_word_op, with_stmt, inner_run}
@@ -53,6 +53,11 @@ IsPlainStep (set_out m e) = Unit {0}
 IsPlainStep (set_sram m indices e) = Unit {0}
 IsPlainStep (enq m e) = Unit {0}
 IsPlainStep _ = ⊥
+
+-- a FIFO that a statement puts a word into is one of the body's
+abbrev pub IsPutIn : PlainStmts → PlainStmtKind → Type 0
+IsPutIn body (enq m e) = Contains (puts_in body) m
+IsPutIn body _ = Unit {0}
 
 module _ (p : PlainProgram) (core : PlainCore) (h : HasMemories p core) where
   -- the same operations, in another view
@@ -128,7 +133,7 @@ module _ (p : PlainProgram) (core : PlainCore) (h : HasMemories p core) where
       ∙ same (all.after number) (chip_holds p core h m lt off (at_run view run) all.all u all.after all.agree seen)))
       (agree_held p core h m lt off (at_run view run) all.all u all.after all.agree seen c)
 
-  module _ (roomy : List ℕ) (rooms : HaveRooms p roomy core) (view : View) (run : Run) (t : store.Store) where
+  module _ (roomy : List ℕ) (body : PlainStmts) (rooms : HaveRooms p roomy core body) (view : View) (run : Run) (t : store.Store) where
     abbrev pub Done : PlainStmtKind → program_store.Store → Type 0
     Done k after = Goes (record view { scope = scope_after view.scope k }) (with_stmt p.mems true None run k) t after
 
@@ -150,12 +155,12 @@ module _ (p : PlainProgram) (core : PlainCore) (h : HasMemories p core) where
     named v (expr place ty k) s u left n w g typed e = name_computed view run t s left g (expr place ty k) typed n u w e v
 
     pub stmt_follows : (k : PlainStmtKind) (place : ℕ) (s after : program_store.Store) (left rest : ℕ) (shapes : List Shape) → Goes view run t s → StmtTyped p view.scope k
-        → run_kind p.mems roomy k place left s ≡ step.went shapes rest after → IsPlainStep k → (shapes ≡ []) × Done k after
+        → run_kind p.mems roomy k place left s ≡ step.went shapes rest after → IsPlainStep k → IsPutIn body k → (shapes ≡ []) × Done k after
     unfolding run_kind step.◌>>=◌ step.pure step.read step.change core_step.pure
-    stmt_follows (name v e) place s after left rest shapes g typed went plain =
+    stmt_follows (name v e) place s after left rest shapes g typed went plain put =
         let b = taken_apart (expressions.word p.mems e) (λ w. step.◌>>◌ (name_now v w) (step.pure [])) left s shapes rest after went in
         as_it_went (λ x n u. (x ≡ []) × Done (name v e) u) [] shapes b.between rest (program_store.name_value b.store v b.answer) after b.second (refl, named v e s b.store left b.between b.answer g typed.1 b.first)
-    stmt_follows (set_reg m e) place s after left rest shapes g typed went plain =
+    stmt_follows (set_reg m e) place s after left rest shapes g typed went plain put =
         let b = taken_apart (expressions.word p.mems e) (λ w. step.◌>>◌ (program.write_cell m 0 w) (step.pure [])) left s shapes rest after went in
         let c : Contents = cells (slice_set (program_store.cells_of (b.store.held m)) 0 (Some b.answer)) in
         as_it_went (λ x n u. (x ≡ []) × Done (set_reg m e) u) [] shapes b.between rest (program_store.hold b.store m c) after b.second (
@@ -163,7 +168,7 @@ module _ (p : PlainProgram) (core : PlainCore) (h : HasMemories p core) where
           write_follows view run t m Reg e s b.store left b.between b.answer c g typed.0.seen typed.0.is_kind refl (λ n r. r) typed.1 b.first
               (λ d f. ap (λ x. cells (slice_set x 0 (Some b.answer))) (ap store.cells_of f ∙ same_cells (b.store.held m))),
         )
-    stmt_follows (set_out m e) place s after left rest shapes g typed went plain =
+    stmt_follows (set_out m e) place s after left rest shapes g typed went plain put =
         let b = taken_apart (expressions.word p.mems e) (λ w. step.◌>>◌ (program.write_word m 0 w) (step.pure [])) left s shapes rest after went in
         let c : Contents = words (slice_set (program_store.words_of (b.store.held m)) 0 b.answer) in
         as_it_went (λ x n u. (x ≡ []) × Done (set_out m e) u) [] shapes b.between rest (program_store.hold b.store m c) after b.second (
@@ -171,7 +176,7 @@ module _ (p : PlainProgram) (core : PlainCore) (h : HasMemories p core) where
           write_follows view run t m ArgOut e s b.store left b.between b.answer c g typed.0.seen typed.0.is_kind refl (λ n r. r) typed.1 b.first
               (λ d f. ap (λ x. words (slice_set x 0 b.answer)) (ap store.words_of f ∙ same_words (b.store.held m))),
         )
-    stmt_follows (set_sram m indices e) place s after left rest shapes g typed went plain =
+    stmt_follows (set_sram m indices e) place s after left rest shapes g typed went plain put =
         let b = taken_apart (expressions.words p.mems indices) (λ is. step.◌>>=◌ (expressions.word p.mems e) (λ w. step.◌>>=◌ (expressions.element p.mems m place is) (λ i. step.◌>>◌ (program.write_cell m i w) (step.pure [])))) left s shapes rest after went in
         let d = taken_apart (expressions.word p.mems e) (λ w. step.◌>>=◌ (expressions.element p.mems m place b.answer) (λ i. step.◌>>◌ (program.write_cell m i w) (step.pure []))) b.between b.store shapes rest after b.second in
         let f = taken_apart (expressions.element p.mems m place b.answer) (λ i. step.◌>>◌ (program.write_cell m i d.answer) (step.pure [])) d.between d.store shapes rest after d.second in
@@ -199,7 +204,7 @@ module _ (p : PlainProgram) (core : PlainCore) (h : HasMemories p core) where
               ∙ ap (λ y. cells (slice_set (program_store.cells_of (f.store.held m)) y (Some d.answer))) (sym at_element.1)))
               (subst (λ u. Agree p core (at_run view run) both.all (program_store.hold u m c) (store.hold both.after n c)) (sym at_element.3) (agree_held p core h m lt off (at_run view run) both.all d.store both.after both.agree typed.0.seen c)),
         )
-    stmt_follows (enq m e) place s after left rest shapes g typed went plain =
+    stmt_follows (enq m e) place s after left rest shapes g typed went plain put =
         let b = taken_apart (expressions.word p.mems e) (λ w. step.◌>>◌ (program.enqueue m (room p.mems roomy m) w place) (step.pure [])) left s shapes rest after went in
         let d = taken_apart (program.enqueue m (room p.mems roomy m) b.answer place) (λ _. step.pure []) b.between b.store shapes rest after b.second in
         let q : List ℕ = program_store.queue_of (b.store.held m) in
@@ -216,10 +221,10 @@ module _ (p : PlainProgram) (core : PlainCore) (h : HasMemories p core) where
           subst (λ u. Done (enq m e) u) (same_store tt d.answer b.between d.between (program_store.hold b.store m c) d.store test.1)
               (op_next (at_run view run) run.ops x.ops t b.store (program_store.hold b.store m c) (x.word ∷ []) (b.answer ∷ []) kind.Enq (expressions.mem p.mems m).ty (Some n) (touched [] b.answer) (store.hold all.after n c) all
               (then_on (enqueue core n b.answer) (λ _. core_step.pure (touched [] b.answer)) all.after tt (store.hold all.after n c)
-              (core_puts core n b.answer all.after q holds (ap (λ r. nat_lt (length q) r) (rooms m lt typed.0.is_kind) ∙ test.0)))
+              (core_puts core n b.answer all.after q holds (ap (λ r. nat_lt (length q) r) (rooms m put lt typed.0.is_kind) ∙ test.0)))
               (agree_held p core h m lt off (at_run view run) all.all b.store all.after all.agree typed.0.seen c)),
         )
-    stmt_follows _ place s after left rest shapes g typed went plain = absurd plain
+    stmt_follows _ place s after left rest shapes g typed went plain put = absurd plain
 
     -- a declaration of an inner body
     module _ (m : ℕ) (others : List ℕ) (s : program_store.Store) (g : Goes view run t s) (w : IsWaiting p core (at_run view run) g.after m) (more : (k : ℕ) → Contains others k → Contains view.waiting k) (apart : Contains others m → ⊥) where
@@ -270,7 +275,7 @@ module _ (p : PlainProgram) (core : PlainCore) (h : HasMemories p core) where
   After_run others view body run t after = Goes (record view { scope = after_all view.scope body; waiting = others }) (inner_run p.mems run body) t after
 
   -- a statement and those after it
-  module _ (waits : List ℕ) (roomy : List ℕ) (rooms : HaveRooms p roomy core) (k : PlainStmtKind) (place : ℕ) (rest_body : PlainStmts) (view : View) (run0 : Run) (t : store.Store) (s after : program_store.Store) (left rest : ℕ) (shapes : List Shape) (view2 : View) (run2 : Run)
+  module _ (waits : List ℕ) (roomy : List ℕ) (k : PlainStmtKind) (place : ℕ) (rest_body : PlainStmts) (view : View) (run0 : Run) (t : store.Store) (s after : program_store.Store) (left rest : ℕ) (shapes : List Shape) (view2 : View) (run2 : Run)
       (went : run_all p.mems roomy (more_stmt (stmt place k) rest_body) left s ≡ step.went shapes rest after)
       (one : (after : program_store.Store) (left rest : ℕ) (shapes : List Shape) → run_kind p.mems roomy k place left s ≡ step.went shapes rest after → (shapes ≡ []) × Goes view2 run2 t after)
       (others : (s after : program_store.Store) (left rest : ℕ) (shapes : List Shape) → Goes view2 run2 t s → run_all p.mems roomy rest_body left s ≡ step.went shapes rest after → (shapes ≡ []) × After_run waits view2 rest_body run2 t after) where
@@ -285,39 +290,39 @@ module _ (p : PlainProgram) (core : PlainCore) (h : HasMemories p core) where
         as_it_went (λ x n u. (x ≡ []) × After_run waits view2 rest_body run2 t u) (b.answer ++ d.answer) shapes d.between rest d.store after d.second
         (ap (λ x. x ++ d.answer) first.0 ∙ later.0, later.1)
 
-  pub runs_follow : (waits : List ℕ) (roomy : List ℕ) → HaveRooms p roomy core → (body : PlainStmts) (view : View) (r : Run) (t : store.Store) (s after : program_store.Store) (left rest : ℕ) (shapes : List Shape)
+  pub runs_follow : (waits : List ℕ) (roomy : List ℕ) (body : PlainStmts) → HaveRooms p roomy core body → (view : View) (r : Run) (t : store.Store) (s after : program_store.Store) (left rest : ℕ) (shapes : List Shape)
       → Goes view r t s → IsTrue (is_inner body) → BodyTyped p view.scope body → Apart (own_mems body ++ waits) → view.waiting ≡ own_mems body ++ waits
       → run_all p.mems roomy body left s ≡ step.went shapes rest after → (shapes ≡ []) × After_run waits view body r t after
   unfolding run_all run_kind step.pure step.◌>>=◌ step.change
-  runs_follow waits roomy rooms no_stmt view r t s after left rest shapes g inner typed apart same went =
+  runs_follow waits roomy no_stmt rooms view r t s after left rest shapes g inner typed apart same went =
       as_it_went (λ x n u. (x ≡ []) × After_run waits view no_stmt r t u) [] shapes left rest s after went
       (refl, rescoped (at_run view r) view.scope r.values.here waits [] r.ops t s s [] [] g (others_waiting (at_run view r) waits g.all s g.after same g.agree))
-  runs_follow waits roomy rooms (more_stmt (stmt place (declare m)) body) view r t s after left rest shapes g inner typed apart same went =
+  runs_follow waits roomy (more_stmt (stmt place (declare m)) body) rooms view r t s after left rest shapes g inner typed apart same went =
       let later : View = record view { scope = with_mem view.scope m; waiting = own_mems body ++ waits } in
       let first : Contains view.waiting m = subst (λ ms. Contains ms m) (sym same) (0, omega arith, refl) in
       let more : (k : ℕ) → Contains (own_mems body ++ waits) k → Contains view.waiting k = λ k c. subst (λ ms. Contains ms k) (sym same) (seen_later m k (own_mems body ++ waits) c) in
-      both_follow waits roomy rooms (declare m) place body view r t s after left rest shapes later (with_stmt p.mems true None r (declare m)) went
+      both_follow waits roomy (declare m) place body view r t s after left rest shapes later (with_stmt p.mems true None r (declare m)) went
       (λ after left rest shapes w. as_it_went (λ x n u. (x ≡ []) × Goes later (with_reset p.mems r m) t u) [] shapes left rest _ after w
-      (refl, declared roomy rooms view r t m (own_mems body ++ waits) s g (g.agree.waiting m first) more apart.0))
-      (λ s after left rest shapes g w. runs_follow waits roomy rooms body later (with_stmt p.mems true None r (declare m)) t s after left rest shapes g inner typed.1 apart.1 refl w)
-  runs_follow waits roomy rooms (more_stmt (stmt place (name v e)) body) view r t s after left rest shapes g inner typed apart same went =
-      both_follow waits roomy rooms (name v e) place body view r t s after left rest shapes (record view { scope = scope_after view.scope (name v e) }) (with_stmt p.mems true None r (name v e)) went
-      (λ after left rest shapes w. stmt_follows roomy rooms view r t (name v e) place s after left rest shapes g typed.0 w tt)
-      (λ s after left rest shapes g w. runs_follow waits roomy rooms body (record view { scope = scope_after view.scope (name v e) }) (with_stmt p.mems true None r (name v e)) t s after left rest shapes g inner typed.1 apart same w)
-  runs_follow waits roomy rooms (more_stmt (stmt place (set_reg m e)) body) view r t s after left rest shapes g inner typed apart same went =
-      both_follow waits roomy rooms (set_reg m e) place body view r t s after left rest shapes view (with_stmt p.mems true None r (set_reg m e)) went
-      (λ after left rest shapes w. stmt_follows roomy rooms view r t (set_reg m e) place s after left rest shapes g typed.0 w tt)
-      (λ s after left rest shapes g w. runs_follow waits roomy rooms body view (with_stmt p.mems true None r (set_reg m e)) t s after left rest shapes g inner typed.1 apart same w)
-  runs_follow waits roomy rooms (more_stmt (stmt place (set_out m e)) body) view r t s after left rest shapes g inner typed apart same went =
-      both_follow waits roomy rooms (set_out m e) place body view r t s after left rest shapes view (with_stmt p.mems true None r (set_out m e)) went
-      (λ after left rest shapes w. stmt_follows roomy rooms view r t (set_out m e) place s after left rest shapes g typed.0 w tt)
-      (λ s after left rest shapes g w. runs_follow waits roomy rooms body view (with_stmt p.mems true None r (set_out m e)) t s after left rest shapes g inner typed.1 apart same w)
-  runs_follow waits roomy rooms (more_stmt (stmt place (set_sram m indices e)) body) view r t s after left rest shapes g inner typed apart same went =
-      both_follow waits roomy rooms (set_sram m indices e) place body view r t s after left rest shapes view (with_stmt p.mems true None r (set_sram m indices e)) went
-      (λ after left rest shapes w. stmt_follows roomy rooms view r t (set_sram m indices e) place s after left rest shapes g typed.0 w tt)
-      (λ s after left rest shapes g w. runs_follow waits roomy rooms body view (with_stmt p.mems true None r (set_sram m indices e)) t s after left rest shapes g inner typed.1 apart same w)
-  runs_follow waits roomy rooms (more_stmt (stmt place (enq m e)) body) view r t s after left rest shapes g inner typed apart same went =
-      both_follow waits roomy rooms (enq m e) place body view r t s after left rest shapes view (with_stmt p.mems true None r (enq m e)) went
-      (λ after left rest shapes w. stmt_follows roomy rooms view r t (enq m e) place s after left rest shapes g typed.0 w tt)
-      (λ s after left rest shapes g w. runs_follow waits roomy rooms body view (with_stmt p.mems true None r (enq m e)) t s after left rest shapes g inner typed.1 apart same w)
-  runs_follow waits roomy rooms (more_stmt (stmt place k) body) view r t s after left rest shapes g inner typed apart same went = absurd (false≢true inner)
+      (refl, declared roomy (more_stmt (stmt place (declare m)) body) rooms view r t m (own_mems body ++ waits) s g (g.agree.waiting m first) more apart.0))
+      (λ s after left rest shapes g w. runs_follow waits roomy body rooms later (with_stmt p.mems true None r (declare m)) t s after left rest shapes g inner typed.1 apart.1 refl w)
+  runs_follow waits roomy (more_stmt (stmt place (name v e)) body) rooms view r t s after left rest shapes g inner typed apart same went =
+      both_follow waits roomy (name v e) place body view r t s after left rest shapes (record view { scope = scope_after view.scope (name v e) }) (with_stmt p.mems true None r (name v e)) went
+      (λ after left rest shapes w. stmt_follows roomy (more_stmt (stmt place (name v e)) body) rooms view r t (name v e) place s after left rest shapes g typed.0 w tt tt)
+      (λ s after left rest shapes g w. runs_follow waits roomy body rooms (record view { scope = scope_after view.scope (name v e) }) (with_stmt p.mems true None r (name v e)) t s after left rest shapes g inner typed.1 apart same w)
+  runs_follow waits roomy (more_stmt (stmt place (set_reg m e)) body) rooms view r t s after left rest shapes g inner typed apart same went =
+      both_follow waits roomy (set_reg m e) place body view r t s after left rest shapes view (with_stmt p.mems true None r (set_reg m e)) went
+      (λ after left rest shapes w. stmt_follows roomy (more_stmt (stmt place (set_reg m e)) body) rooms view r t (set_reg m e) place s after left rest shapes g typed.0 w tt tt)
+      (λ s after left rest shapes g w. runs_follow waits roomy body rooms view (with_stmt p.mems true None r (set_reg m e)) t s after left rest shapes g inner typed.1 apart same w)
+  runs_follow waits roomy (more_stmt (stmt place (set_out m e)) body) rooms view r t s after left rest shapes g inner typed apart same went =
+      both_follow waits roomy (set_out m e) place body view r t s after left rest shapes view (with_stmt p.mems true None r (set_out m e)) went
+      (λ after left rest shapes w. stmt_follows roomy (more_stmt (stmt place (set_out m e)) body) rooms view r t (set_out m e) place s after left rest shapes g typed.0 w tt tt)
+      (λ s after left rest shapes g w. runs_follow waits roomy body rooms view (with_stmt p.mems true None r (set_out m e)) t s after left rest shapes g inner typed.1 apart same w)
+  runs_follow waits roomy (more_stmt (stmt place (set_sram m indices e)) body) rooms view r t s after left rest shapes g inner typed apart same went =
+      both_follow waits roomy (set_sram m indices e) place body view r t s after left rest shapes view (with_stmt p.mems true None r (set_sram m indices e)) went
+      (λ after left rest shapes w. stmt_follows roomy (more_stmt (stmt place (set_sram m indices e)) body) rooms view r t (set_sram m indices e) place s after left rest shapes g typed.0 w tt tt)
+      (λ s after left rest shapes g w. runs_follow waits roomy body rooms view (with_stmt p.mems true None r (set_sram m indices e)) t s after left rest shapes g inner typed.1 apart same w)
+  runs_follow waits roomy (more_stmt (stmt place (enq m e)) body) rooms view r t s after left rest shapes g inner typed apart same went =
+      both_follow waits roomy (enq m e) place body view r t s after left rest shapes view (with_stmt p.mems true None r (enq m e)) went
+      (λ after left rest shapes w. stmt_follows roomy (more_stmt (stmt place (enq m e)) body) rooms view r t (enq m e) place s after left rest shapes g typed.0 w tt (0, omega arith, refl))
+      (λ s after left rest shapes g w. runs_follow waits roomy body (λ m c. rooms m (suc c.0, omega (arith, c.1), c.2)) view (with_stmt p.mems true None r (enq m e)) t s after left rest shapes g inner typed.1 apart same w)
+  runs_follow waits roomy (more_stmt (stmt place k) body) rooms view r t s after left rest shapes g inner typed apart same went = absurd (false≢true inner)

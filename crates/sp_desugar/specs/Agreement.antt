@@ -6,6 +6,7 @@ use Rattle.sp_tree.specs.Declarations.{IsDeclaration}
 use Rattle.sp_tree.specs.Expressions.{mem}
 use Rattle.sp_tree.specs.Meaning.{is_dram}
 use Rattle.sp_tree.specs.PlainProgram.{PlainProgram}
+use Rattle.sp_tree.specs.PlainStatement.{PlainStmts, stmt, enq, no_stmt, more_stmt}
 use Rattle.sp_tree.specs.Store as program
 use Rattle.sp_tree.specs.Streams.{room}
 use Rattle.sp_tree.specs.Typing.{Scope}
@@ -93,9 +94,16 @@ module _ (p : PlainProgram) (core : PlainCore) where
 abbrev pub at_run : View → Run → View
 at_run view run = record view { sources = run.values.here }
 
--- FIFOs hold as many words in the core as in the program
-abbrev pub HaveRooms : PlainProgram → (roomy : List ℕ) → PlainCore → Type 0
-HaveRooms p roomy core = (m : ℕ) → m < length p.mems → (mem p.mems m).kind ≡ Fifo → core_room core (mem_number p.mems m) ≡ room p.mems roomy m
+-- the FIFOs that the statements of an inner body put words into
+abbrev pub puts_in : PlainStmts → List ℕ
+puts_in no_stmt = []
+puts_in (more_stmt (stmt place (enq m e)) rest) = m ∷ puts_in rest
+puts_in (more_stmt _ rest) = puts_in rest
+
+-- these FIFOs hold as many words in the core as in the program
+abbrev pub HaveRooms : PlainProgram → (roomy : List ℕ) → PlainCore → PlainStmts → Type 0
+HaveRooms p roomy core body =
+    (m : ℕ) → Contains (puts_in body) m → m < length p.mems → (mem p.mems m).kind ≡ Fifo → core_room core (mem_number p.mems m) ≡ room p.mems roomy m
 
 -- no memory is declared twice
 abbrev pub Apart : List ℕ → Type 0

@@ -47,7 +47,7 @@ IsFollowed p core e =
 abbrev pub IsInnerRun : PlainProgram → (roomy : List ℕ) → PlainCore → PlainStmts → Type 0
 IsInnerRun p roomy core body =
     (view : View) (run : Run) (waits : List ℕ) (s after : program_store.Store) (t : store.Store) (left rest : ℕ) (shapes : List Shape)
-    → HasMemories p core → HaveRooms p roomy core → IsTrue (is_inner body) → BodyTyped p view.scope body → Apart (own_mems body ++ waits) → view.waiting ≡ own_mems body ++ waits
+    → HasMemories p core → HaveRooms p roomy core body → IsTrue (is_inner body) → BodyTyped p view.scope body → Apart (own_mems body ++ waits) → view.waiting ≡ own_mems body ++ waits
     → GoOn p core (at_run view run) [] run.ops t s [] [] → run_all p.mems roomy body left s ≡ program.went shapes rest after
     → (shapes ≡ []) × GoOn p core (at_run (record view { scope = after_all view.scope body; waiting = waits }) (inner_run p.mems run body)) [] (inner_run p.mems run body).ops t after [] []
 

@@ -114,7 +114,7 @@ module _ (p : PlainProgram) (core : PlainCore) (h : HasMemories p core) where
   found_out around all t u (constant c) w x f g = g
   found_out around all t u (count c) w x f g = g
 
-  module _ (roomy : List ℕ) (rooms : HaveRooms p roomy core) (most : ℕ) (view : View) (body : PlainStmts) (is : IsTrue (is_inner body)) (typed : BodyTyped p view.scope body) (apart : Apart (own_mems body ++ view.waiting))
+  module _ (roomy : List ℕ) (body : PlainStmts) (rooms : HaveRooms p roomy core body) (most : ℕ) (view : View) (is : IsTrue (is_inner body)) (typed : BodyTyped p view.scope body) (apart : Apart (own_mems body ++ view.waiting))
       (own : (m : ℕ) → Contains (own_mems body) m → IsOwn p view.scope m) (resets : (m : ℕ) → view.resets m ≡ false) where
     abbrev body_run : Run
     body_run = inner_run p.mems (no_run view.sources) body
@@ -151,7 +151,7 @@ module _ (p : PlainProgram) (core : PlainCore) (h : HasMemories p core) where
         } in
         let fresh = all_renewed p core h most (renew_in_body core plainly most) (own_mems body) resetting s t
         (λ w m t c o ne b. in_body p core h (record resetting { waiting = w }) s m o ne most t b (among m (own_mems body) c)) own apart a2 in
-        let g = runs_follow p core h view.waiting roomy rooms body begun (no_run view.sources) fresh.1 s after left rest did (at_rest p core begun [] s fresh.1 fresh.3) is typed apart refl e in
+        let g = runs_follow p core h view.waiting roomy body rooms begun (no_run view.sources) fresh.1 s after left rest did (at_rest p core begun [] s fresh.1 fresh.3) is typed apart refl e in
         record { renewed = fresh.0; start = fresh.1; renews = fresh.2; goes = g.1; nothing_did = g.0 }
 
     -- what is visible outside agrees then

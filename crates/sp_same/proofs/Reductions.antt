@@ -65,8 +65,8 @@ first_counter : (p : PlainProgram) (sources : Sources) (b : ℕ) (loops : List P
 first_counter p sources b [] le = absurd (omega (arith, le))
 first_counter p sources b (c ∷ loops) le = (_, _, refl)
 
-module _ (p : PlainProgram) (core : PlainCore) (h : HasMemories p core) (roomy : List ℕ) (rooms : HaveRooms p roomy core) (most : ℕ) (view : View) (seen : SourcesSeen view.scope view.sources) (loops : List PlainCounter) (typed : CountersTyped p view.scope loops)
-    (body : PlainStmts) (is : IsTrue (is_inner body)) (body_typed : BodyTyped p (with_counters view.scope loops) body) (apart : Apart (own_mems body ++ view.waiting)) (own : (m : ℕ) → Contains (own_mems body) m → IsOwn p (with_counters view.scope loops) m)
+module _ (p : PlainProgram) (core : PlainCore) (h : HasMemories p core) (roomy : List ℕ) (body : PlainStmts) (rooms : HaveRooms p roomy core body) (most : ℕ) (view : View) (seen : SourcesSeen view.scope view.sources) (loops : List PlainCounter) (typed : CountersTyped p view.scope loops)
+    (is : IsTrue (is_inner body)) (body_typed : BodyTyped p (with_counters view.scope loops) body) (apart : Apart (own_mems body ++ view.waiting)) (own : (m : ℕ) → Contains (own_mems body) m → IsOwn p (with_counters view.scope loops) m)
     (resets : (m : ℕ) → view.resets m ≡ false) (acc : ℕ) (e : PlainExpr) (comb : Comb) (is_acc : IsMem p view.scope acc Reg (type_of e)) (e_typed : Typed p (after_all (with_counters view.scope loops) body) e) (place : ℕ) where
   abbrev ty : Ty
   ty = type_of e
@@ -88,7 +88,7 @@ module _ (p : PlainProgram) (core : PlainCore) (h : HasMemories p core) (roomy :
 
   -- after the body's statements and the word
   abbrev at_end : counters.Scope → List (ℕ × Option ℕ) → View
-  at_end around regs = ended p core h roomy rooms most (inside around regs) body is body_typed apart own resets
+  at_end around regs = ended p core h roomy body rooms most (inside around regs) is body_typed apart own resets
 
   acc_there : (around : counters.Scope) (regs : List (ℕ × Option ℕ)) → IsMem p (at_end around regs).scope acc Reg ty
   acc_there around regs = record { seen = after_mems (with_counters view.scope loops) body acc (subst (λ l. Contains l acc) (sym (same_mems view.scope loops)) is_acc.seen); is_kind = is_acc.is_kind; is_type = is_acc.is_type }
@@ -103,7 +103,7 @@ module _ (p : PlainProgram) (core : PlainCore) (h : HasMemories p core) (roomy :
   worded : (around : counters.Scope) (regs : List (ℕ × Option ℕ)) (s s2 s3 : program_store.Store) (t : store.Store) (left between rest w : ℕ) (did : List program_shape.Shape) → Agree p core (inside around regs) [] s t
       → run_all p.mems roomy body left s ≡ step.went did between s2 → word p.mems e between s2 ≡ step.went w rest s3 → Worded around regs t s3 w did
   worded around regs s s2 s3 t left between rest w did a goes word_goes =
-      let r : Ran p core h roomy rooms most (inside around regs) body is body_typed apart own resets t s2 did = ran p core h roomy rooms most (inside around regs) body is body_typed apart own resets s s2 t left between did a goes in
+      let r : Ran p core h roomy body rooms most (inside around regs) is body_typed apart own resets t s2 did = ran p core h roomy body rooms most (inside around regs) is body_typed apart own resets s s2 t left between did a goes in
       let f = follows p core h (at_end around regs) e (length so_far.ops) r.goes.all s2 s3 r.goes.after between rest w (omega (arith, r.goes.counted)) e_typed r.goes.agree word_goes in
       record {
         renewed = r.renewed;
@@ -182,7 +182,7 @@ module _ (p : PlainProgram) (core : PlainCore) (h : HasMemories p core) (roomy :
       let k = worded around view.registers i.s1 i.s2 i.s3 t i.left i.between i.later i.w i.did i.entered i.ran_on i.word_is in
       let f = fold_goes p core h (at_end around view.registers) acc ty (acc_there around view.registers) comb ops k.start i.s3 x.word i.w k.goes place i.later i.rest i.unit after
       (ap (λ b. assign p.mems comb acc 0 b i.w place i.later i.s3) (sym same.0) ∙ i.assigns) in
-      let out = left_group p core h roomy rooms most (inside around view.registers) body is body_typed apart own resets f.all i.s1 after t f.after i.entered f.agree in (
+      let out = left_group p core h roomy body rooms most (inside around view.registers) is body_typed apart own resets f.all i.s1 after t f.after i.entered f.agree in (
         f.all,
         f.after,
         then_on (core_step.in_order (renew_in_body core plainly most) mems_owned) (λ _. operations core around fold_body) t k.renewed k.start k.renews ∙ f.goes,
@@ -224,7 +224,7 @@ module _ (p : PlainProgram) (core : PlainCore) (h : HasMemories p core) (roomy :
       finished e1 c same first ends =
           let f = reduce_goes p core h (at_end around regs) acc ty (acc_there around regs) comb ops k.start i.s3 x.word i.w k.goes begun added bk (0, omega arith, refl) e1 c same first in
           let there : program_store.Store = program_store.hold i.s3 acc (cells (slice_set (program_store.cells_of (i.s3.held acc)) 0 (Some c))) in
-          let out = left_group p core h roomy rooms most (inside around regs) body is body_typed apart own resets f.all i.s1 there t f.end entered_too f.agree in
+          let out = left_group p core h roomy body rooms most (inside around regs) is body_typed apart own resets f.all i.s1 there t f.end entered_too f.agree in
           let fewer : Agree p core (inside around view.registers) [] there f.end = record {
             mems = out.mems;
             vals = out.vals;

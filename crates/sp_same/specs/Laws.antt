@@ -115,7 +115,7 @@ IsMachineFollowed p roomy core body =
 abbrev pub IsInnerBodyFollowed : PlainProgram → (roomy : List ℕ) → PlainCore → PlainStmts → Type 0
 IsInnerBodyFollowed p roomy core body =
     (most : ℕ) (view : View) (n : ℕ) (style : Style)
-    → HasMemories p core → HaveRooms p roomy core → IsTrue (is_inner body) → BodyTyped p view.scope body → Apart (own_mems body ++ view.waiting)
+    → HasMemories p core → HaveRooms p roomy core body → IsTrue (is_inner body) → BodyTyped p view.scope body → Apart (own_mems body ++ view.waiting)
     → ((m : ℕ) → Contains (own_mems body) m → IsOwn p view.scope m) → ((m : ℕ) → view.resets m ≡ false)
     → BodyFollowed p core roomy most view (alone p view.sources n style body) body
 
@@ -125,7 +125,7 @@ abbrev pub IsReductionFollowed : PlainProgram → (roomy : List ℕ) → PlainCo
 IsReductionFollowed p roomy core body =
     (most : ℕ) (view : View) (style : Style) (fold : Bool) (acc : ℕ) (loops : List PlainCounter) (e : PlainExpr) (comb : Comb) (b n place : ℕ) (s after : program_store.Store) (t : store.Store) (left rest : ℕ) (did : List Shape)
     → let begun : ℕ = b + length (registers_for is_early (bounds_of loops)) in
-    HasMemories p core → HaveRooms p roomy core → IsTrue (is_inner body) → StmtTyped p view.scope (reduce style fold acc loops body e comb) → SourcesSeen view.scope view.sources → Apart (own_mems body ++ view.waiting)
+    HasMemories p core → HaveRooms p roomy core body → IsTrue (is_inner body) → StmtTyped p view.scope (reduce style fold acc loops body e comb) → SourcesSeen view.scope view.sources → Apart (own_mems body ++ view.waiting)
     → ((m : ℕ) → Contains (own_mems body) m → IsOwn p (with_counters view.scope loops) m) → ((m : ℕ) → view.resets m ≡ false)
     → Agree p core view [] s t → AreReady p core is_early left s t b (bounds_of loops) → (fold ≡ false → IsAdded p core begun × AreSpare begun (suc begun) view × HoldsWord p core t begun 0)
     → run_kind p.mems roomy (reduce style fold acc loops body e comb) place left s ≡ program_step.went did rest after
