@@ -1,0 +1,6 @@
+//! The typed program that a tree without refusals spells.
+#![tactic(auto)]
+
+mod examples;
+
+pub use examples::{worked_expressions, worked_numbers, worked_programs};
