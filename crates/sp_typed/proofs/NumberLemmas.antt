@@ -1,6 +1,6 @@
 -- The numbers of things that stand one after the other.
-use Rattle.std.proofs.Common.{◌≡◌, ℕ, zero, suc, ◌+◌, List, [], ◌∷◌, ◌++◌, length, refl, sym, ap, ◌∙◌, arith}
-use Rattle.std.proofs.lemmas.List.{append-nil, append-assoc}
+use Rattle.std.proofs.Common.{◌≡◌, ℕ, zero, suc, ◌+◌, List, [], ◌∷◌, ◌++◌, length, map, refl, sym, ap, ◌∙◌, arith}
+use Rattle.std.proofs.lemmas.List.{append-nil, append_assoc}
 use Rattle.sp_tree.specs.Elements.{numbers_below}
 
 -- numbered from n on
@@ -21,13 +21,30 @@ places_end : {A : Type 0} (n : ℕ) (xs : List A) (x : A) → places n (xs ++ x 
 places_end n xs x = places_append n xs (x ∷ [])
 
 numbers_places : {A : Type 0} (n : ℕ) (xs : List A) → numbers_below n ++ places n xs ≡ numbers_below (n + length xs)
-numbers_places n [] = append-nil _ ∙ ap numbers_below (omega arith)
+numbers_places n [] =
+    let e : n ≡ n + 0 = omega arith in
+    append-nil _ ∙ ap numbers_below e
 numbers_places n (x ∷ xs) =
-    sym (append-assoc (numbers_below n) (n ∷ []) (places (n + 1) xs))
-    ∙ ap (λ m. m ++ places (n + 1) xs) (refl)
+    let e : n + 1 ≡ suc n = omega arith in
+    let f : n + 1 + length xs ≡ n + length (x ∷ xs) = omega arith in
+    sym (append_assoc (numbers_below n) (n ∷ []) (places (n + 1) xs))
+    ∙ ap (λ m. numbers_below m ++ places (n + 1) xs) (sym e)
     ∙ numbers_places (n + 1) xs
-    ∙ ap numbers_below (omega arith)
+    ∙ ap numbers_below f
 
 -- from 0 on
 pub places_below : {A : Type 0} (xs : List A) → places 0 xs ≡ numbers_below (length xs)
-places_below xs = numbers_places 0 xs ∙ ap numbers_below (omega arith)
+places_below xs =
+    let e : 0 + length xs ≡ length xs = omega arith in
+    numbers_places 0 xs ∙ ap numbers_below e
+
+-- only how many there are tells
+pub places_same : {A B : Type 0} (n : ℕ) (xs : List A) (ys : List B) → length xs ≡ length ys → places n xs ≡ places n ys
+places_same n [] [] e = refl
+places_same n [] (y ∷ ys) e = absurd (omega arith)
+places_same n (x ∷ xs) [] e = absurd (omega arith)
+places_same n (x ∷ xs) (y ∷ ys) e = ap (λ l. n ∷ l) (places_same (n + 1) xs ys (omega arith))
+
+pub places_of_map : {A B : Type 0} (n : ℕ) (f : A → B) (xs : List A) → places n (map f xs) ≡ places n xs
+places_of_map n f [] = refl
+places_of_map n f (x ∷ xs) = ap (λ l. n ∷ l) (places_of_map (n + 1) f xs)

@@ -4,6 +4,7 @@ pub mod Declarations
 pub mod Statements
 pub mod Programs
 pub mod ReadTree
+pub mod Laws
 pub mod Own
 pub mod Plain
 pub mod ExampleForms

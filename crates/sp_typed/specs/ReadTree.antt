@@ -138,7 +138,7 @@ most_bytes = 1048576
 
 pub record IsReadTree (s : PlainSyntax) : Type 0 where
   pub decls : All IsReadDecl s.decls
-  pub body : IsReadBody (body s.body)
+  pub block : IsReadBody (body s.body)
   -- controllers stand in brackets, of which at most 64 are open
   pub nested : depth (body s.body) ≤ 64
   pub few_mems : length (ports_declared s.decls ++ mems_declared (body s.body)) ≤ most_bytes

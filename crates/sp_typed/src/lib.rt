@@ -3,8 +3,10 @@
 
 mod examples;
 mod expression;
+mod laws;
 mod literal;
 mod scope;
 mod types;
 
 pub use examples::{worked_expressions, worked_numbers, worked_programs};
+pub use laws::declarations_are_numbered;
