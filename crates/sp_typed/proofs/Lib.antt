@@ -3,6 +3,7 @@ pub mod NoneLemmas
 pub mod CountLemmas
 pub mod CounterLemmas
 pub mod PortLemmas
+pub mod DeclaredLemmas
 pub mod ScopeLemmas
 pub mod OwnLemmas
 pub mod RowLemmas
