@@ -3,6 +3,8 @@ pub mod NoneLemmas
 pub mod CountLemmas
 pub mod CounterLemmas
 pub mod PortLemmas
+pub mod VisibleLemmas
+pub mod ExpressionLemmas
 pub mod DeclaredLemmas
 pub mod ScopeLemmas
 pub mod OwnLemmas

@@ -1,11 +1,20 @@
 -- What is said of the typed program of a tree.
-use Rattle.std.specs.Prelude.{◌≡◌, ℕ, ◌≤◌, List, ◌++◌, length, All}
+use Rattle.std.specs.Prelude.{◌≡◌, ℕ, ◌≤◌, List, [], ◌++◌, length, All, Contains, Option, Some, None}
+use Rattle.sp_words.specs.declared.types.Ty.{Ty}
 use Rattle.sp_words.specs.Names.{IsName}
+use Rattle.sp_reader.specs.PlainTree.{PlainExpr}
 use Rattle.sp_tree.specs.Declarations.{IsDeclaration}
 use Rattle.sp_tree.specs.Elements.{numbers_below}
 use Rattle.sp_tree.specs.Invariant.{port_numbers, ports_of}
 use Rattle.sp_tree.specs.PlainProgram.{PlainProgram}
 use Rattle.sp_tree.specs.Structure.{mems_declared, vals_declared, counters_declared, depth}
+use Rattle.sp_tree.specs.Typing.{Scope, IsMem, mem_at, HasType}
+use Rattle.sp_types.specs.declared.own.Ask.{Ask}
+use Rattle.sp_types.specs.Expressions.{expr_refusals}
+use Rattle.sp_types.specs.Visible.{PlainSymbol, memory, value, counter, Visible}
+use Rattle.sp_typed.specs.Expressions.{typed}
+use Rattle.sp_typed.specs.Named.{Meant, Here, find, seen_at}
+use Rattle.sp_typed.specs.ReadTree.{IsReadExpr}
 
 -- memories, values and counters are numbered from 0 in the order of the text, ports first
 pub record AreNumbered (p : PlainProgram) : Type 0 where
@@ -20,3 +29,23 @@ pub record AreDeclared (p : PlainProgram) : Type 0 where
   pub counter_names : All IsName p.counters
   pub ports : p.ports ≡ ports_of p.mems
   pub nested : depth p.body ≤ 64
+
+-- ---- expressions
+
+module _ (p : PlainProgram) (scope : Scope) where
+  -- what a name stands for is visible in the program under its number
+  abbrev pub Stands : PlainSymbol → ℕ → Type 0
+  Stands (memory kind (Some ty) dims) n = IsMem p scope n kind ty × ((mem_at p n).dims ≡ dims)
+  Stands (memory kind None dims) n = ⊥
+  Stands (value (Some ty)) n = Contains scope.vals (n, ty)
+  Stands (value None) n = ⊥
+  Stands counter n = Contains scope.counters n
+
+  -- all that is visible at a place is
+  abbrev pub Agree : List (List ℕ × Meant) → Type 0
+  Agree names = (name : List ℕ) (m : Meant) → find names name ≡ Some m → Stands m.symbol m.number
+
+  -- an expression that is read, and has no refusals at a type, is typed at it
+  abbrev pub IsTypedAt : Here → Visible → Ask → Ty → PlainExpr → Type 0
+  IsTypedAt here seen ask ty e =
+      Agree here.names → seen.names ≡ (seen_at here).names → ask.want ≡ Some ty → IsReadExpr e → expr_refusals seen ask e ≡ [] → HasType p scope ty (typed here ty e)

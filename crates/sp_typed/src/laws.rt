@@ -2,8 +2,15 @@
 
 ghost use Rattle.std.specs.Prelude.{◌≡◌, None};
 ghost use Rattle.sp_reader.specs.PlainStatement.{PlainSyntax};
+ghost use Rattle.sp_reader.specs.PlainTree.{PlainExpr};
+ghost use Rattle.sp_tree.specs.PlainProgram.{PlainProgram};
+ghost use Rattle.sp_tree.specs.Typing.{Scope};
+ghost use Rattle.sp_types.specs.declared.own.Ask.{Ask};
 ghost use Rattle.sp_types.specs.Statements.{first_refusal};
-ghost use Rattle.sp_typed.specs.Laws.{AreDeclared, AreNumbered};
+ghost use Rattle.sp_types.specs.Visible.{Visible};
+ghost use Rattle.sp_words.specs.declared.types.Ty.{Ty};
+ghost use Rattle.sp_typed.specs.Laws.{AreDeclared, AreNumbered, IsTypedAt};
+ghost use Rattle.sp_typed.specs.Named.{Here};
 ghost use Rattle.sp_typed.specs.Programs.{program_of};
 ghost use Rattle.sp_typed.specs.ReadTree.{IsReadTree};
 
@@ -15,4 +22,9 @@ pub fn declarations_are_numbered()
 /// Declarations are right by themselves, names are names, and controllers stand at most 64 one inside another.
 pub fn declarations_are_right()
     ensures { (s : PlainSyntax) → IsReadTree s → AreDeclared (program_of s) }
+{}
+
+/// An expression without refusals is typed, at the type at which it is checked.
+pub fn expressions_are_typed()
+    ensures { (p : PlainProgram) (scope : Scope) (here : Here) (seen : Visible) (ask : Ask) (ty : Ty) (e : PlainExpr) → IsTypedAt p scope here seen ask ty e }
 {}

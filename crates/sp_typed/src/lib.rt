@@ -9,4 +9,4 @@ mod scope;
 mod types;
 
 pub use examples::{worked_expressions, worked_numbers, worked_programs};
-pub use laws::{declarations_are_numbered, declarations_are_right};
+pub use laws::{declarations_are_numbered, declarations_are_right, expressions_are_typed};
