@@ -1,5 +1,5 @@
 -- Typed expressions in a list.
-use Rattle.std.proofs.Common.{Result, Ok, Err, Bool, ◌≡◌, ℕ, suc, ◌<◌, ◌≤◌, List, [], ◌∷◌, ◌++◌, length, Vec, Global, refl, sym, ap, ◌∙◌, arith}
+use Rattle.std.proofs.Common.{Result, Ok, Err, Bool, ◌≡◌, ℕ, suc, ◌<◌, ◌≤◌, List, [], ◌∷◌, ◌++◌, length, map, Vec, Global, refl, sym, ap, ◌∙◌, arith}
 use Rattle.std.specs.Prelude.{IfOk}
 use mathlib.Core.Former.{Count}
 use Rattle.sp_tree.specs.declared.expression.Expr.{Expr}
@@ -56,3 +56,8 @@ many_of_line n here (a ∷ b ∷ c ∷ es) h = refl
 pub ok_same : {E : Type 0} (r : Result ExprKind E) (x y : PlainExprKind) → x ≡ y → IfOk r (λ k. plain_kind k ≡ x) → IfOk r (λ k. plain_kind k ≡ y)
 ok_same (Ok k) x y e h = h ∙ e
 ok_same (Err b) x y e h = h
+
+-- one more of a list, before the rest
+pub grown : {A B : Type 0} (f : A → B) (xs : List A) (x : A) (y : B) (rest : List B) → f x ≡ y → map f (xs ++ x ∷ []) ++ rest ≡ map f xs ++ (y ∷ rest)
+grown f [] x y rest e = ap (λ z. z ∷ rest) e
+grown f (z ∷ zs) x y rest e = ap (λ l. f z ∷ l) (grown f zs x y rest e)

@@ -1,5 +1,5 @@
 -- What a scope of the code shows.
-use Rattle.std.specs.Prelude.{List, map, string_bytes}
+use Rattle.std.specs.Prelude.{ℕ, List, map, take, string_bytes}
 use Rattle.sp_types.specs.Visible.{PlainSymbol, memory, value, counter}
 use Rattle.sp_typed.specs.declared.scope.Symbol.{Symbol}
 use Rattle.sp_typed.specs.declared.scope.Symbol.TheVariants.{Memory, Value, Counter}
@@ -22,3 +22,7 @@ here_of s = record {
   vals = s.vals;
   counters = s.counters;
 }
+
+-- only the first names
+abbrev pub back_to : ℕ → Here → Here
+back_to n here = record here { names = take n here.names }

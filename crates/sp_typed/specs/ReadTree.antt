@@ -9,7 +9,6 @@ use Rattle.sp_reader.specs.PlainTree.{PlainIdent, PlainExpr, PlainExprKind, Plai
 use Rattle.sp_reader.specs.PlainStatement.{PlainSpan, single, range, PlainCounter, PlainComb, PlainHead, PlainStmtKind, PlainStmts, stmt, reg, sram, fifo, line_buffer, bind, set, set_at, enq, load, store, gather, scatter, block, foreach, reduce, fold, mem_reduce, fsm, branch, no_stmt, more_stmt, body, PlainDecl, PlainDeclKind, arg_in, arg_out, dram, PlainSyntax}
 use Rattle.sp_tree.specs.Typing.{IsLoopStyle}
 use Rattle.sp_types.specs.Expressions.{index_count}
-use Rattle.sp_typed.specs.Declarations.{ports_declared, mems_declared, vals_declared, counters_declared}
 use Rattle.sp_typed.specs.Statements.{lanes, loop_style}
 
 -- ---- expressions
@@ -132,15 +131,8 @@ pub record IsReadDecl (d : PlainDecl) : Type 0 where
   pub name : IsName d.name.text
   pub dims : HasReadDims d.kind
 
--- the most bytes of a text, each declaration of which takes some
-abbrev pub most_bytes : ℕ
-most_bytes = 1048576
-
 pub record IsReadTree (s : PlainSyntax) : Type 0 where
   pub decls : All IsReadDecl s.decls
   pub block : IsReadBody (body s.body)
   -- controllers stand in brackets, of which at most 64 are open
   pub nested : depth (body s.body) ≤ 64
-  pub few_mems : length (ports_declared s.decls ++ mems_declared (body s.body)) ≤ most_bytes
-  pub few_vals : length (vals_declared (body s.body)) ≤ most_bytes
-  pub few_counters : length (counters_declared (body s.body)) ≤ most_bytes

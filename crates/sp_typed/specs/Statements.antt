@@ -40,12 +40,13 @@ abbrev pub from_typed : Here → ℕ → Option PlainExpr → ProgramExpr
 from_typed here place (Some e) = typed here int_type e
 from_typed here place None = program_expr place int_type (literal 0)
 
+abbrev pub counter_typed : Here → ℕ → PlainCounter → program.PlainCounter
+counter_typed here n c = record { number = n; from = from_typed here (place_of_expr c.until) c.from; until = typed here int_type c.until; step = c.step; par = lanes c.par }
+
 -- counters are numbered one after the other; their bounds stand outside of the loop
 abbrev pub counters_typed : Here → ℕ → List PlainCounter → List program.PlainCounter
 counters_typed here n [] = []
-counters_typed here n (c ∷ rest) =
-    record { number = n; from = from_typed here (place_of_expr c.until) c.from; until = typed here int_type c.until; step = c.step; par = lanes c.par }
-    ∷ counters_typed here (n + 1) rest
+counters_typed here n (c ∷ rest) = counter_typed here n c ∷ counters_typed here (n + 1) rest
 
 -- a loop without a style is a pipe
 abbrev pub loop_style : Option Style → Style

@@ -1,8 +1,8 @@
 //! The names that are visible, what they stand for, and their numbers.
 
-ghost use Rattle.std.specs.Prelude.{◌≡◌, OnOk, MatchOption, None, Some};
+ghost use Rattle.std.specs.Prelude.{◌≡◌, length, OnOk, MatchOption, None, Some};
 ghost use Rattle.sp_typed.specs.Named.{at_start, give, meant_by};
-ghost use Rattle.sp_typed.specs.Plain.{here_of, meant, plain_symbol};
+ghost use Rattle.sp_typed.specs.Plain.{back_to, here_of, meant, plain_symbol};
 
 use indexmap::IndexMap;
 use sp_words::{Kind, Ty};
@@ -74,5 +74,19 @@ impl Scope {
             Entry { symbol, number },
         )?;
         Ok(())
+    }
+
+    /// Where the names end now.
+    pub fn mark(&self) -> usize
+        ensures { result ≡ length (here_of self.now).names }
+    {
+        self.names.len()
+    }
+
+    /// Forgets the names that were given after the mark.
+    pub fn leave(&mut self, mark: usize)
+        ensures { here_of self.new ≡ back_to mark (here_of self.old) }
+    {
+        self.names.truncate(mark);
     }
 }
