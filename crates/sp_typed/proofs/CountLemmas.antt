@@ -74,7 +74,7 @@ load_mems true m n spans = refl
 load_mems false m n spans = refl
 
 -- the place of a statement changes no number
-same_count : (place : ℕ) (kind : PlainStmtKind) → length (mems_in place kind) ≡ length (mems_in 0 kind)
+pub same_count : (place : ℕ) (kind : PlainStmtKind) → length (mems_in place kind) ≡ length (mems_in 0 kind)
 same_count place (reg i ty start) = refl
 same_count place (sram i ty dims) = refl
 same_count place (fifo i ty depth) = refl

@@ -134,6 +134,10 @@ in_loop here binds = record {
   counters = here.counters + length binds;
 }
 
+-- the same names after a loop with these binders
+abbrev pub past_loop : Here → List PlainIdent → PlainStmts → Here
+past_loop here binds ss = past here (length (mems_declared ss)) (length (vals_declared ss)) (length (texts binds ++ counters_declared ss))
+
 -- the names of the declarations before the block, which are numbered from n on
 abbrev pub port_names : List (List ℕ × Meant) → ℕ → List PlainDecl → List (List ℕ × Meant)
 port_names names n [] = names
