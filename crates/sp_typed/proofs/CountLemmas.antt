@@ -57,7 +57,7 @@ mutual
   vals_of here (fsm start tested test now ss last next) =
       let e = vals_numbered (in_fsm here now (type_by_itself here start)) ss in
       ap (λ l. here.vals ∷ (here.vals + 1) ∷ l) (
-          ap (λ l. l ++ (here.vals + 2 + length (vals_declared ss)) ∷ []) e
+          ap (λ l. l ++ (here.vals + (2 + length (vals_declared ss))) ∷ []) e
           ∙ ap (λ m. places (here.vals + 2) (vals_declared ss) ++ m ∷ []) (omega arith)
           ∙ sym (places_append (here.vals + 2) (vals_declared ss) (last.text ∷ []))
           ∙ ap (λ m. places m (vals_declared ss ++ last.text ∷ [])) (omega arith))

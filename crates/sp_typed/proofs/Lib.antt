@@ -7,5 +7,7 @@ pub mod VisibleLemmas
 pub mod ExpressionLemmas
 pub mod DeclaredLemmas
 pub mod ScopeLemmas
+pub mod GrowthLemmas
+pub mod StatementLemmas
 pub mod OwnLemmas
 pub mod RowLemmas

@@ -138,6 +138,10 @@ in_loop here binds = record {
 abbrev pub past_loop : Here → List PlainIdent → PlainStmts → Here
 past_loop here binds ss = past here (length (mems_declared ss)) (length (vals_declared ss)) (length (texts binds ++ counters_declared ss))
 
+-- the same names after the body of an FSM, before which two of its binders are given
+abbrev pub past_turn : Here → PlainStmts → Here
+past_turn here ss = past here (length (mems_declared ss)) (2 + length (vals_declared ss)) (length (counters_declared ss))
+
 -- the names of the declarations before the block, which are numbered from n on
 abbrev pub port_names : List (List ℕ × Meant) → ℕ → List PlainDecl → List (List ℕ × Meant)
 port_names names n [] = names

@@ -17,7 +17,7 @@ use Rattle.sp_tree.specs.PlainExpression.{literal, expr as program_expr, PlainEx
 use Rattle.sp_tree.specs.PlainStatement as program
 use Rattle.sp_types.specs.Statements.{bare_name}
 use Rattle.sp_types.specs.Visible.{PlainSymbol, memory, value}
-use Rattle.sp_typed.specs.Declarations.{after, after_all, past_body, in_loop, vals_declared}
+use Rattle.sp_typed.specs.Declarations.{after, after_all, past_body, past_turn, in_loop, vals_declared}
 use Rattle.sp_typed.specs.Expressions.{type_by_itself, number_of, symbol_at, word_type, is_line, typed, all_typed}
 use Rattle.sp_typed.specs.Named.{Here, give, past}
 
@@ -142,7 +142,7 @@ abbrev mutual
       program.fsm (typed here (type_by_itself here start) start)
       here.vals (typed (with_state here tested (type_by_itself here start) here.vals) Bit test)
       (here.vals + 1) (body_typed (in_fsm here now (type_by_itself here start)) ss)
-      (here.vals + 2 + length (vals_declared ss))
-      (typed (with_state here last (type_by_itself here start) (here.vals + 2 + length (vals_declared ss))) (type_by_itself here start) next)
+      (here.vals + (2 + length (vals_declared ss)))
+      (typed (with_state (past_turn here ss) last (type_by_itself here start) (here.vals + (2 + length (vals_declared ss)))) (type_by_itself here start) next)
   stmt_typed here (branch test first second) =
       program.branch (typed here Bit test) (body_typed here first) (body_typed (past_body here first) second)

@@ -1,6 +1,7 @@
 //! The typed program that a tree without refusals spells.
 #![tactic(auto)]
 
+mod control;
 mod declare;
 mod examples;
 mod expression;
@@ -9,7 +10,9 @@ mod literal;
 mod scope;
 mod simple;
 mod span;
+mod statement;
 mod types;
 
 pub use examples::{worked_expressions, worked_numbers, worked_programs};
+pub use std::alloc::AllocError as NoMemory;
 pub use laws::{declarations_are_numbered, declarations_are_right, expressions_are_typed};
