@@ -1,5 +1,5 @@
 -- Typed statements in a list.
-use Rattle.std.proofs.Common.{◌≡◌, List, [], ◌∷◌, ◌++◌, Result, Ok, Err, refl, sym, ap, ◌∙◌}
+use Rattle.std.proofs.Common.{◌≡◌, List, [], ◌∷◌, ◌++◌, Result, Ok, Err, Vec, Global, refl, sym, ap, ◌∙◌}
 use Rattle.std.specs.Prelude.{IfOk, OnOk}
 use Rattle.sp_tree.specs.declared.statement.Stmt.{Stmt}
 use Rattle.sp_tree.specs.declared.statement.StmtKind.{StmtKind}
@@ -32,3 +32,7 @@ seen_same (Err b) h x y e k = k
 pub any_ok : {A E : Type 0} (r : Result A E) (P : Type 0) → P → OnOk r P
 any_ok (Ok a) P h = h
 any_ok (Err b) P h = tt
+
+pub body_same : {E : Type 0} (r : Result (Vec Stmt Global) E) (x y : PlainStmts) → x ≡ y → IfOk r (λ b. plain_stmts b.items ≡ x) → IfOk r (λ b. plain_stmts b.items ≡ y)
+body_same (Ok b) x y e h = h ∙ e
+body_same (Err b) x y e h = h

@@ -7,6 +7,7 @@ mod examples;
 mod expression;
 mod laws;
 mod literal;
+mod program;
 mod scope;
 mod simple;
 mod span;
@@ -14,5 +15,6 @@ mod statement;
 mod types;
 
 pub use examples::{worked_expressions, worked_numbers, worked_programs};
+pub use program::typed_block;
 pub use std::alloc::AllocError as NoMemory;
 pub use laws::{declarations_are_numbered, declarations_are_right, expressions_are_typed};
