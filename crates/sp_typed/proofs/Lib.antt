@@ -11,3 +11,4 @@ pub mod GrowthLemmas
 pub mod StatementLemmas
 pub mod OwnLemmas
 pub mod RowLemmas
+pub mod TreeLemmas

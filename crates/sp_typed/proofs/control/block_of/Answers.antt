@@ -1,4 +1,4 @@
-use Rattle.sp_counts.proofs.TreeLemmas.{plain_block}
+use Rattle.sp_typed.proofs.TreeLemmas.{plain_block}
 use Rattle.sp_typed.proofs.control.block_of.Goals as goal
 
 pub returns : goal.returns

@@ -1,5 +1,5 @@
 use Rattle.std.proofs.Common.{◌≡◌, ◌∙◌, ap, map}
-use Rattle.sp_counts.proofs.TreeLemmas.{plain_mem_reduce}
+use Rattle.sp_typed.proofs.TreeLemmas.{plain_mem_reduce}
 use Rattle.sp_tree.specs.PlainStatement.{mem_reduce}
 use Rattle.sp_tree.specs.PlainTree.{plain_counter, plain_stmts}
 use Rattle.sp_typed.proofs.control.mem_reduce_of.Goals as goal

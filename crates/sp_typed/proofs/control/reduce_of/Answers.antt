@@ -1,5 +1,5 @@
 use Rattle.std.proofs.Common.{◌≡◌, ◌∙◌, ap, map}
-use Rattle.sp_counts.proofs.TreeLemmas.{plain_reduce}
+use Rattle.sp_typed.proofs.TreeLemmas.{plain_reduce}
 use Rattle.sp_tree.specs.Plain.{plain_expr}
 use Rattle.sp_tree.specs.PlainStatement.{reduce}
 use Rattle.sp_tree.specs.PlainTree.{plain_counter, plain_stmts}
