@@ -1,24 +1,20 @@
 -- The numbers that a typed body declares.
-use Rattle.std.proofs.Common.{◌≡◌, ℕ, ◌+◌, Bool, true, false, List, [], ◌∷◌, ◌++◌, length, map, refl, sym, ap, ◌∙◌, arith}
-use Rattle.std.specs.Prelude.{Option, Some, None}
-use Rattle.std.specs.Prelude.{◌≤◌}
+use Rattle.std.proofs.Common.{◌≡◌, ℕ, ◌+◌, Bool, true, false, List, [], ◌∷◌, ◌++◌, length, refl, sym, ap, ◌∙◌, arith}
 use Rattle.std.proofs.lemmas.List.{length-map}
-use Rattle.sp_reader.specs.PlainTree.{PlainIdent}
 use Rattle.sp_reader.specs.PlainStatement.{PlainCounter, PlainHead}
 use Rattle.sp_types.specs.declared.refusal.Refusal.{Refusal}
-use Rattle.sp_types.specs.Spans.{counters_refusals, names_for_counters, binds_refusals, with_binds}
 use Rattle.sp_types.specs.Statements as rule
 use Rattle.sp_types.specs.Visible.{Visible}
-use Rattle.sp_typed.specs.ReadTree.{IsReadHead, IsReadBody, IsReadStmt}
+use Rattle.sp_typed.specs.ReadTree.{IsReadHead}
 use Rattle.sp_typed.proofs.NoneLemmas.{both_none, three_none, as_many}
 use Rattle.sp_reader.specs.PlainStatement.{PlainStmtKind, PlainStmts, stmt, reg, sram, fifo, line_buffer, bind, set, set_at, enq, load, store, gather, scatter, block, foreach, reduce, fold, mem_reduce, fsm, branch, no_stmt, more_stmt}
 use Rattle.sp_tree.specs.Structure as program
 use Rattle.sp_tree.specs.PlainStatement as statement
 use Rattle.sp_tree.specs.PlainExpression.{PlainExpr}
-use Rattle.sp_typed.specs.Declarations.{mems_declared, mems_in, vals_declared, vals_in, counters_declared, counters_in, after, in_loop, past_body, texts}
-use Rattle.sp_typed.specs.Expressions.{symbol_at, type_by_itself, is_line, number_of, typed, word_type}
+use Rattle.sp_typed.specs.Declarations.{mems_declared, mems_in, vals_declared, vals_in, after, in_loop, past_body, texts}
+use Rattle.sp_typed.specs.Expressions.{symbol_at, type_by_itself, is_line}
 use Rattle.sp_typed.specs.Named.{Here}
-use Rattle.sp_typed.specs.Statements.{body_typed, stmt_typed, write, is_output, load_typed, spans_typed, counters_typed, in_fsm}
+use Rattle.sp_typed.specs.Statements.{body_typed, stmt_typed, write, is_output, load_typed, counters_typed, in_fsm}
 use Rattle.sp_typed.proofs.NumberLemmas.{places, places_append, places_two, places_same, places_of_map}
 
 -- ---- values
@@ -57,10 +53,10 @@ mutual
   vals_of here (fsm start tested test now ss last next) =
       let e = vals_numbered (in_fsm here now (type_by_itself here start)) ss in
       ap (λ l. here.vals ∷ (here.vals + 1) ∷ l) (
-          ap (λ l. l ++ (here.vals + (2 + length (vals_declared ss))) ∷ []) e
-          ∙ ap (λ m. places (here.vals + 2) (vals_declared ss) ++ m ∷ []) (omega arith)
-          ∙ sym (places_append (here.vals + 2) (vals_declared ss) (last.text ∷ []))
-          ∙ ap (λ m. places m (vals_declared ss ++ last.text ∷ [])) (omega arith))
+      ap (λ l. l ++ (here.vals + (2 + length (vals_declared ss))) ∷ []) e
+      ∙ ap (λ m. places (here.vals + 2) (vals_declared ss) ++ m ∷ []) (omega arith)
+      ∙ sym (places_append (here.vals + 2) (vals_declared ss) (last.text ∷ []))
+      ∙ ap (λ m. places m (vals_declared ss ++ last.text ∷ [])) (omega arith))
   vals_of here (branch test first second) = places_two here.vals (vals_declared first) (vals_declared second) _ _ (vals_numbered here first) (vals_numbered (past_body here first) second)
 
 -- ---- memories

@@ -1,10 +1,8 @@
 -- The declarations of a tree that is read are right by themselves.
-use Rattle.std.proofs.Common.{◌≡◌, ℕ, ◌+◌, ◌^◌, ◌<◌, ◌≤◌, max, Bool, true, false, cond, List, [], ◌∷◌, ◌++◌, length, map, Option, Some, None, refl, sym, ap, subst, ◌∙◌, arith}
+use Rattle.std.proofs.Common.{◌≡◌, ℕ, ◌+◌, ◌<◌, max, Bool, true, false, cond, List, [], ◌∷◌, ◌++◌, Option, Some, None, refl, ap, ◌∙◌, arith}
 use Rattle.std.specs.Prelude.{All, ℤ, slice_index_or}
-use Rattle.std.proofs.lemmas.List.Elements.{All-nil, All-cons, All-head, All-tail, All-append, All-map}
-use Rattle.sp_words.specs.declared.kind.Kind.{Kind}
+use Rattle.std.proofs.lemmas.List.Elements.{All-nil, All-cons, All-append, All-map}
 use Rattle.sp_words.specs.declared.kind.Kind.TheVariants.{Reg, Sram, Fifo, LineBuf}
-use Rattle.sp_words.specs.declared.types.FixTy.{FixTy}
 use Rattle.sp_words.specs.declared.types.Ty.{Ty}
 use Rattle.sp_words.specs.declared.types.Ty.TheVariants.{Fix, Bit}
 use Rattle.sp_words.specs.Decimal.{decimal_value}
@@ -15,7 +13,7 @@ use Rattle.sp_words.specs.Words.{IsWord, wrap}
 use Rattle.std.proofs.Math.Pow.{pow-lt}
 use Rattle.sp_words.proofs.LawLemmas.{wrap-lt}
 use Rattle.sp_words.proofs.OperatorLemmas.{one-le-width}
-use Rattle.sp_reader.specs.PlainTree.{PlainIdent, PlainDigits, PlainLit, number_lit, truth_lit}
+use Rattle.sp_reader.specs.PlainTree.{PlainDigits, PlainLit, number_lit, truth_lit}
 use Rattle.sp_reader.specs.PlainStatement.{PlainHead, PlainDecl, PlainDeclKind, arg_in, arg_out, dram, PlainStmtKind, PlainStmts, stmt, reg, sram, fifo, line_buffer, bind, set, set_at, enq, load, store, gather, scatter, block, foreach, reduce, fold, mem_reduce, fsm, branch, no_stmt, more_stmt}
 use Rattle.sp_tree.specs.Declarations.{IsDeclaration, HasStart}
 use Rattle.sp_tree.specs.PlainProgram.{PlainMem}
@@ -23,7 +21,7 @@ use Rattle.sp_tree.specs.PlainExpression.{PlainExpr}
 use Rattle.sp_tree.specs.PlainStatement as statement
 use Rattle.sp_tree.specs.Structure as program
 use Rattle.sp_types.specs.Types.{type_of}
-use Rattle.sp_types.specs.Literal.{literal_word, word_in_range, is_in_range, are_digits, may_stand}
+use Rattle.sp_types.specs.Literal.{literal_word, is_in_range, are_digits, may_stand}
 use Rattle.sp_typed.specs.Declarations.{mem_of, port_mem, ports_declared, mems_declared, mems_in, start_word, vals_declared, vals_in, counters_declared, counters_in, texts, after, in_loop, past_body}
 use Rattle.sp_typed.specs.Expressions.{known, number_word, word_if, truth_word, is_line, symbol_at, type_by_itself}
 use Rattle.sp_typed.specs.Named.{Here}

@@ -1,33 +1,30 @@
 -- Expressions without refusals are typed.
-use Rattle.std.proofs.Common.{◌≡◌, ◌≢◌, ℕ, ◌+◌, ◌<◌, ◌≤◌, Bool, true, false, cond, not, ◌&&◌, ◌||◌, ◌==◌, List, [], ◌∷◌, ◌++◌, map, length, Option, Some, None, is_none, refl, sym, ap, subst, ◌∙◌, true≢false, arith}
+use Rattle.std.proofs.Common.{◌≡◌, ◌≢◌, ℕ, ◌+◌, ◌≤◌, Bool, true, false, cond, not, ◌&&◌, ◌||◌, List, [], length, Option, Some, None, is_none, refl, sym, ap, subst, ◌∙◌, true≢false, arith}
 use Rattle.std.specs.Prelude.{Contains}
 use Rattle.std.proofs.lemmas.Bool.{eqb-true}
 use Rattle.sp_words.specs.declared.kind.BinOp.{BinOp}
 use Rattle.sp_words.specs.declared.kind.BinOp.TheVariants as binary
 use Rattle.sp_words.specs.declared.kind.Kind.{Kind}
 use Rattle.sp_words.specs.declared.kind.Kind.TheVariants.{Reg, Sram, Fifo, LineBuf, Dram, ArgIn, ArgOut}
-use Rattle.sp_words.specs.declared.types.FixTy.{FixTy}
 use Rattle.sp_words.specs.declared.types.Ty.{Ty}
 use Rattle.sp_words.specs.declared.types.Ty.TheVariants.{Fix, Bit}
 use Rattle.sp_words.specs.Types.{int_type}
-use Rattle.sp_words.specs.Words.{IsWord}
 use Rattle.sp_words.proofs.TypeLemmas.{same_fix}
 use Rattle.sp_reader.specs.declared.syntax.expression.SynTy.{SynTy}
 use Rattle.sp_reader.specs.declared.syntax.expression.SynUn.TheVariants.{Minus, Bang, Tilde}
-use Rattle.sp_reader.specs.PlainTree.{PlainIdent, PlainDigits, PlainExpr, PlainExprKind, PlainExprs, expr, number, truth, name, deq, access, mux, min, max, one, two, shift, cast, no_expr, more_expr}
+use Rattle.sp_reader.specs.PlainTree.{PlainDigits, PlainExpr, PlainExprKind, PlainExprs, expr, number, truth, name, deq, access, mux, min, max, one, two, shift, cast, no_expr, more_expr}
 use Rattle.sp_tree.specs.PlainExpression as program
 use Rattle.sp_tree.specs.PlainProgram.{PlainProgram}
-use Rattle.sp_tree.specs.Typing.{Scope, IsMem, mem_at, Typed, KindTyped, IndicesTyped, HasType, TwoTyped, IsNumber, expr_count}
+use Rattle.sp_tree.specs.Typing.{Scope, IsMem, Typed, KindTyped, IndicesTyped, TwoTyped, IsNumber, expr_count}
 use Rattle.sp_types.specs.declared.own.Ask.{Ask}
 use Rattle.sp_types.specs.declared.own.Own.{Own}
 use Rattle.sp_types.specs.declared.own.Own.TheVariants.{Nothing, Known, Unknown}
-use Rattle.sp_types.specs.declared.refusal.Refusal.{Refusal}
 use Rattle.sp_types.specs.Expressions as rule
-use Rattle.sp_types.specs.Types.{is_type, is_same_flag, own, kind_own, own_type, symbol_type, either, is_comparison, takes_numbers, type_of, own_or_int, compared_at}
+use Rattle.sp_types.specs.Types.{is_type, is_same_flag, own, kind_own, own_type, symbol_type, either, is_comparison, takes_numbers, own_or_int, compared_at}
 use Rattle.sp_types.specs.Visible.{PlainSymbol, memory, value, counter, Visible, symbol_of, lookup}
-use Rattle.sp_typed.specs.Expressions.{known, type_by_itself, number_if, symbol_if, named_word, number_word, truth_word, digits_of, cast_if, line_element, element, is_line, operand_type, typed, kind_typed, all_typed}
-use Rattle.sp_typed.specs.Laws.{Stands, Agree, IsTypedAt}
-use Rattle.sp_typed.specs.Named.{Meant, Here, find, meant_by, seen_at}
+use Rattle.sp_typed.specs.Expressions.{known, type_by_itself, number_if, symbol_if, named_word, digits_of, cast_if, line_element, element, is_line, operand_type, typed, kind_typed, all_typed}
+use Rattle.sp_typed.specs.Laws.{Stands, Agree}
+use Rattle.sp_typed.specs.Named.{Meant, Here, meant_by, seen_at}
 use Rattle.sp_typed.specs.ReadTree.{IsReadExpr, IsReadKind, AreReadExprs}
 use Rattle.sp_typed.proofs.DeclaredLemmas.{number_is_word, truth_is_word}
 use Rattle.sp_typed.proofs.NoneLemmas.{both_none, three_none, not_noted, was_true}
@@ -213,9 +210,11 @@ module _ (p : PlainProgram) (scope : Scope) where
   element_typed : (here : Here) (s : PlainSymbol) (n : ℕ) (place at : ℕ) (ty : Ty) (indices : PlainExprs) → Stands p scope s n → 1 ≤ rule.index_count indices
       → rule.access_refusals at (Some s) (rule.index_count indices) ≡ [] → rule.other_type place (Some ty) (own_type (symbol_type (Some s))) ≡ [] → IndicesTyped p scope (all_typed here int_type indices)
       → KindTyped p scope (element (is_line (Some s)) n (all_typed here int_type indices)) ty
-  element_typed here (memory Sram (Some t) dims) n place at ty indices h some none e typed_indices =
-      (record { seen = h.0.seen; is_kind = h.0.is_kind; is_type = h.0.is_type ∙ sym (own_is place ty t e) },
-       count_is here indices ∙ sym (counted (length dims) (rule.index_count indices) at none) ∙ ap length (sym h.1), typed_indices)
+  element_typed here (memory Sram (Some t) dims) n place at ty indices h some none e typed_indices = (
+    record { seen = h.0.seen; is_kind = h.0.is_kind; is_type = h.0.is_type ∙ sym (own_is place ty t e) },
+    count_is here indices ∙ sym (counted (length dims) (rule.index_count indices) at none) ∙ ap length (sym h.1),
+    typed_indices,
+  )
   element_typed here (memory LineBuf (Some t) dims) n place at ty indices h some none e typed_indices =
       line_typed here n ty indices (record { seen = h.0.seen; is_kind = h.0.is_kind; is_type = h.0.is_type ∙ sym (own_is place ty t e) }) (sym (counted 2 (rule.index_count indices) at none)) typed_indices
   element_typed here (memory Reg (Some t) dims) n place at ty indices h some none e typed_indices = absurd (let f = counted 0 (rule.index_count indices) at none in omega arith)
@@ -303,17 +302,28 @@ module _ (p : PlainProgram) (scope : Scope) where
           (ap (λ o. rule.other_type place (Some ty) (own_type (symbol_type o))) (sym (is i.text)) ∙ other)
           (all_right (rule.at_type (Some int_type) ask.still) indices refl read.1 f.2)
       kind_right ask ty place (mux c a b) want read other none =
-          let f = three_none (rule.expr_refusals seen (rule.at_type (Some Bit) ask.still) c) (rule.expr_refusals seen (rule.operand ask false) a) (rule.expr_refusals seen (rule.operand ask false) b) none in
-          (expr_right (rule.at_type (Some Bit) ask.still) Bit c refl read.0 f.0, type_is here Bit c,
-           expr_right (rule.operand ask false) ty a want read.1 f.1, type_is here ty a, expr_right (rule.operand ask false) ty b want read.2 f.2, type_is here ty b)
+          let f = three_none (rule.expr_refusals seen (rule.at_type (Some Bit) ask.still) c) (rule.expr_refusals seen (rule.operand ask false) a) (rule.expr_refusals seen (rule.operand ask false) b) none in (
+            expr_right (rule.at_type (Some Bit) ask.still) Bit c refl read.0 f.0,
+            type_is here Bit c,
+            expr_right (rule.operand ask false) ty a want read.1 f.1,
+            type_is here ty a,
+            expr_right (rule.operand ask false) ty b want read.2 f.2,
+            type_is here ty b,
+          )
       kind_right ask ty place (min a b) want read other none =
-          let f = both_none (rule.expr_refusals seen (rule.operand ask true) a) (rule.expr_refusals seen (rule.operand ask true) b) none in
-          (expr_right (rule.operand ask true) ty a want read.0 f.0, expr_right (rule.operand ask true) ty b want read.1 f.1, type_is here ty a ∙ sym (type_is here ty b),
-           (type_is here ty a, λ w. is_number (rule.operand ask true) ty a want refl f.0 (sym (type_is here ty a) ∙ w)))
+          let f = both_none (rule.expr_refusals seen (rule.operand ask true) a) (rule.expr_refusals seen (rule.operand ask true) b) none in (
+            expr_right (rule.operand ask true) ty a want read.0 f.0,
+            expr_right (rule.operand ask true) ty b want read.1 f.1,
+            type_is here ty a ∙ sym (type_is here ty b),
+            (type_is here ty a, λ w. is_number (rule.operand ask true) ty a want refl f.0 (sym (type_is here ty a) ∙ w)),
+          )
       kind_right ask ty place (max a b) want read other none =
-          let f = both_none (rule.expr_refusals seen (rule.operand ask true) a) (rule.expr_refusals seen (rule.operand ask true) b) none in
-          (expr_right (rule.operand ask true) ty a want read.0 f.0, expr_right (rule.operand ask true) ty b want read.1 f.1, type_is here ty a ∙ sym (type_is here ty b),
-           (type_is here ty a, λ w. is_number (rule.operand ask true) ty a want refl f.0 (sym (type_is here ty a) ∙ w)))
+          let f = both_none (rule.expr_refusals seen (rule.operand ask true) a) (rule.expr_refusals seen (rule.operand ask true) b) none in (
+            expr_right (rule.operand ask true) ty a want read.0 f.0,
+            expr_right (rule.operand ask true) ty b want read.1 f.1,
+            type_is here ty a ∙ sym (type_is here ty b),
+            (type_is here ty a, λ w. is_number (rule.operand ask true) ty a want refl f.0 (sym (type_is here ty a) ∙ w)),
+          )
       kind_right ask ty place (one Minus a) want read other none =
           (expr_right (rule.operand ask true) ty a want read none, (type_is here ty a, λ w. is_number (rule.operand ask true) ty a want refl none (sym (type_is here ty a) ∙ w)))
       kind_right ask ty place (one Bang a) want read other none =
@@ -322,19 +332,22 @@ module _ (p : PlainProgram) (scope : Scope) where
       kind_right ask ty place (two op a b) want read other none =
           let f = both_none (rule.expr_refusals seen (rule.binary_ask seen op ask a b) a) (rule.expr_refusals seen (rule.binary_ask seen op ask a b) b) none in
           let inner = operand_type here op ty a b in
-          let w = binary_want op ask ty a b want (compared (rule.binary_ask seen op ask a b) a b f.0 f.1) in
-          (expr_right (rule.binary_ask seen op ask a b) inner a w read.0 f.0, expr_right (rule.binary_ask seen op ask a b) inner b w read.1 f.1, type_is here inner a ∙ sym (type_is here inner b),
-           two_typed op (program.type_of (typed here inner a)) ty
-           (λ n k. is_number (rule.binary_ask seen op ask a b) inner a w n f.0 (sym (type_is here inner a) ∙ k))
-           (λ c. type_is here inner a ∙ ap (λ q. cond q (known (compared_at (seen_at here) a b)) ty) c)
-           (λ c. own_is place ty Bit (ap (λ o. rule.other_type place (Some ty) o) (sym (own_of_choice (is_comparison op) (own seen a) (own seen b) c)) ∙ other)))
+          let w = binary_want op ask ty a b want (compared (rule.binary_ask seen op ask a b) a b f.0 f.1) in (
+            expr_right (rule.binary_ask seen op ask a b) inner a w read.0 f.0,
+            expr_right (rule.binary_ask seen op ask a b) inner b w read.1 f.1,
+            type_is here inner a ∙ sym (type_is here inner b),
+            two_typed op (program.type_of (typed here inner a)) ty
+                (λ n k. is_number (rule.binary_ask seen op ask a b) inner a w n f.0 (sym (type_is here inner a) ∙ k))
+                (λ c. type_is here inner a ∙ ap (λ q. cond q (known (compared_at (seen_at here) a b)) ty) c)
+                (λ c. own_is place ty Bit (ap (λ o. rule.other_type place (Some ty) o) (sym (own_of_choice (is_comparison op) (own seen a) (own seen b) c)) ∙ other)),
+          )
       kind_right ask ty place (shift left a by) want read other none =
           (expr_right (rule.operand ask true) ty a want read.0 none, type_is here ty a, is_number (rule.operand ask true) ty a want refl none, read.1)
       kind_right ask ty place (cast a target) want read other none =
           let f = both_none (rule.expr_refusals seen (rule.at_type (rule.cast_from seen a target) ask.still) a) (rule.type_refusals target) none in
           cast_typed here (digits_of a) ty (typed here (type_by_itself here a) a)
           (λ d. expr_right (rule.at_type (rule.cast_from seen a target) ask.still) (type_by_itself here a) a
-              (cast_from_is seen a target d ∙ by_itself (rule.at_type (rule.cast_from seen a target) ask.still) a f.0) read f.0)
+          (cast_from_is seen a target d ∙ by_itself (rule.at_type (rule.cast_from seen a target) ask.still) a f.0) read f.0)
 
       all_right : (ask : Ask) (es : PlainExprs) → ask.want ≡ Some int_type → AreReadExprs es → rule.exprs_refusals seen ask es ≡ [] → IndicesTyped p scope (all_typed here int_type es)
       all_right ask no_expr want read none = tt

@@ -1,11 +1,11 @@
 -- Names are only added in a body, so that those before it come back when they are cut to their length; and what a body
 -- declares is counted.
-use Rattle.std.proofs.Common.{◌≡◌, ℕ, ◌+◌, Bool, true, false, cond, List, [], ◌∷◌, ◌++◌, map, length, take, append-nil, append_assoc, is_some, refl, sym, ap, ◌∙◌, arith, add-zero, zero-add}
+use Rattle.std.proofs.Common.{◌≡◌, ℕ, ◌+◌, Bool, true, false, cond, List, [], ◌∷◌, ◌++◌, length, take, append-nil, append_assoc, is_some, refl, sym, ap, ◌∙◌, arith, add-zero, zero-add}
 use Rattle.std.proofs.lemmas.List.{length-append, length-map}
 use Rattle.std.proofs.Math.Seq.{take-append_seam}
 use Rattle.sp_reader.specs.PlainTree.{PlainIdent, PlainExpr}
 use Rattle.sp_types.specs.Statements.{port}
-use Rattle.sp_reader.specs.PlainStatement.{PlainDecl, PlainStmtKind, PlainStmts, stmt, reg, sram, fifo, line_buffer, bind, set, set_at, enq, load, store, gather, scatter, block, foreach, reduce, fold, mem_reduce, fsm, branch, no_stmt, more_stmt}
+use Rattle.sp_reader.specs.PlainStatement.{PlainDecl, PlainStmtKind, PlainStmts, stmt, reg, sram, fifo, line_buffer, bind, fsm, branch, no_stmt, more_stmt}
 use Rattle.sp_types.specs.Visible.{PlainSymbol, counter, value}
 use Rattle.sp_words.specs.declared.types.Ty.{Ty}
 use Rattle.std.specs.Prelude.{Some}
@@ -105,7 +105,7 @@ pub back_loop : (here : Here) (binds : List PlainIdent) (ss : PlainStmts) → ba
 back_loop here binds ss =
     let g = grows_on here _ _ _ _ _ _ _ _ (grows_loop here binds) (grows_all (in_loop here binds) ss) in
     let e : length binds + length (counters_declared ss) ≡ length (texts binds ++ counters_declared ss) =
-        ap (λ n. n + length (counters_declared ss)) (sym (length-map binds (λ i. i.text))) ∙ sym (length-append (texts binds) (counters_declared ss)) in
+    ap (λ n. n + length (counters_declared ss)) (sym (length-map binds (λ i. i.text))) ∙ sym (length-append (texts binds) (counters_declared ss)) in
     back here _ _ _ _ (grows_by here _ _ _ _ _ _ _ (zero-add _) (zero-add _) e g)
 
 -- what is left by a mark

@@ -5,6 +5,7 @@ pub mod CounterLemmas
 pub mod PortLemmas
 pub mod VisibleLemmas
 pub mod ExpressionLemmas
+pub mod StillLemmas
 pub mod DeclaredLemmas
 pub mod ScopeLemmas
 pub mod GrowthLemmas

@@ -1,5 +1,5 @@
 -- The types that expressions have by themselves.
-use Rattle.std.proofs.Common.{◌≡◌, ℕ, List, [], ◌∷◌, map, Option, Some, None, refl, sym, ap, ◌∙◌}
+use Rattle.std.proofs.Common.{◌≡◌, ℕ, List, Option, Some, None, refl, ap, ◌∙◌}
 use Rattle.sp_words.specs.declared.types.Ty.{Ty}
 use Rattle.sp_types.specs.declared.own.Own.{Own}
 use Rattle.sp_types.specs.declared.own.Own.TheVariants.{Nothing, Known, Unknown}

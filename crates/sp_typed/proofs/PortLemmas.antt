@@ -1,7 +1,7 @@
 -- The numbers of the declarations before the block.
-use Rattle.std.proofs.Common.{◌≡◌, ℕ, zero, suc, ◌+◌, Bool, true, false, cond, List, [], ◌∷◌, ◌++◌, length, map, refl, sym, ap, ◌∙◌, arith}
+use Rattle.std.proofs.Common.{◌≡◌, ℕ, suc, ◌+◌, Bool, true, false, cond, List, [], ◌∷◌, ◌++◌, length, refl, ap, ◌∙◌, arith}
 use Rattle.std.proofs.lemmas.List.{append-nil}
-use Rattle.sp_reader.specs.PlainStatement.{PlainDecl, PlainDeclKind, arg_in, arg_out, dram, PlainStmtKind, PlainStmts, stmt, reg, sram, fifo, line_buffer, bind, set, set_at, enq, load, store, gather, scatter, block, foreach, reduce, fold, mem_reduce, fsm, branch, no_stmt, more_stmt}
+use Rattle.sp_reader.specs.PlainStatement.{PlainDecl, PlainDeclKind, arg_in, arg_out, dram, PlainStmtKind, PlainStmts, stmt, reg, sram, fifo, line_buffer, block, foreach, reduce, fold, mem_reduce, fsm, branch, no_stmt, more_stmt}
 use Rattle.sp_tree.specs.Counts.{is_port}
 use Rattle.sp_tree.specs.Meaning.{numbers_of}
 use Rattle.sp_tree.specs.PlainProgram.{PlainMem}

@@ -1,11 +1,11 @@
 -- Typed expressions in a list.
-use Rattle.std.proofs.Common.{Result, Ok, Err, Bool, ◌≡◌, ℕ, suc, ◌<◌, ◌≤◌, List, [], ◌∷◌, ◌++◌, length, map, Vec, Global, refl, sym, ap, ◌∙◌, arith}
+use Rattle.std.proofs.Common.{Result, Ok, Err, ◌≡◌, ℕ, ◌<◌, ◌≤◌, List, [], ◌∷◌, ◌++◌, length, map, Vec, Global, refl, ap, ◌∙◌, arith}
 use Rattle.std.specs.Prelude.{IfOk}
 use mathlib.Core.Former.{Count}
 use Rattle.sp_tree.specs.declared.expression.Expr.{Expr}
 use Rattle.sp_tree.specs.declared.expression.ExprKind.{ExprKind, GetSram, GetSram', Row_of-Expr, end_of-Expr, more_of-Expr, items-the_row-Expr, items_hidden-the_row-Expr-0}
 use Rattle.sp_tree.specs.Plain.{plain_kind, plain_row, plain_expr, plain_exprs}
-use Rattle.sp_tree.specs.PlainExpression.{PlainExpr, PlainExprKind, PlainExprs, get_sram, literal, no_expr, more_expr, expr}
+use Rattle.sp_tree.specs.PlainExpression.{PlainExprKind, PlainExprs, get_sram, literal, no_expr, more_expr, expr}
 use Rattle.sp_words.specs.Types.{int_type}
 use Rattle.sp_reader.specs.declared.syntax.expression.SynExpr.{SynExpr}
 use Rattle.sp_reader.specs.Plain as tree

@@ -5,12 +5,12 @@ use Rattle.std.specs.Option.{option_copied}
 use Rattle.std.specs.Map as entries
 use Rattle.std.specs.Str.{bytes_eq}
 use denote.Ref.{Bor}
-use Rattle.sp_types.specs.Visible.{PlainSymbol, Visible, lookup, symbol_of}
-use Rattle.sp_types.proofs.ScopeLemmas.{map_push, not_there}
+use Rattle.sp_types.specs.Visible.{PlainSymbol, lookup}
+use Rattle.sp_types.proofs.ScopeLemmas.{map_push}
 use Rattle.sp_typed.specs.declared.scope.Entry.{Entry}
 use Rattle.sp_typed.specs.declared.scope.Scope.{Scope}
 use Rattle.sp_typed.specs.Expressions.{symbol_if}
-use Rattle.sp_typed.specs.Named.{Meant, Here, find, given, give, meant_by, seen_at}
+use Rattle.sp_typed.specs.Named.{Meant, Here, find, given, give, meant_by}
 use Rattle.sp_typed.specs.Plain.{meant, here_of}
 
 -- an entry of the map, as it is shown

@@ -1,5 +1,5 @@
 -- The plain value of a controller, by its parts.
-use Rattle.std.proofs.Common.{◌≡◌, ℕ, Bool, map, Some, None, true, false, Vec, Global, refl, ◌∙◌, ap}
+use Rattle.std.proofs.Common.{◌≡◌, ℕ, Bool, map, Vec, Global, refl, ◌∙◌, ap}
 use mathlib.Core.Former.{Count}
 use Rattle.sp_words.specs.declared.kind.Style.{Style}
 use Rattle.sp_tree.specs.declared.expression.Expr.{Expr}
@@ -8,7 +8,7 @@ use Rattle.sp_tree.specs.declared.statement.Counter.{Counter}
 use Rattle.sp_tree.specs.declared.statement.Stmt.{Stmt}
 use Rattle.sp_tree.specs.declared.statement.Ctl.{Ctl, Block, Block', Foreach, Foreach', Reduce, Reduce', MemReduce, MemReduce', Fsm, Fsm', Branch, Branch', Row_of-Stmt, end_of-Stmt, more_of-Stmt, items-the_row-Stmt, items_hidden-the_row-Stmt-0}
 use Rattle.sp_tree.specs.Plain.{plain_expr}
-use Rattle.sp_tree.specs.PlainStatement.{PlainStmts, stmt, block, foreach, reduce, mem_reduce, fsm, branch, more_stmt}
+use Rattle.sp_tree.specs.PlainStatement.{stmt, block, foreach, reduce, mem_reduce, fsm, branch, more_stmt}
 use Rattle.sp_tree.specs.PlainTree.{plain_counter, plain_ctl, plain_stmt_kind, plain_stmts, plain_row as stmts_row}
 
 abbrev CtlRows : Type 0

@@ -1,19 +1,16 @@
 -- Own types hang on the visible names alone, and are known where there are no refusals.
-use Rattle.std.proofs.Common.{◌≡◌, ℕ, Bool, true, false, cond, not, ◌&&◌, ◌||◌, List, [], ◌∷◌, ◌++◌, map, Option, Some, None, is_none, refl, sym, ap, ◌∙◌, true≢false}
-use Rattle.sp_words.specs.declared.kind.BinOp.{BinOp}
+use Rattle.std.proofs.Common.{◌≡◌, ℕ, Bool, true, false, cond, List, [], ◌++◌, Option, Some, None, is_none, refl, sym, ap, ◌∙◌, true≢false}
 use Rattle.sp_words.specs.declared.types.Ty.{Ty}
 use Rattle.sp_words.specs.declared.types.Ty.TheVariants.{Fix, Bit}
-use Rattle.sp_reader.specs.declared.syntax.expression.SynTy.{SynTy}
 use Rattle.sp_reader.specs.declared.syntax.expression.SynUn.TheVariants.{Minus, Bang, Tilde}
-use Rattle.sp_reader.specs.PlainTree.{PlainIdent, PlainDigits, PlainExpr, PlainExprKind, PlainExprs, expr, number, truth, name, deq, access, mux, min, max, one, two, shift, cast, no_expr, more_expr}
+use Rattle.sp_reader.specs.PlainTree.{PlainIdent, PlainDigits, PlainExpr, PlainExprKind, expr, number, truth, name, deq, access, mux, min, max, one, two, shift, cast}
 use Rattle.sp_types.specs.declared.own.Ask.{Ask}
 use Rattle.sp_types.specs.declared.own.Own.{Own}
 use Rattle.sp_types.specs.declared.own.Own.TheVariants.{Nothing, Known, Unknown}
-use Rattle.sp_types.specs.declared.refusal.Refusal.{Refusal}
 use Rattle.sp_types.specs.Expressions as rule
 use Rattle.sp_types.specs.Literal.{literal_word}
-use Rattle.sp_types.specs.Types.{own, kind_own, own_type, symbol_type, either, is_comparison, type_of, own_or_int, compared_at}
-use Rattle.sp_types.specs.Visible.{PlainSymbol, memory, value, counter, Visible, symbol_of, lookup}
+use Rattle.sp_types.specs.Types.{own, kind_own, own_type, symbol_type, either, is_comparison, type_of, compared_at}
+use Rattle.sp_types.specs.Visible.{Visible, symbol_of, lookup}
 use Rattle.sp_typed.proofs.NoneLemmas.{both_none, three_none, not_noted}
 
 -- ---- own types hang on names

@@ -1,12 +1,12 @@
 -- What a tree declares, in the order of the text: memories, values and counters. The number of each is how many of its
 -- sort are declared before it.
-use Rattle.std.specs.Prelude.{ℕ, ◌+◌, Bool, List, [], ◌∷◌, ◌++◌, map, length, Option, Some, None}
+use Rattle.std.specs.Prelude.{ℕ, ◌+◌, List, [], ◌∷◌, ◌++◌, map, length, Option, Some, None}
 use Rattle.sp_words.specs.declared.kind.Kind.{Kind}
 use Rattle.sp_words.specs.declared.kind.Kind.TheVariants.{Reg, Sram, Fifo, LineBuf, Dram, ArgIn, ArgOut}
 use Rattle.sp_words.specs.declared.types.Ty.{Ty}
 use Rattle.sp_reader.specs.declared.syntax.expression.SynTy.{SynTy}
 use Rattle.sp_reader.specs.PlainTree.{PlainIdent, PlainLit, number_lit, truth_lit}
-use Rattle.sp_reader.specs.PlainStatement.{PlainStmtKind, PlainStmts, stmt, reg, sram, fifo, line_buffer, bind, set, set_at, enq, load, store, gather, scatter, block, foreach, reduce, fold, mem_reduce, fsm, branch, no_stmt, more_stmt, PlainDecl, PlainDeclKind, arg_in, arg_out, dram}
+use Rattle.sp_reader.specs.PlainStatement.{PlainStmtKind, PlainStmts, stmt, reg, sram, fifo, line_buffer, bind, block, foreach, reduce, fold, mem_reduce, fsm, branch, no_stmt, more_stmt, PlainDecl, PlainDeclKind, arg_in, arg_out, dram}
 use Rattle.sp_tree.specs.PlainProgram.{PlainMem}
 use Rattle.sp_types.specs.Types.{type_of}
 use Rattle.sp_types.specs.Statements.{port}

@@ -1,13 +1,12 @@
 -- Short forms of the parts of the worked trees. Places are 0 but where one tells something.
 use Rattle.std.specs.Prelude.{ℕ, true, false, List, [], ◌∷◌, Option, Some, None}
 use Rattle.std.proofs.Common.{lit≤}
-use Rattle.sp_words.specs.declared.kind.BinOp.{BinOp}
 use Rattle.sp_words.specs.declared.kind.BinOp.TheVariants as binary
 use Rattle.sp_words.specs.declared.types.Ty.{Ty}
 use Rattle.sp_words.specs.declared.types.Ty.TheVariants.{Fix}
 use Rattle.sp_reader.specs.declared.syntax.statement.SynPar.{SynPar}
 use Rattle.sp_reader.specs.PlainTree.{PlainIdent, PlainDigits, PlainExpr, number_lit}
-use Rattle.sp_reader.specs.PlainStatement.{PlainSpan, single, range, PlainCounter, PlainHead, PlainStmt, PlainStmtKind, stmt, reg, sram, fifo, bind, set, set_at, enq, load, store, foreach, body, PlainDecl, arg_in, arg_out, dram}
+use Rattle.sp_reader.specs.PlainStatement.{PlainSpan, range, PlainCounter, PlainHead, PlainStmt, PlainStmtKind, stmt, reg, fifo, bind, set, set_at, load, store, foreach, body, PlainDecl, arg_in, arg_out, dram}
 use Rattle.sp_types.specs.ExampleForms as written
 
 abbrev pub named : List ℕ → PlainIdent

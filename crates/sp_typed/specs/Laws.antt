@@ -1,5 +1,5 @@
 -- What is said of the typed program of a tree.
-use Rattle.std.specs.Prelude.{◌≡◌, ℕ, ◌≤◌, List, [], ◌++◌, length, All, Contains, Option, Some, None}
+use Rattle.std.specs.Prelude.{◌≡◌, ℕ, ◌≤◌, true, List, [], ◌++◌, length, All, Contains, Option, Some, None}
 use Rattle.sp_words.specs.declared.types.Ty.{Ty}
 use Rattle.sp_words.specs.Names.{IsName}
 use Rattle.sp_reader.specs.PlainTree.{PlainExpr}
@@ -8,7 +8,7 @@ use Rattle.sp_tree.specs.Elements.{numbers_below}
 use Rattle.sp_tree.specs.Invariant.{port_numbers, ports_of}
 use Rattle.sp_tree.specs.PlainProgram.{PlainProgram}
 use Rattle.sp_tree.specs.Structure.{mems_declared, vals_declared, counters_declared, depth}
-use Rattle.sp_tree.specs.Typing.{Scope, IsMem, mem_at, HasType}
+use Rattle.sp_tree.specs.Typing.{Scope, IsMem, mem_at, HasType, HasTypeStill}
 use Rattle.sp_types.specs.declared.own.Ask.{Ask}
 use Rattle.sp_types.specs.Expressions.{expr_refusals}
 use Rattle.sp_types.specs.Visible.{PlainSymbol, memory, value, counter, Visible}
@@ -49,3 +49,9 @@ module _ (p : PlainProgram) (scope : Scope) where
   abbrev pub IsTypedAt : Here → Visible → Ask → Ty → PlainExpr → Type 0
   IsTypedAt here seen ask ty e =
       Agree here.names → seen.names ≡ (seen_at here).names → ask.want ≡ Some ty → IsReadExpr e → expr_refusals seen ask e ≡ [] → HasType p scope ty (typed here ty e)
+
+  -- one that is checked still takes no word from a FIFO besides: a bound, a span, a start, a test or a next state
+  abbrev pub IsTypedStill : Here → Visible → Ask → Ty → PlainExpr → Type 0
+  IsTypedStill here seen ask ty e =
+      Agree here.names → seen.names ≡ (seen_at here).names → ask.want ≡ Some ty → ask.still ≡ true → IsReadExpr e → expr_refusals seen ask e ≡ []
+      → HasTypeStill p scope ty (typed here ty e)

@@ -1,5 +1,5 @@
 -- What a scope of the code shows.
-use Rattle.std.specs.Prelude.{ℕ, List, map, take, string_bytes}
+use Rattle.std.specs.Prelude.{ℕ, map, take, string_bytes}
 use Rattle.sp_types.specs.Visible.{PlainSymbol, memory, value, counter}
 use Rattle.sp_typed.specs.declared.scope.Symbol.{Symbol}
 use Rattle.sp_typed.specs.declared.scope.Symbol.TheVariants.{Memory, Value, Counter}

@@ -1,12 +1,11 @@
 -- What every tree that is read keeps.
-use Rattle.std.specs.Prelude.{◌≡◌, ℕ, ◌+◌, ◌≤◌, ◌<◌, max, List, [], ◌∷◌, ◌++◌, length, All, Option, Some, None}
+use Rattle.std.specs.Prelude.{ℕ, ◌+◌, ◌≤◌, ◌<◌, max, List, length, All, Option, Some, None}
 use Rattle.sp_words.specs.declared.kind.BinOp.{BinOp}
 use Rattle.sp_words.specs.declared.kind.BinOp.TheVariants as binary
 use Rattle.sp_words.specs.Interface.{IsCount}
 use Rattle.sp_words.specs.Names.{IsName}
-use Rattle.sp_reader.specs.declared.syntax.statement.SynPar.{SynPar}
-use Rattle.sp_reader.specs.PlainTree.{PlainIdent, PlainExpr, PlainExprKind, PlainExprs, expr, number, truth, name, deq, access, mux, min, max as greater, one, two, shift, cast, no_expr, more_expr, row}
-use Rattle.sp_reader.specs.PlainStatement.{PlainSpan, single, range, PlainCounter, PlainComb, PlainHead, PlainStmtKind, PlainStmts, stmt, reg, sram, fifo, line_buffer, bind, set, set_at, enq, load, store, gather, scatter, block, foreach, reduce, fold, mem_reduce, fsm, branch, no_stmt, more_stmt, body, PlainDecl, PlainDeclKind, arg_in, arg_out, dram, PlainSyntax}
+use Rattle.sp_reader.specs.PlainTree.{PlainExpr, PlainExprKind, PlainExprs, expr, number, truth, name, deq, access, mux, min, max as greater, one, two, shift, cast, no_expr, more_expr}
+use Rattle.sp_reader.specs.PlainStatement.{PlainSpan, single, range, PlainCounter, PlainHead, PlainStmtKind, PlainStmts, stmt, reg, sram, fifo, line_buffer, bind, set, set_at, enq, load, store, gather, scatter, block, foreach, reduce, fold, mem_reduce, fsm, branch, no_stmt, more_stmt, body, PlainDecl, PlainDeclKind, arg_in, arg_out, dram, PlainSyntax}
 use Rattle.sp_tree.specs.Typing.{IsLoopStyle}
 use Rattle.sp_types.specs.Expressions.{index_count}
 use Rattle.sp_typed.specs.Statements.{lanes, loop_style}

@@ -9,7 +9,7 @@ use Rattle.sp_words.specs.declared.types.Ty.{Ty}
 use Rattle.sp_words.specs.declared.types.Ty.TheVariants.{Bit}
 use Rattle.sp_words.specs.Types.{int_type}
 use Rattle.sp_reader.specs.declared.syntax.statement.SynPar.{SynPar}
-use Rattle.sp_reader.specs.PlainTree.{PlainIdent, PlainExpr, expr, name, place_of_expr, row}
+use Rattle.sp_reader.specs.PlainTree.{PlainIdent, PlainExpr, place_of_expr, row}
 use Rattle.sp_reader.specs.PlainStatement.{PlainSpan, single, range, PlainCounter, PlainStmtKind, PlainStmts, stmt, reg, sram, fifo, line_buffer, bind, set, set_at, enq, load, store, gather, scatter, block, foreach, reduce, fold, mem_reduce, fsm, branch, no_stmt, more_stmt}
 use Rattle.sp_tree.specs.declared.statement.Comb.{Comb}
 use Rattle.sp_tree.specs.declared.statement.Comb.TheVariants as combiner

@@ -203,7 +203,12 @@ fn element(
 
 /// An element of a line buffer, at a row and a column.
 #[cycle(typed)]
-fn in_line(alloc: Global, scope: &Scope, number: u32, indices: &[SynExpr]) -> Result<ExprKind, AllocError>
+fn in_line(
+    alloc: Global,
+    scope: &Scope,
+    number: u32,
+    indices: &[SynExpr],
+) -> Result<ExprKind, AllocError>
     ensures { IfOk result (λ kind. plain_kind kind ≡ spec.line_element number (spec.all_typed (here_of scope.now) int_type (row (tree.plain_exprs indices.now)))) }
 {
     match indices {
@@ -218,7 +223,12 @@ fn in_line(alloc: Global, scope: &Scope, number: u32, indices: &[SynExpr]) -> Re
 
 /// Indices.
 #[cycle(typed)]
-pub(crate) fn all_typed(alloc: Global, scope: &Scope, ty: Ty, all: &[SynExpr]) -> Result<Vec<Expr>, AllocError>
+pub(crate) fn all_typed(
+    alloc: Global,
+    scope: &Scope,
+    ty: Ty,
+    all: &[SynExpr],
+) -> Result<Vec<Expr>, AllocError>
     ensures { IfOk result (λ typed. plain_exprs typed.items ≡ spec.all_typed (here_of scope.now) ty (row (tree.plain_exprs all.now))) }
 {
     let mut typed_all = Vec::new(alloc);

@@ -9,7 +9,7 @@ ghost use Rattle.sp_types.specs.declared.own.Ask.{Ask};
 ghost use Rattle.sp_types.specs.Statements.{first_refusal};
 ghost use Rattle.sp_types.specs.Visible.{Visible};
 ghost use Rattle.sp_words.specs.declared.types.Ty.{Ty};
-ghost use Rattle.sp_typed.specs.Laws.{AreDeclared, AreNumbered, IsTypedAt};
+ghost use Rattle.sp_typed.specs.Laws.{AreDeclared, AreNumbered, IsTypedAt, IsTypedStill};
 ghost use Rattle.sp_typed.specs.Named.{Here};
 ghost use Rattle.sp_typed.specs.Programs.{program_of};
 ghost use Rattle.sp_typed.specs.ReadTree.{IsReadTree};
@@ -27,4 +27,9 @@ pub fn declarations_are_right()
 /// An expression without refusals is typed, at the type at which it is checked.
 pub fn expressions_are_typed()
     ensures { (p : PlainProgram) (scope : Scope) (here : Here) (seen : Visible) (ask : Ask) (ty : Ty) (e : PlainExpr) → IsTypedAt p scope here seen ask ty e }
+{}
+
+/// An expression that is checked still takes no word from a FIFO besides.
+pub fn still_expressions_take_no_word()
+    ensures { (p : PlainProgram) (scope : Scope) (here : Here) (seen : Visible) (ask : Ask) (ty : Ty) (e : PlainExpr) → IsTypedStill p scope here seen ask ty e }
 {}

@@ -12,9 +12,14 @@ mod scope;
 mod simple;
 mod span;
 mod statement;
+#[cfg(test)]
+mod tests;
 mod types;
 
 pub use examples::{worked_expressions, worked_numbers, worked_programs};
+pub use laws::{
+    declarations_are_numbered, declarations_are_right, expressions_are_typed,
+    still_expressions_take_no_word,
+};
 pub use program::typed_block;
 pub use std::alloc::AllocError as NoMemory;
-pub use laws::{declarations_are_numbered, declarations_are_right, expressions_are_typed};

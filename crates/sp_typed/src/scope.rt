@@ -69,10 +69,8 @@ impl Scope {
         if self.names.contains_key(name) {
             return Ok(());
         }
-        self.names.insert(
-            String::from_str(alloc, name)?,
-            Entry { symbol, number },
-        )?;
+        self.names
+            .insert(String::from_str(alloc, name)?, Entry { symbol, number })?;
         Ok(())
     }
 

@@ -18,9 +18,7 @@ ghost use Rattle.sp_typed.specs.Plain.{here_of};
 ghost use Rattle.sp_typed.specs.Statements as spec;
 ghost use Rattle.sp_words.specs.declared.kind.Kind.TheVariants.{Reg};
 
-use crate::control::{
-    block_of, branch_of, control, foreach_of, fsm_of, mem_reduce_of, reduce_of,
-};
+use crate::control::{block_of, branch_of, control, foreach_of, fsm_of, mem_reduce_of, reduce_of};
 use crate::expression::{number_of, typed};
 use crate::scope::{Scope, Symbol};
 use crate::simple::{
@@ -67,14 +65,8 @@ fn under_state(
     Ok(word)
 }
 
-
 /// The names in the body of an FSM.
-fn enter_turn(
-    alloc: Global,
-    scope: &mut Scope,
-    now: &Ident,
-    state: Ty,
-) -> Result<(), AllocError>
+fn enter_turn(alloc: Global, scope: &mut Scope, now: &Ident, state: Ty) -> Result<(), AllocError>
     ensures { OnOk result (here_of scope.new ≡ spec.in_fsm (here_of scope.old) (tree.plain_ident now.now) state) }
 {
     let number = next(scope.vals)?;
@@ -140,11 +132,7 @@ pub(crate) fn body_typed(
 
 /// The statements of a block, whose names end with it.
 #[cycle(statement)]
-fn block_typed(
-    alloc: Global,
-    scope: &mut Scope,
-    body: &[SynStmt],
-) -> Result<Vec<Stmt>, AllocError>
+fn block_typed(alloc: Global, scope: &mut Scope, body: &[SynStmt]) -> Result<Vec<Stmt>, AllocError>
     ensures seen { OnOk result (here_of scope.new ≡ names.past_body (here_of scope.old) (body_of (syntax.plain_stmts body.now))) }
     ensures typed { IfOk result (λ r. plain_stmts r.items ≡ spec.body_typed (here_of scope.old) (body_of (syntax.plain_stmts body.now))) }
 {
@@ -248,7 +236,10 @@ fn foreach_typed(
 {
     let typed_counters = counters_typed(alloc, scope, counters)?;
     let typed_body = loop_typed(alloc, scope, binds, body)?;
-    control(alloc, foreach_of(loop_style(style), typed_counters, typed_body))
+    control(
+        alloc,
+        foreach_of(loop_style(style), typed_counters, typed_body),
+    )
 }
 
 /// A Reduce or a Fold.

@@ -1,4 +1,4 @@
-use Rattle.std.proofs.Common.{◌≡◌, ◌∙◌, ap, ◌+◌}
+use Rattle.std.proofs.Common.{◌∙◌, ap, ◌+◌}
 use Rattle.sp_typed.proofs.TreeLemmas.{plain_fsm}
 use Rattle.sp_tree.specs.Plain.{plain_expr}
 use Rattle.sp_tree.specs.PlainStatement.{fsm}

@@ -1,4 +1,4 @@
-use Rattle.std.proofs.Common.{◌≡◌, ◌∙◌, ap, map}
+use Rattle.std.proofs.Common.{◌∙◌, ap, map}
 use Rattle.sp_typed.proofs.TreeLemmas.{plain_mem_reduce}
 use Rattle.sp_tree.specs.PlainStatement.{mem_reduce}
 use Rattle.sp_tree.specs.PlainTree.{plain_counter, plain_stmts}

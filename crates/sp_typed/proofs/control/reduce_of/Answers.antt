@@ -1,4 +1,4 @@
-use Rattle.std.proofs.Common.{◌≡◌, ◌∙◌, ap, map}
+use Rattle.std.proofs.Common.{◌∙◌, ap, map}
 use Rattle.sp_typed.proofs.TreeLemmas.{plain_reduce}
 use Rattle.sp_tree.specs.Plain.{plain_expr}
 use Rattle.sp_tree.specs.PlainStatement.{reduce}

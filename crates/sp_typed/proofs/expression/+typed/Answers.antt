@@ -1,7 +1,7 @@
-use Rattle.std.proofs.Common.{rules, ◌≡◌, ◌++◌, ◌+◌, ◌∷◌, [], drop, length, sym, ap, ◌∙◌, arith}
+use Rattle.std.proofs.Common.{◌+◌, ◌∷◌, drop, sym, ap, ◌∙◌, arith}
 use Rattle.std.proofs.lemmas.List.{drop_more, at_drop_all}
 use borrow.Author.Tests.{ltb-true, ltb-false}
-use Rattle.sp_reader.specs.Plain.{plain_expr, plain_exprs, plain_kind, plain_ident}
+use Rattle.sp_reader.specs.Plain.{plain_exprs, plain_kind}
 use Rattle.sp_reader.specs.PlainTree.{row}
 use Rattle.sp_tree.specs.Plain as program
 use Rattle.sp_tree.specs.PlainExpression.{more_expr}
@@ -46,8 +46,8 @@ kind_typed-returns-in-At t c =
     let here = here_of c.args.scope.now in
     ok_same c.element.result _ _
     (same_three spec.element _ _ _ _ _ _
-        (c.is_line-line.ensures ∙ ap (λ n. spec.is_line (spec.symbol_if (meant_by here n))) c.deref-in-At.ensures)
-        (c.number_of-in-At.ensures ∙ ap (λ n. spec.number_if (meant_by here n)) c.deref-in-At-2.ensures)
-        (ap (λ es. spec.all_typed here int_type (row (plain_exprs es))) c.deref-in-At-3.ensures.value)
+    (c.is_line-line.ensures ∙ ap (λ n. spec.is_line (spec.symbol_if (meant_by here n))) c.deref-in-At.ensures)
+    (c.number_of-in-At.ensures ∙ ap (λ n. spec.number_if (meant_by here n)) c.deref-in-At-2.ensures)
+    (ap (λ es. spec.all_typed here int_type (row (plain_exprs es))) c.deref-in-At-3.ensures.value)
     ∙ sym (ap (spec.kind_typed here c.args.ty) (ap plain_kind c.in-At.is ∙ access_of c.in-At.name c.in-At.indices)))
     c.element.ensures

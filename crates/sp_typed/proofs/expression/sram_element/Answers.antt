@@ -1,4 +1,4 @@
-use Rattle.std.proofs.Common.{◌≡◌, ◌∙◌, ap}
+use Rattle.std.proofs.Common.{◌∙◌, ap}
 use Rattle.sp_tree.specs.Plain.{plain_exprs}
 use Rattle.sp_tree.specs.PlainExpression.{get_sram}
 use Rattle.sp_typed.proofs.RowLemmas.{sram_of}

@@ -1,4 +1,4 @@
-use Rattle.std.proofs.Common.{◌≡◌, ℕ, ◌++◌, sym, ap, ◌∙◌, length, zero-add}
+use Rattle.std.proofs.Common.{◌++◌, sym, ap, ◌∙◌, zero-add}
 use Rattle.std.proofs.lemmas.List.{length-map}
 use Rattle.sp_reader.specs.PlainStatement.{body}
 use Rattle.sp_types.specs.Statements as rule

@@ -1,11 +1,10 @@
-use Rattle.std.proofs.Common.{◌≡◌, ◌+◌, ◌∷◌, [], drop, length, sym, ap, ◌∙◌, arith}
+use Rattle.std.proofs.Common.{◌+◌, ◌∷◌, drop, sym, ap, ◌∙◌, arith}
 use Rattle.std.proofs.lemmas.List.{drop_more, at_drop_all, length-map}
 use Rattle.sp_reader.specs.Plain.{plain_ident}
-use Rattle.sp_reader.specs.PlainProgram.{plain_decl, plain_decl_kind, plain_decls}
-use Rattle.sp_types.specs.Statements.{port}
+use Rattle.sp_reader.specs.PlainProgram.{plain_decl, plain_decls}
 use Rattle.sp_typed.specs.Declarations.{port_names}
-use Rattle.sp_typed.specs.Named.{give, given}
-use Rattle.sp_typed.specs.Plain.{here_of, plain_symbol}
+use Rattle.sp_typed.specs.Named.{given}
+use Rattle.sp_typed.specs.Plain.{here_of}
 use Rattle.sp_typed.proofs.GrowthLemmas.{here_with, with_each_port, with_each_port_is}
 use Rattle.sp_typed.proofs.program.enter_ports.Goals as goal
 

@@ -1,4 +1,4 @@
-use Rattle.std.proofs.Common.{◌≡◌, ◌++◌, ◌+◌, ◌∷◌, [], map, drop, sym, ap, ◌∙◌, arith, append-nil}
+use Rattle.std.proofs.Common.{◌++◌, ◌+◌, ◌∷◌, [], map, drop, sym, ap, ◌∙◌, arith, append-nil}
 use Rattle.std.proofs.lemmas.List.{drop_more, at_drop_all}
 use Rattle.sp_reader.specs.PlainProgram.{plain_counter as tree_counter, plain_counters}
 use Rattle.sp_tree.specs.PlainTree.{plain_counter}

@@ -1,7 +1,7 @@
-use Rattle.std.proofs.Common.{◌≡◌, ◌+◌, ◌++◌, List, ◌∷◌, [], drop, map, sym, ap, ◌∙◌, arith}
+use Rattle.std.proofs.Common.{◌≡◌, ◌+◌, ◌++◌, List, ◌∷◌, [], drop, sym, ap, ◌∙◌, arith}
 use Rattle.std.proofs.lemmas.List.{drop_more, at_drop_all}
 use Rattle.sp_reader.specs.Plain.{plain_ident, plain_expr}
-use Rattle.sp_reader.specs.PlainProgram.{plain_stmts, plain_stmt_kind, plain_counters, plain_idents, plain_comb}
+use Rattle.sp_reader.specs.PlainProgram.{plain_stmts, plain_stmt_kind, plain_counters, plain_idents}
 use Rattle.sp_reader.specs.PlainStatement.{body}
 use Rattle.sp_tree.specs.PlainStatement as program
 use Rattle.sp_tree.specs.Plain.{plain_expr as tree_expr}
@@ -192,12 +192,12 @@ stmt_typed-returns-in_ok-ctl-in-Fsm-clause-seen t c =
     let ss = body (plain_stmts c.in-Fsm.body.items) in
     let whole = ap (after here) (ap plain_stmt_kind c.in-Fsm.is ∙ fsm_of c.in-Fsm.start c.in-Fsm.tested c.in-Fsm.test c.in-Fsm.now c.in-Fsm.body c.in-Fsm.last c.in-Fsm.state) in
     let there = c.in_ok-typed_body-in-Fsm.ensures.seen
-        ∙ ap (λ h. past_turn h (body (plain_stmts c.deref-in-Fsm.result.now))) c.in_ok-typed_test-in-Fsm.ensures.seen
-        ∙ ap (λ xs. past_turn here (body (plain_stmts xs))) c.deref-in-Fsm.ensures.value in
+    ∙ ap (λ h. past_turn h (body (plain_stmts c.deref-in-Fsm.result.now))) c.in_ok-typed_test-in-Fsm.ensures.seen
+    ∙ ap (λ xs. past_turn here (body (plain_stmts xs))) c.deref-in-Fsm.ensures.value in
     any_ok c.control-in-Fsm.result _
     (c.in_ok-typed_next-in-Fsm.ensures.seen ∙ ap (λ h. here_with h.names h.mems (h.vals + 1) h.counters) there
-        ∙ past_fsm here (plain_expr c.in-Fsm.start) (plain_ident c.in-Fsm.tested) (plain_expr c.in-Fsm.test) (plain_ident c.in-Fsm.now) ss (plain_ident c.in-Fsm.last) (plain_expr c.in-Fsm.state)
-        ∙ sym whole)
+    ∙ past_fsm here (plain_expr c.in-Fsm.start) (plain_ident c.in-Fsm.tested) (plain_expr c.in-Fsm.test) (plain_ident c.in-Fsm.now) ss (plain_ident c.in-Fsm.last) (plain_expr c.in-Fsm.state)
+    ∙ sym whole)
 
 abbrev of_fsm : (start : PlainExpr) (tested : PlainIdent) (test : PlainExpr) (now : PlainIdent) (last : PlainIdent) (next : PlainExpr) → Here → PlainStmts → Ty → Here → Here → program.PlainStmtKind
 of_fsm start tested test now last next here ss ty there beyond =
@@ -210,8 +210,8 @@ stmt_typed-returns-in_ok-ctl-in-Fsm-clause-typed t c =
     let whole = ap (stmt_typed here) (ap plain_stmt_kind c.in-Fsm.is ∙ fsm_of c.in-Fsm.start c.in-Fsm.tested c.in-Fsm.test c.in-Fsm.now c.in-Fsm.body c.in-Fsm.last c.in-Fsm.state) in
     let form = of_fsm (plain_expr c.in-Fsm.start) (plain_ident c.in-Fsm.tested) (plain_expr c.in-Fsm.test) (plain_ident c.in-Fsm.now) (plain_ident c.in-Fsm.last) (plain_expr c.in-Fsm.state) here in
     let there = c.in_ok-typed_body-in-Fsm.ensures.seen
-        ∙ ap (λ h. past_turn h (body (plain_stmts c.deref-in-Fsm.result.now))) c.in_ok-typed_test-in-Fsm.ensures.seen
-        ∙ ap (λ xs. past_turn here (body (plain_stmts xs))) c.deref-in-Fsm.ensures.value in
+    ∙ ap (λ h. past_turn h (body (plain_stmts c.deref-in-Fsm.result.now))) c.in_ok-typed_test-in-Fsm.ensures.seen
+    ∙ ap (λ xs. past_turn here (body (plain_stmts xs))) c.deref-in-Fsm.ensures.value in
     let start = tree_expr c.in_ok-typed_start-in-Fsm.typed_start in
     let test = tree_expr c.in_ok-typed_test-in-Fsm.typed_test in
     let inner = tree.plain_stmts c.in_ok-typed_body-in-Fsm.typed_body.items in
@@ -220,14 +220,14 @@ stmt_typed-returns-in_ok-ctl-in-Fsm-clause-typed t c =
     let ty = c.type_by_itself-ty.result in
     stmt_same c.control-in-Fsm.result _ _
     (c.in_ok-ctl-in-Fsm.ensures
-        ∙ ap (λ x. program.fsm x here.vals test (here.vals + 1) inner end next) c.in_ok-typed_start-in-Fsm.ensures
-        ∙ ap (λ x. program.fsm (typed here ty (plain_expr c.in-Fsm.start)) here.vals x (here.vals + 1) inner end next) c.in_ok-typed_test-in-Fsm.ensures.typed
-        ∙ ap (λ x. program.fsm (typed here ty (plain_expr c.in-Fsm.start)) here.vals (typed (with_state here (plain_ident c.in-Fsm.tested) ty here.vals) Bit (plain_expr c.in-Fsm.test)) (here.vals + 1) x end next) c.in_ok-typed_body-in-Fsm.ensures.typed
-        ∙ ap (λ x. program.fsm (typed here ty (plain_expr c.in-Fsm.start)) here.vals (typed (with_state here (plain_ident c.in-Fsm.tested) ty here.vals) Bit (plain_expr c.in-Fsm.test)) (here.vals + 1)
-            (body_typed (in_fsm (here_of c.under_state.new.scope) (plain_ident c.in-Fsm.now) ty) (body (plain_stmts c.deref-in-Fsm.result.now))) end x) c.in_ok-typed_next-in-Fsm.ensures.typed
-        ∙ ap (λ xs. form (body (plain_stmts xs)) ty (here_of c.under_state.new.scope) (here_of c.turn_typed.new.scope)) c.deref-in-Fsm.ensures.value
-        ∙ same_three (form ss) _ _ _ _ _ _ c.type_by_itself-ty.ensures c.in_ok-typed_test-in-Fsm.ensures.seen there
-        ∙ sym whole)
+    ∙ ap (λ x. program.fsm x here.vals test (here.vals + 1) inner end next) c.in_ok-typed_start-in-Fsm.ensures
+    ∙ ap (λ x. program.fsm (typed here ty (plain_expr c.in-Fsm.start)) here.vals x (here.vals + 1) inner end next) c.in_ok-typed_test-in-Fsm.ensures.typed
+    ∙ ap (λ x. program.fsm (typed here ty (plain_expr c.in-Fsm.start)) here.vals (typed (with_state here (plain_ident c.in-Fsm.tested) ty here.vals) Bit (plain_expr c.in-Fsm.test)) (here.vals + 1) x end next) c.in_ok-typed_body-in-Fsm.ensures.typed
+    ∙ ap (λ x. program.fsm (typed here ty (plain_expr c.in-Fsm.start)) here.vals (typed (with_state here (plain_ident c.in-Fsm.tested) ty here.vals) Bit (plain_expr c.in-Fsm.test)) (here.vals + 1)
+    (body_typed (in_fsm (here_of c.under_state.new.scope) (plain_ident c.in-Fsm.now) ty) (body (plain_stmts c.deref-in-Fsm.result.now))) end x) c.in_ok-typed_next-in-Fsm.ensures.typed
+    ∙ ap (λ xs. form (body (plain_stmts xs)) ty (here_of c.under_state.new.scope) (here_of c.turn_typed.new.scope)) c.deref-in-Fsm.ensures.value
+    ∙ same_three (form ss) _ _ _ _ _ _ c.type_by_itself-ty.ensures c.in_ok-typed_test-in-Fsm.ensures.seen there
+    ∙ sym whole)
     c.control-in-Fsm.ensures
 
 pub stmt_typed-returns-in_ok-no-in-If-clause-seen : goal.stmt_typed-returns-in_ok-no-in-If-clause-seen
@@ -239,10 +239,10 @@ stmt_typed-returns-in_ok-no-in-If-clause-seen t c =
     let there = c.in_ok-yes-in-If.ensures.seen ∙ ap (λ xs. past_body here (body (plain_stmts xs))) c.deref-in-If.ensures.value in
     any_ok c.control-in-If.result _
     (c.in_ok-no-in-If.ensures.seen
-        ∙ ap (λ h. past_body h (body (plain_stmts c.deref-in-If-2.result.now))) there
-        ∙ ap (λ xs. past_body (past_body here first) (body (plain_stmts xs))) c.deref-in-If-2.ensures.value
-        ∙ past_two here (plain_expr c.in-If.test) first second
-        ∙ sym whole)
+    ∙ ap (λ h. past_body h (body (plain_stmts c.deref-in-If-2.result.now))) there
+    ∙ ap (λ xs. past_body (past_body here first) (body (plain_stmts xs))) c.deref-in-If-2.ensures.value
+    ∙ past_two here (plain_expr c.in-If.test) first second
+    ∙ sym whole)
 
 pub stmt_typed-returns-in_ok-no-in-If-clause-typed : goal.stmt_typed-returns-in_ok-no-in-If-clause-typed
 stmt_typed-returns-in_ok-no-in-If-clause-typed t c =
@@ -252,8 +252,8 @@ stmt_typed-returns-in_ok-no-in-If-clause-typed t c =
     let there = c.in_ok-yes-in-If.ensures.seen ∙ ap (λ xs. past_body here (body (plain_stmts xs))) c.deref-in-If.ensures.value in
     stmt_same c.control-in-If.result _ _
     (c.branch_of.ensures
-        ∙ same_three program.branch _ _ _ _ _ _ c.in_ok-typed_test-in-If.ensures
-            (c.in_ok-yes-in-If.ensures.typed ∙ ap (λ xs. body_typed here (body (plain_stmts xs))) c.deref-in-If.ensures.value)
-            (c.in_ok-no-in-If.ensures.typed ∙ ap (λ h. body_typed h (body (plain_stmts c.deref-in-If-2.result.now))) there ∙ ap (λ xs. body_typed (past_body here first) (body (plain_stmts xs))) c.deref-in-If-2.ensures.value)
-        ∙ sym whole)
+    ∙ same_three program.branch _ _ _ _ _ _ c.in_ok-typed_test-in-If.ensures
+    (c.in_ok-yes-in-If.ensures.typed ∙ ap (λ xs. body_typed here (body (plain_stmts xs))) c.deref-in-If.ensures.value)
+    (c.in_ok-no-in-If.ensures.typed ∙ ap (λ h. body_typed h (body (plain_stmts c.deref-in-If-2.result.now))) there ∙ ap (λ xs. body_typed (past_body here first) (body (plain_stmts xs))) c.deref-in-If-2.ensures.value)
+    ∙ sym whole)
     c.control-in-If.ensures

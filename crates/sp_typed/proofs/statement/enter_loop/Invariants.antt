@@ -1,6 +1,5 @@
 use Rattle.std.proofs.Common.{◌≡◌, drop}
 use Rattle.sp_reader.specs.PlainProgram.{plain_idents}
-use Rattle.sp_typed.specs.Named.{Here}
 use Rattle.sp_typed.specs.Plain.{here_of}
 use Rattle.sp_typed.proofs.GrowthLemmas.{entered, here_with}
 use Rattle.sp_typed.proofs.statement.enter_loop.Given as goal

@@ -1,4 +1,4 @@
-use Rattle.std.proofs.Common.{◌≡◌, Some, sym, ap, ◌∙◌}
+use Rattle.std.proofs.Common.{Some, sym, ap, ◌∙◌}
 use Rattle.sp_typed.specs.Plain.{here_of}
 use Rattle.sp_typed.proofs.OwnLemmas.{own_of_name}
 use Rattle.sp_typed.proofs.types.own_of_name.Goals as goal

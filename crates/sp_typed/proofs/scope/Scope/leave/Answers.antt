@@ -1,4 +1,4 @@
-use Rattle.std.proofs.Common.{◌≡◌, ap, ◌∙◌, List, ℕ, map, take}
+use Rattle.std.proofs.Common.{ap, ◌∙◌, List, ℕ, map}
 use Rattle.sp_types.proofs.ScopeLemmas.{take_shown}
 use Rattle.sp_typed.specs.Named.{Meant, Here}
 use Rattle.sp_typed.proofs.ScopeLemmas.{entry_of}
