@@ -35,7 +35,7 @@ one_word ty =
     let h : 0 < width_of ty = omega (arith, one-le-width ty) in
     pow-lt {i = 0} h
 
-zero_word : (ty : Ty) → IsWord ty 0
+pub zero_word : (ty : Ty) → IsWord ty 0
 zero_word ty = omega (arith, one_word ty)
 
 fits : (ty : Ty) (b : Bool) (z : ℤ) → IsWord ty (word_if (cond b (Some (wrap ty z)) None))

@@ -6,6 +6,7 @@ pub mod PortLemmas
 pub mod VisibleLemmas
 pub mod ExpressionLemmas
 pub mod StillLemmas
+pub mod SpanLemmas
 pub mod DeclaredLemmas
 pub mod ScopeLemmas
 pub mod GrowthLemmas

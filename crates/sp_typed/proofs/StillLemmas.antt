@@ -11,12 +11,15 @@ use Rattle.sp_tree.specs.Footprint.{Names, KindNames, AllName}
 use Rattle.sp_tree.specs.PlainExpression as program
 use Rattle.sp_tree.specs.PlainProgram.{PlainProgram}
 use Rattle.sp_tree.specs.Streams.{is_fifo}
-use Rattle.sp_tree.specs.Typing.{Scope, IsMem, mem_at, Typed, KindTyped, IndicesTyped}
+use Rattle.sp_tree.specs.Typing.{Scope, IsMem, mem_at, Typed, KindTyped, IndicesTyped, HasTypeStill}
 use Rattle.sp_types.specs.declared.own.Ask.{Ask}
 use Rattle.sp_types.specs.Expressions as rule
 use Rattle.sp_types.specs.Visible.{PlainSymbol, memory, value, counter, Visible}
 use Rattle.sp_typed.specs.Expressions.{named_word, digits_of, cast_if, line_element, element, is_line, number_of, symbol_at, operand_type, type_by_itself, typed, kind_typed, all_typed}
-use Rattle.sp_typed.specs.Named.{Here}
+use Rattle.sp_typed.specs.Laws.{Agree}
+use Rattle.sp_typed.specs.Named.{Here, seen_at}
+use Rattle.sp_typed.specs.ReadTree.{IsReadExpr}
+use Rattle.sp_typed.proofs.ExpressionLemmas.{expr_right, type_is}
 use Rattle.sp_typed.proofs.NoneLemmas.{both_none, three_none, not_noted}
 
 -- no word is taken anywhere in an expression
@@ -139,3 +142,10 @@ module _ (p : PlainProgram) (scope : Scope) where
     all_names_none : (es : program.PlainExprs) → IndicesTyped p scope es → AllNoTake es → AllName no_fifo es
     all_names_none program.no_expr h n = tt
     all_names_none (program.more_expr e rest) h n = (names_none e h.0 n.0, all_names_none rest h.2 n.1)
+
+-- an expression that is checked still is typed so
+pub still_right : (p : PlainProgram) (scope : Scope) (here : Here) (seen : Visible) → Agree p scope here.names → seen.names ≡ (seen_at here).names
+    → (ask : Ask) (ty : Ty) (e : PlainExpr) → ask.want ≡ Some ty → ask.still ≡ true → IsReadExpr e → rule.expr_refusals seen ask e ≡ [] → HasTypeStill p scope ty (typed here ty e)
+still_right p scope here seen agree same ask ty e want still read none =
+    let right = expr_right p scope here seen agree same ask ty e want read none in
+    ((right, type_is here ty e), names_none p scope (typed here ty e) right (takes_none here seen ask ty e still none))

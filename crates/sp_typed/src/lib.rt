@@ -18,8 +18,8 @@ mod types;
 
 pub use examples::{worked_expressions, worked_numbers, worked_programs};
 pub use laws::{
-    declarations_are_numbered, declarations_are_right, expressions_are_typed,
-    still_expressions_take_no_word,
+    counters_are_typed, declarations_are_numbered, declarations_are_right, expressions_are_typed,
+    spans_are_typed, still_expressions_take_no_word,
 };
 pub use program::typed_block;
 pub use std::alloc::AllocError as NoMemory;
