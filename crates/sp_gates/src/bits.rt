@@ -68,7 +68,7 @@ pub fn equals(builder: &mut Builder, ty: Ty, a: NetId, number: u64) -> Result<Ne
     Ok(net)
 }
 
-/// A net that is a bit one cycle later than the other, and this in cycle 0. `one` is always 1.
+/// A net with the bit that `next` had one cycle before, and with `first` in cycle 0. `one` is always 1.
 pub fn register(
     builder: &mut Builder,
     first: bool,
