@@ -12,8 +12,6 @@ mod proper;
 mod stages;
 mod stream;
 mod tally;
-#[cfg(test)]
-mod tests;
 mod words;
 
 pub use over::{Over, Which, first_over};

@@ -10,12 +10,8 @@ mod laws;
 mod lines;
 mod names;
 mod parts;
-#[cfg(test)]
-mod read_tests;
 mod reader;
 mod reading;
-#[cfg(test)]
-mod tests;
 mod words;
 
 pub use error::ListError;

@@ -10,8 +10,6 @@ mod reader;
 mod scan;
 mod separators;
 mod syntax;
-#[cfg(test)]
-mod tests;
 mod token;
 
 pub use error::ReadError;

@@ -10,8 +10,6 @@ mod reading;
 mod settings;
 mod setup;
 mod table;
-#[cfg(test)]
-mod tests;
 
 pub use cells::{MOST_WORDS, dram_sizes_fit};
 pub use drams::LONGEST_FILE;

@@ -1,28 +1,11 @@
--- The command table: which words are a command, how it may end, and what it then puts.
-use Rattle.std.specs.Prelude.{◌≡◌, ◌⊎◌, ℕ, List, [], ◌∷◌, codes}
+-- How a command of the table may end, and what it then puts.
+use Rattle.std.specs.Prelude.{◌≡◌, ◌⊎◌, ℕ, List, []}
+pub use Rattle.sp_command.specs.Commands.{Command, compile, verilog, simulate, waves, IsFileWord, IsCommand}
 use Rattle.sp_edges.specs.Standing.{Standing}
 use Rattle.sp_edges.specs.Calls.{Call}
 use Rattle.sp_top.specs.Compile.{ListsProgram, PrintsProgram, Translates, CompileRefuses}
 use Rattle.sp_top.specs.Simulate.{Prints, RunEnds, Dumps, DumpEnds, Simulates, SimulateRefuses}
 use Rattle.sp_top.specs.Status.{PlainStatus, done, words, write_fault, memory, line_of}
-
-pub data Command : Type 0 where
-  compile : (program : List ℕ) → Command
-  verilog : (program : List ℕ) → Command
-  simulate : (listing setup : List ℕ) → Command
-  waves : (listing setup : List ℕ) → Command
-
--- a word that names a file: it isn't empty and doesn't begin with `-`
-abbrev pub IsFileWord : List ℕ → Type 0
-IsFileWord [] = ⊥
-IsFileWord (c ∷ rest) = c ≡ 45 → ⊥
-
--- the words are that command
-abbrev pub IsCommand : List (List ℕ) → Command → Type 0
-IsCommand said (compile program) = (said ≡ codes "compile" ∷ program ∷ []) × IsFileWord program
-IsCommand said (verilog program) = (said ≡ codes "verilog" ∷ program ∷ []) × IsFileWord program
-IsCommand said (simulate listing setup) = (said ≡ codes "simulate" ∷ listing ∷ setup ∷ []) × IsFileWord listing × IsFileWord setup
-IsCommand said (waves listing setup) = (said ≡ codes "waves" ∷ listing ∷ setup ∷ []) × IsFileWord listing × IsFileWord setup
 
 -- The texts that a command puts on `out` and on `aside` where it is done, after these calls for names.
 abbrev pub DoneTexts : (List ℕ → Standing) → (asked : List Call → Type 0) → Command → (out aside : List ℕ) → Type 0

@@ -1,20 +1,15 @@
 //! The commands of the compiler, from the words of the command line to the bytes on the sinks.
 #![tactic(auto)]
 
-mod command;
 mod compile;
 mod laws;
 mod lines;
 mod reads;
 mod result_text;
 mod simulate;
-#[cfg(test)]
-mod simulation_tests;
 mod sinks;
 mod status;
 mod straight;
-#[cfg(test)]
-mod tests;
 mod top;
 
 pub use laws::{limits_of_small_programs, refusals_refuse};

@@ -6,5 +6,3 @@ pub mod lower;
 mod names;
 pub mod parse;
 pub mod program;
-#[cfg(test)]
-mod tests;

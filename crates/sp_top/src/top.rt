@@ -13,11 +13,11 @@ ghost use Rattle.sp_top.specs.Commands as commands;
 ghost use Rattle.sp_top.specs.Said.{plain_command};
 ghost use Rattle.sp_top.specs.Record.{Records};
 
-use crate::command::{Command, command_of};
 use crate::compile::{compile, print_verilog};
 use crate::simulate::{View, simulate};
 use crate::sinks::{Texts, deliver, refuse};
 use crate::status::Status;
+use sp_command::{Command, command_of};
 use sp_edges::{Inputs, Sink};
 use sp_listing::{listing_breaks_nowhere, listing_has_one_reading};
 use sp_netlist::{one_ending, refusals_exact};
@@ -40,6 +40,27 @@ fn texts_of<I: Inputs>(alloc: Global, command: Command<'_>, inputs: &mut I) -> R
     }
 }
 
+// Carries out the command that the words are.
+fn carry_out<I: Inputs, K: Sink, A: Sink>(
+    alloc: Global,
+    words: &[String],
+    command: Command<'_>,
+    inputs: &mut I,
+    out: &mut K,
+    aside: &mut A,
+) -> Status
+    requires { IsCommand (map string_bytes words.now) (plain_command command) }
+    ensures { Records (MayEnd (map string_bytes words.now) (I.told inputs.old) (λ name. Rose (I.faults inputs.old) (I.faults inputs.new) × (I.sure inputs.old name → ⊥)) (λ calls. I.asked inputs.old calls inputs.new))
+        (record { before = K.taken out.old; after = K.taken out.new; faults_before = K.faults out.old; faults_after = K.faults out.new; room = K.sure_room out.old; put = λ pieces. K.was_put out.old pieces out.new })
+        (record { before = A.taken aside.old; after = A.taken aside.new; faults_before = A.faults aside.old; faults_after = A.faults aside.new; room = A.sure_room aside.old; put = λ pieces. A.was_put aside.old pieces aside.new })
+        (plain_status result) }
+{
+    match texts_of(alloc, command, inputs) {
+        Ok(texts) => deliver(&texts, out, aside),
+        Err(status) => refuse(alloc, out, status),
+    }
+}
+
 // Does what the words say.
 fn answer<I: Inputs, K: Sink, A: Sink>(
     alloc: Global,
@@ -53,12 +74,10 @@ fn answer<I: Inputs, K: Sink, A: Sink>(
         (record { before = A.taken aside.old; after = A.taken aside.new; faults_before = A.faults aside.old; faults_after = A.faults aside.new; room = A.sure_room aside.old; put = λ pieces. A.was_put aside.old pieces aside.new })
         (plain_status result) }
 {
-    let Some(command) = command_of(words) else {
-        return refuse(alloc, out, Status::Words);
-    };
-    match texts_of(alloc, command, inputs) {
-        Ok(texts) => deliver(&texts, out, aside),
-        Err(status) => refuse(alloc, out, status),
+    match command_of(alloc, words) {
+        Ok(Some(command)) => carry_out(alloc, words, command, inputs, out, aside),
+        Ok(None) => refuse(alloc, out, Status::Words),
+        Err(_) => refuse(alloc, out, Status::Memory),
     }
 }
 

@@ -12,8 +12,6 @@ mod scope;
 mod simple;
 mod span;
 mod statement;
-#[cfg(test)]
-mod tests;
 mod types;
 
 pub use examples::{worked_expressions, worked_numbers, worked_programs};

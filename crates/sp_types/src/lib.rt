@@ -12,8 +12,6 @@ mod scope;
 mod simple;
 mod span;
 mod statement;
-#[cfg(test)]
-mod tests;
 mod transfer;
 mod types;
 

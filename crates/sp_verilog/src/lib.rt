@@ -8,8 +8,6 @@ mod memories;
 mod module;
 mod nets;
 mod pieces;
-#[cfg(test)]
-mod tests;
 
 pub use module::{verilog, wires};
 pub use nets::NetLine;

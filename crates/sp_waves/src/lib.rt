@@ -7,8 +7,6 @@ mod header;
 mod identifier;
 mod laws;
 mod signal;
-#[cfg(test)]
-mod tests;
 
 pub use dump::waves;
 pub use laws::identifiers_differ;

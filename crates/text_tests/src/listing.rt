@@ -1,4 +1,4 @@
-use crate::write;
+use sp_listing::write;
 use sp_netlist::{Builder, Cell};
 use std::test::Fail;
 

@@ -1,4 +1,4 @@
-use crate::{read, write};
+use sp_listing::{read, write};
 use std::alloc::Global;
 use std::test::Fail;
 

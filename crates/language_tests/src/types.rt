@@ -1,4 +1,4 @@
-use crate::{Refusal, Rule, first_refusal};
+use sp_types::{Refusal, Rule, first_refusal};
 use sp_reader::read;
 use std::alloc::{AllocError, Global};
 use std::test::Fail;

@@ -1,4 +1,4 @@
-use crate::typed_block;
+use sp_typed::typed_block;
 use sp_reader::read;
 use sp_tree::{Ctl, Expr, ExprKind, Stmt, StmtKind};
 use sp_words::BinOp;

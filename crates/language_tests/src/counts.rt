@@ -1,4 +1,4 @@
-use crate::{NoMemory, Over, Which, first_over};
+use sp_counts::{NoMemory, Over, Which, first_over};
 use sp_tree::{Counter, Ctl, CtrId, Expr, ExprKind, MemDecl, Stmt, StmtKind};
 use sp_words::{Kind, MemId, Style, Ty, WritePort};
 use std::alloc::Global;

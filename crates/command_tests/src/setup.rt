@@ -1,4 +1,4 @@
-use crate::{Setup, SetupEnd, dram_sizes_fit, read};
+use sp_setup::{Setup, SetupEnd, dram_sizes_fit, read};
 use sp_edges::{MemFile, MemInputs};
 use sp_words::{FixTy, PortDecl, Ports, Ty};
 use std::alloc::{AllocError, Global};

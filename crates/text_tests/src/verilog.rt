@@ -1,4 +1,4 @@
-use crate::verilog;
+use sp_verilog::verilog;
 use sp_netlist::{Builder, Cell};
 use sp_words::{FixTy, Ty};
 use std::test::Fail;

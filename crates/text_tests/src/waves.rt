@@ -1,4 +1,4 @@
-use crate::waves;
+use sp_waves::waves;
 use sp_listing::read;
 use sp_sim::Sim;
 use sp_words::Input;

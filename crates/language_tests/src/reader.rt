@@ -1,4 +1,4 @@
-use crate::{ReadError, Syntax, read};
+use sp_reader::{ReadError, Syntax, read};
 use std::alloc::{AllocError, Global};
 use std::test::Fail;
 

@@ -1,4 +1,4 @@
-use crate::{Status, spatialc};
+use sp_top::{Status, spatialc};
 use sp_edges::{MemFile, MemInputs, MemSink, SinkStop};
 use std::alloc::{AllocError, Global};
 use std::process::Abort;
@@ -11,14 +11,14 @@ const SUM_LISTING: &str =
 
 // What a call gave: the status, and what the sinks took.
 #[derive(Drop)]
-struct Answer {
-    status: Status,
-    out: Vec<u8>,
-    aside: Vec<u8>,
+pub(crate) struct Answer {
+    pub(crate) status: Status,
+    pub(crate) out: Vec<u8>,
+    pub(crate) aside: Vec<u8>,
 }
 
 // Calls with these words over one file, where `out` stops as told.
-fn answer_with(
+pub(crate) fn answer_with(
     alloc: Global,
     words: &[&str],
     name: &str,
@@ -35,7 +35,7 @@ fn answer_with(
         bytes: Vec::from_slice(alloc, text)?,
     })?;
     let mut inputs = MemInputs::new(files, Vec::new(alloc));
-    let mut out = MemSink::new(alloc, 10_000, stops)?;
+    let mut out = MemSink::new(alloc, 100_000, stops)?;
     let mut aside = MemSink::new(alloc, 10_000, Vec::new(alloc))?;
     let status = spatialc(alloc, &said, &mut inputs, &mut out, &mut aside);
     Ok(Answer {
@@ -152,7 +152,7 @@ fn field<'a>(rt: &impl Abort, found: Option<&'a str>) -> &'a str {
 }
 
 // A text whose lines end with `;`.
-fn lines_of(alloc: Global, text: &str) -> Result<String, AllocError> {
+pub(crate) fn lines_of(alloc: Global, text: &str) -> Result<String, AllocError> {
     let mut lines = String::new(alloc);
     for part in text.split(";") {
         if lines.len() > 0 {

@@ -1,0 +1,20 @@
+-- The command table: which words are a command.
+use Rattle.std.specs.Prelude.{◌≡◌, ℕ, List, [], ◌∷◌, codes}
+
+pub data Command : Type 0 where
+  compile : (program : List ℕ) → Command
+  verilog : (program : List ℕ) → Command
+  simulate : (listing setup : List ℕ) → Command
+  waves : (listing setup : List ℕ) → Command
+
+-- a word that names a file: it isn't empty and doesn't begin with `-`
+abbrev pub IsFileWord : List ℕ → Type 0
+IsFileWord [] = ⊥
+IsFileWord (c ∷ rest) = c ≡ 45 → ⊥
+
+-- the words are that command
+abbrev pub IsCommand : List (List ℕ) → Command → Type 0
+IsCommand said (compile program) = (said ≡ codes "compile" ∷ program ∷ []) × IsFileWord program
+IsCommand said (verilog program) = (said ≡ codes "verilog" ∷ program ∷ []) × IsFileWord program
+IsCommand said (simulate listing setup) = (said ≡ codes "simulate" ∷ listing ∷ setup ∷ []) × IsFileWord listing × IsFileWord setup
+IsCommand said (waves listing setup) = (said ≡ codes "waves" ∷ listing ∷ setup ∷ []) × IsFileWord listing × IsFileWord setup
