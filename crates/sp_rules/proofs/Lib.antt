@@ -1,0 +1,10 @@
+pub mod BasicLemmas
+pub mod ExpressionNone
+pub mod ExpressionKept
+pub mod SpanLemmas
+pub mod TransferLemmas
+pub mod SparseLemmas
+pub mod KnownLemmas
+pub mod StatementNone
+pub mod StatementKept
+pub mod TreeLemmas

@@ -1,0 +1,4 @@
+pub mod ExpressionRules
+pub mod SpanRules
+pub mod StatementRules
+pub mod Laws

@@ -1,0 +1,16 @@
+pub mod FindLemmas
+pub mod HeldLemmas
+pub mod PlaceLemmas
+pub mod UsedLemmas
+pub mod AloneLemmas
+pub mod LoopLemmas
+pub mod DeclareLemmas
+pub mod WriteLemmas
+pub mod SliceLemmas
+pub mod TransferLemmas
+pub mod PartLemmas
+pub mod AccLemmas
+pub mod StateLemmas
+pub mod BodyLemmas
+pub mod OuterLemmas
+pub mod TreeLemmas
