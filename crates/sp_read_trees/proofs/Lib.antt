@@ -1,0 +1,11 @@
+mod Levels
+mod Rules
+mod Words
+mod Types
+mod Exprs
+mod Spans
+mod Simple
+mod Statements
+mod Programs
+mod Named
+mod Whole
