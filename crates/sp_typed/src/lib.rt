@@ -19,5 +19,7 @@ pub use laws::{
     counters_are_typed, declarations_are_numbered, declarations_are_right, expressions_are_typed,
     spans_are_typed, still_expressions_take_no_word,
 };
+pub use literal::{number_word, truth_word};
 pub use program::typed_block;
 pub use std::alloc::AllocError as NoMemory;
+pub use types::{known, type_of};

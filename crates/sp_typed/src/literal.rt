@@ -55,7 +55,7 @@ fn literal_word(ty: Ty, number: &Digits) -> Option<u64>
 }
 
 /// The word of a number at a type, rounded down.
-pub(crate) fn number_word(ty: Ty, number: &Digits) -> u64
+pub fn number_word(ty: Ty, number: &Digits) -> u64
     ensures { result ≡ spec.number_word ty (plain_digits number.now) }
 {
     match literal_word(ty, number) {
@@ -64,7 +64,8 @@ pub(crate) fn number_word(ty: Ty, number: &Digits) -> u64
     }
 }
 
-pub(crate) fn truth_word(value: bool) -> u64
+/// The word of a truth value.
+pub fn truth_word(value: bool) -> u64
     ensures { result ≡ spec.truth_word value }
 {
     if value { 1 } else { 0 }

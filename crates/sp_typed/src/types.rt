@@ -24,7 +24,7 @@ fn fixed(signed: bool, whole: u8, frac: u8) -> Option<Ty>
 }
 
 /// The type that is written, if it is one.
-pub(crate) fn type_of(ty: SynTy) -> Option<Ty>
+pub fn type_of(ty: SynTy) -> Option<Ty>
     ensures { result ≡ rule.type_of ty }
 {
     match ty {
@@ -40,7 +40,7 @@ pub(crate) fn type_of(ty: SynTy) -> Option<Ty>
 }
 
 /// A type that is known.
-pub(crate) fn known(ty: Option<Ty>) -> Ty
+pub fn known(ty: Option<Ty>) -> Ty
     ensures { result ≡ spec.known ty }
 {
     match ty {
