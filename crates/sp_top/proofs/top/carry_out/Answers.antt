@@ -26,4 +26,4 @@ returns-in-Err g c =
     let status = plain_status c.in-Err.status in
     let refuses : Refuses said told failed asked status = (plain_command c.args.command, c.requires, c.in-Err.ensures.refused) in
     refused (MayEnd said told failed asked) status _ _ _ (λ which out_text aside_text bad. bad) (not_done said told failed asked status refuses)
-    (ends_refused said told failed asked status refuses) (ends_memory said told failed asked status refuses) (Gained-same _, g.met.A.Sink.no_put c.args.aside.now) c.refuse-in-Err.ensures.refused
+    (ends_refused said told failed asked status refuses) (ends_memory said told failed asked status refuses) (Gained-same _, g.met.A.Sink.no_put c.args.aside.now) c.refuse.ensures.refused
