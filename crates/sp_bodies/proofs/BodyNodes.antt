@@ -5,6 +5,7 @@ use Rattle.std.specs.Prelude.{length, Contains}
 use Rattle.sp_words.specs.declared.kind.Style.{Style}
 use Rattle.sp_words.specs.declared.kind.Style.TheVariants.{Pipe, Sequential, Parallel, Stream}
 use Rattle.sp_words.specs.Memory.{cells}
+use Rattle.sp_words.specs.declared.types.Ty.{Ty}
 use Rattle.sp_tree.specs.Expressions as expressions
 use Rattle.sp_tree.specs.PlainProgram.{PlainProgram}
 use Rattle.sp_tree.specs.PlainStatement.{PlainStmts}
@@ -24,7 +25,7 @@ use Rattle.sp_core.specs.Sequential.{has_reset, renew, end_of_group, run_stages}
 use Rattle.sp_core.specs.Shape.{shape_of, group_shapes, stage_shapes}
 use Rattle.sp_core.specs.Step.{went, pure, in_order, ◌>>=◌, ◌>>◌}
 use Rattle.sp_core.specs.Store as store
-use Rattle.sp_desugar.specs.Agreement.{HasMemories, View, IsAdded, place_of, Apart, Agree}
+use Rattle.sp_desugar.specs.Agreement.{HasMemories, View, IsAdded, place_of, Finds, Apart, Agree}
 use Rattle.sp_desugar.specs.Registers.{registers}
 use Rattle.sp_desugar.specs.Runs.{no_run}
 use Rattle.sp_desugar.specs.Stages.{Combines, nothing, inner_node, outer_node, stages}
@@ -42,7 +43,7 @@ use Rattle.sp_bodies.proofs.Known.{Known, known_found}
 use Rattle.sp_bodies.proofs.StageSteps.{run_onward}
 use Rattle.sp_bodies.proofs.StagesGo.{Ended, stages_go}
 
-quiet_end : (core : PlainCore) (most : ℕ) (style : Style) (owned : List ℕ) (u : store.Store) → is_stream style ≡ false → end_of_group core plainly most style owned u ≡ went [] u
+pub quiet_end : (core : PlainCore) (most : ℕ) (style : Style) (owned : List ℕ) (u : store.Store) → is_stream style ≡ false → end_of_group core plainly most style owned u ≡ went [] u
 unfolding pure
 quiet_end core most Pipe owned u e = refl
 quiet_end core most Sequential owned u e = refl
@@ -63,13 +64,11 @@ module _ (p : PlainProgram) (core : PlainCore) (h : HasMemories p core) (roomy :
 
   -- at the end of a body what was visible before it agrees
   pub agree_out : (c : Combines) (kept0 : List (ℕ × Option ℕ)) (whole : PlainStages) (t : store.Store) (after : program_store.Store) (did : List program_shape.Shape) (z : Ended p core h roomy rooms view resets most view.waiting view.scope.vals view.sources (after_all view.scope body) ending c whole kept0 t after did) → ((x : ℕ × Option ℕ) → Contains view.registers x → Contains kept0 x)
-      → (other : View) (all : List Entry) (u : store.Store) → other.scope ≡ after_all view.scope body → other.around ≡ view.around → other.resets ≡ view.resets → other.waiting ≡ view.waiting → ((x : ℕ × Option ℕ) → Contains z.kept_end x → Contains other.registers x) → (s2 : program_store.Store) → s2.values ≡ after.values → Agree p core other all s2 u → Agree p core view [] s2 u
-  agree_out c kept0 whole t after did z keeps other all u scope around resets2 waiting registers s2 values a =
-      let held : (x : ℕ × Option ℕ) → Contains z.kept_end x → IsAdded p core x.0 × (u x.0 ≡ Some (cells (x.1 ∷ []))) = λ x d. a.registers x (registers x d) in
+      → (other : View) (all : List Entry) (u : store.Store) → other.scope ≡ after_all view.scope body → other.around ≡ view.around → other.resets ≡ view.resets → other.waiting ≡ view.waiting → ((x : ℕ × Option ℕ) → Contains z.kept_end x → Contains other.registers x) → (s2 : program_store.Store) → ((v : ℕ × Ty) → Contains view.scope.vals v → Finds p core view.around [] u (view.sources v.0) (s2.values v.0)) → Agree p core other all s2 u → Agree p core view [] s2 u
+  agree_out c kept0 whole t after did z keeps other all u scope around resets2 waiting registers s2 vals a =
       record {
         mems = λ m d. a.mems m (subst (λ (S : Scope). Contains S.mems m) (sym scope) (after_mems view.scope body m d));
-        vals = λ v d. known_found p core (record view { registers = z.kept_end }) [] u (view.sources v.0) (s2.values v.0) held
-            (subst (λ f. Known view.around z.kept_end (view.sources v.0) (f v.0)) (sym values) (subst (λ x. Known view.around z.kept_end x (after.values v.0)) (z.old v d) (z.standing.later v (after_vals view.scope body v d))));
+        vals = vals;
         counts = λ k d. subst (λ (f : counters.Scope). counters.count_word (f k) 0 ≡ s2.counts k) around (a.counts k (subst (λ (S : Scope). Contains S.counters k) (sym scope) (subst (λ l. Contains l k) (sym (after_counters view.scope body)) d)));
         waiting = λ m d. let x = a.waiting m (subst (λ l. Contains l m) (sym waiting) d) in record {
           exists = x.exists;
@@ -79,6 +78,12 @@ module _ (p : PlainProgram) (core : PlainCore) (h : HasMemories p core) (roomy :
         };
         registers = λ x d. a.registers x (registers x (z.more x (keeps x d)));
       }
+
+  -- values of before are found where they were
+  pub vals_out : (c : Combines) (kept0 : List (ℕ × Option ℕ)) (whole : PlainStages) (t : store.Store) (after : program_store.Store) (did : List program_shape.Shape) (z : Ended p core h roomy rooms view resets most view.waiting view.scope.vals view.sources (after_all view.scope body) ending c whole kept0 t after did)
+      → (u : store.Store) → ((x : ℕ × Option ℕ) → Contains z.kept_end x → IsAdded p core x.0 × (u x.0 ≡ Some (cells (x.1 ∷ [])))) → (v : ℕ × Ty) → Contains view.scope.vals v → Finds p core view.around [] u (view.sources v.0) (after.values v.0)
+  vals_out c kept0 whole t after did z u held v d =
+      known_found p core (record view { registers = z.kept_end }) [] u (view.sources v.0) (after.values v.0) held (subst (λ x. Known view.around z.kept_end x (after.values v.0)) (z.old v d) (z.standing.later v (after_vals view.scope body v d)))
 
   module _ (s : program_store.Store) (t : store.Store) (right : HoldRightly p view.scope.mems s) (a : Agree p core view [] s t) (after : program_store.Store) (left rest : ℕ) (did : List program_shape.Shape) (enough : left ≤ most) (went_all : run_all p.mems roomy body left s ≡ step.went did rest after) where
     abbrev pub begun : store.Store
@@ -133,7 +138,7 @@ module _ (p : PlainProgram) (core : PlainCore) (h : HasMemories p core) (roomy :
         runs = on.0;
         end = g.after;
         goes = on.1;
-        agree = agree_out p core h roomy rooms most view body no_more n typed seen spare declared own apart resets followed nothing _ whole _ after did z kept_too final g.all g.after refl refl refl refl (λ x d. d) after refl g.agree;
+        agree = agree_out p core h roomy rooms most view body no_more n typed seen spare declared own apart resets followed nothing _ whole _ after did z kept_too final g.all g.after refl refl refl refl (λ x d. d) after (vals_out p core h roomy rooms most view body no_more n typed seen spare declared own apart resets followed nothing _ whole _ after did z g.after g.agree.registers) g.agree;
         inner = g.agree.mems;
         counts = on.2 ∙ ap (λ l. counts_in_all (shapes did) ++ l) last.2 ∙ no_more_counts (counts_in_all (shapes did));
       }

@@ -85,6 +85,13 @@ apart_inside (x ∷ xs) rest waits a = (
   apart_inside xs rest waits a.1,
 )
 
+pub apart_left : (xs ys waits : List ℕ) → Apart ((xs ++ ys) ++ waits) → Apart (xs ++ waits)
+apart_left [] ys waits a = apart_drop ys waits a
+apart_left (x ∷ xs) ys waits a = (
+  λ c. a.0 (in_either xs waits x c (λ d. in_front (xs ++ ys) waits x (in_front xs ys x d)) (λ d. in_back (xs ++ ys) waits x d)),
+  apart_left xs ys waits a.1,
+)
+
 pub apart_after : (xs ys waits : List ℕ) → Apart ((xs ++ ys) ++ waits) → Apart (ys ++ waits)
 apart_after xs ys waits a = apart_drop xs (ys ++ waits) (subst Apart (append_assoc xs ys waits) a)
 

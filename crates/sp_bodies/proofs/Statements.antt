@@ -79,7 +79,7 @@ module _ (p : PlainProgram) (core : PlainCore) (h : HasMemories p core) (outer :
   }
 
   module _ (scope : Scope) (waiting : List ℕ) (fresh kept : List (ℕ × Option ℕ)) (run : Run) (t : store.Store) (s : program_store.Store) (g : Standing scope waiting fresh kept run t s) where
-    abbrev view : View
+    abbrev pub view : View
     view = view_at scope waiting (fresh ++ kept)
 
     -- operations are added
@@ -93,7 +93,7 @@ module _ (p : PlainProgram) (core : PlainCore) (h : HasMemories p core) (outer :
       here_after : (v : ℕ × Ty) → Contains scope.vals v → KnownHere outer.around kept (run.values.here v.0) (after.values v.0)
       here_after v c = subst (KnownHere outer.around kept (run.values.here v.0)) (sym (values_stay v c)) (g.here v c)
 
-      later_after : (v : ℕ × Ty) → Contains scope.vals v → Known outer.around kept (run.values.elsewhere v.0) (after.values v.0)
+      pub later_after : (v : ℕ × Ty) → Contains scope.vals v → Known outer.around kept (run.values.elsewhere v.0) (after.values v.0)
       later_after v c = subst (Known outer.around kept (run.values.elsewhere v.0)) (sym (values_stay v c)) (g.later v c)
 
     added_on : (ops more : List PlainOp) → ops ≡ run.ops ++ more → (after : program_store.Store) → HoldRightly p scope.mems after → Goes p core h view (record { ops = ops; values = run.values }) t after → Standing scope waiting fresh kept (record { ops = ops; values = run.values }) t after
@@ -160,13 +160,13 @@ module _ (p : PlainProgram) (core : PlainCore) (h : HasMemories p core) (outer :
 
     -- by operations
     module _ (v : ℕ) (e : PlainExpr) (typed : Typed p scope e) (left n w : ℕ) (u : program_store.Store) (went : expressions.word p.mems e left s ≡ step.went w n u) (shaped : HoldRightly p scope.mems (program_store.name_value u v w)) where
-      abbrev x : Code
+      abbrev pub x : Code
       x = next_code p.mems run e
 
       abbrev named : program_store.Store
       named = program_store.name_value u v w
 
-      worked : GoOn p core (at_run view run) [] (run.ops ++ x.ops) t u (x.word ∷ []) (w ∷ [])
+      pub worked : GoOn p core (at_run view run) [] (run.ops ++ x.ops) t u (x.word ∷ []) (w ∷ [])
       worked = computed p core h view run t s left g.goes e typed n u w went
 
       -- where no later stage uses it, it stands for its word there
@@ -184,19 +184,19 @@ module _ (p : PlainProgram) (core : PlainCore) (h : HasMemories p core) (outer :
 
       -- where one does, its word is written into a register that was fresh
       module _ (r : ℕ) (others : List (ℕ × Option ℕ)) (first : fresh ≡ (r, None) ∷ others) (before : (y : ℕ × Ty) → Contains scope.vals y → SourceBefore r (run.values.here y.0)) (clear : (y : ℕ × Option ℕ) → Contains (others ++ kept) y → y.0 ≡ r → ⊥) where
-        abbrev fewer : View
+        abbrev pub fewer : View
         fewer = record (at_run view run) { registers = others ++ kept }
 
         cell : IsAdded p core r × (worked.after r ≡ Some (cells (None ∷ [])))
         cell = worked.agree.registers (r, None) (subst (λ l. Contains (l ++ kept) (r, None)) (sym first) (0, omega arith, refl))
 
-        abbrev holding : store.Store
+        abbrev pub holding : store.Store
         holding = store.hold worked.after r (cells (Some w ∷ []))
 
-        abbrev write : PlainOp
+        abbrev pub write : PlainOp
         write = write_op (type_of e) r (x.word ∷ [])
 
-        abbrev all_too : List Entry
+        abbrev pub all_too : List Entry
         all_too = worked.all ++ touched [] w ∷ []
 
         spare : AreSpare r (suc r) fewer
@@ -208,7 +208,7 @@ module _ (p : PlainProgram) (core : PlainCore) (h : HasMemories p core) (outer :
             ∙ core_writes core outer.around (type_of e) r [] w worked.after (cells (Some w ∷ [])) (ap (λ d. are_inside d []) cell.0.has_none)
             (ap (λ y. with_word y (dims core r) [] w (worked.after r)) cell.0.is_kind ∙ ap (λ y. cells (slice_set (store.cells_of y) 0 (Some w))) cell.1)
 
-        goes_too : operations_after core outer.around [] ((run.ops ++ x.ops) ++ write ∷ []) t ≡ core_step.went all_too holding
+        pub goes_too : operations_after core outer.around [] ((run.ops ++ x.ops) ++ write ∷ []) t ≡ core_step.went all_too holding
         unfolding operations_after core_step.pure
         goes_too = ops_append p core fewer (run.ops ++ x.ops) (write ∷ []) [] t worked.all worked.after worked.goes
             ∙ then_on (operation core outer.around write worked.all) (λ y. operations_after core outer.around (worked.all ++ y ∷ []) []) worked.after (touched [] w) holding writes
@@ -218,7 +218,7 @@ module _ (p : PlainProgram) (core : PlainCore) (h : HasMemories p core) (outer :
             (agree_still p core fewer worked.all all_too u worked.after (keeps_front worked.all (touched [] w ∷ []))
             (fewer_registers (at_run view run) (others ++ kept) worked.all u worked.after (λ y c. subst (λ l. Contains (l ++ kept) y) (sym first) (suc c.0, omega (arith, c.1), c.2)) worked.agree))
 
-        abbrev kept_too : List (ℕ × Option ℕ)
+        abbrev pub kept_too : List (ℕ × Option ℕ)
         kept_too = (r, Some w) ∷ kept
 
         in_both : (xs ys : List (ℕ × Option ℕ)) (z y : ℕ × Option ℕ) → {P : Type 0} → Contains (xs ++ z ∷ ys) y → (Contains (xs ++ ys) y → P) → (z ≡ y → P) → P
@@ -227,7 +227,7 @@ module _ (p : PlainProgram) (core : PlainCore) (h : HasMemories p core) (outer :
         in_both (q ∷ xs) ys z y (zero, lt, e) f k = f (0, omega arith, e)
         in_both (q ∷ xs) ys z y (suc j, lt, e) f k = in_both xs ys z y (j, omega arith, e) (λ c. f (suc c.0, omega (arith, c.1), c.2)) k
 
-        agree_too : Agree p core (record fewer { registers = others ++ kept_too }) all_too u holding
+        pub agree_too : Agree p core (record fewer { registers = others ++ kept_too }) all_too u holding
         agree_too = record {
           mems = wrote.mems;
           vals = wrote.vals;

@@ -256,14 +256,14 @@ module _ (p : PlainProgram) (declared : All IsDeclaration p.mems) where
         f left rest s after did (subst (λ l. HoldRightly p l s) (sym same) h) e m (after_mems inner body m (subst (λ l. Contains l m) (sym same) c))
 
     -- a combination of words, and of elements
-    keep_word_after : (scope : Scope) (body : PlainStmts) (loops : List PlainCounter) (fold : Bool) (acc place : ℕ) (e : PlainExpr) (comb : Comb) → IsRightly (with_counters scope loops) body → Typed p (after_all (with_counters scope loops) body) e → (mem p.mems acc).kind ≡ Reg
+    pub keep_word_after : (scope : Scope) (body : PlainStmts) (loops : List PlainCounter) (fold : Bool) (acc place : ℕ) (e : PlainExpr) (comb : Comb) → IsRightly (with_counters scope loops) body → Typed p (after_all (with_counters scope loops) body) e → (mem p.mems acc).kind ≡ Reg
         → (it : Bool × List ℕ) → Keeps p scope.mems (turn >> (count_now loops it.1 >> (run_all p.mems roomy body >>= (λ inner. word p.mems e >>= (λ w. assign p.mems comb acc 0 it.0 w place >> pure (ran (shapes inner)))))))
     keep_word_after scope body loops fold acc place e comb f typed is it =
         let S : List ℕ = scope.mems in
         keep_bind p S _ _ (keep_turn p S) (λ _. keep_bind p S _ _ (keep_counts p S loops it.1) (λ _. keep_bind p S _ _ (keep_body scope body (with_counters scope loops) (same_mems scope loops) f)
         (λ inner. keep_bind p S _ _ (keep_word p S (after_all (with_counters scope loops) body) e typed) (λ w. keep_bind p S _ _ (keep_assign p S comb acc 0 it.0 w place Reg (λ ds cs. tt) is) (λ _. keep_pure p S _)))))
 
-    keep_elements_after : (scope : Scope) (body : PlainStmts) (loops : List PlainCounter) (acc part place : ℕ) (comb : Comb) → IsRightly (with_counters scope loops) body → (mem p.mems acc).kind ≡ Sram
+    pub keep_elements_after : (scope : Scope) (body : PlainStmts) (loops : List PlainCounter) (acc part place : ℕ) (comb : Comb) → IsRightly (with_counters scope loops) body → (mem p.mems acc).kind ≡ Sram
         → (it : Bool × List ℕ) → Keeps p scope.mems (turn >> (count_now loops it.1 >> (run_all p.mems roomy body >>= (λ inner. assign_all p.mems comb acc part it.0 place >> pure (ran (shapes inner))))))
     keep_elements_after scope body loops acc part place comb f is it =
         let S : List ℕ = scope.mems in
