@@ -15,7 +15,7 @@ use Rattle.sp_tree.specs.Step as step
 use Rattle.sp_tree.specs.Store as program_store
 use Rattle.sp_tree.specs.Streams.{fifos_with_room}
 use Rattle.sp_tree.specs.Structure.{own_mems, is_inner}
-use Rattle.sp_tree.specs.Typing.{HasTypeStill, CountersTyped, with_counters}
+use Rattle.sp_tree.specs.Typing.{HasTypeStill, CountersTyped, BodyTyped, with_counters}
 use Rattle.sp_core.specs.History.{History, branch_ran, last_word}
 use Rattle.sp_core.specs.Operations.{operations}
 use Rattle.sp_core.specs.PlainCore as plain
@@ -36,8 +36,9 @@ use Rattle.sp_desugar.specs.Stages.{nothing, style_of, stages, node}
 use Rattle.sp_desugar.specs.Uses.{no_more}
 use Rattle.sp_desugar.proofs.NumberLemmas.{either}
 use Rattle.sp_desugar.proofs.StepLemmas.{same_answer, same_store, taken_apart, then_on}
+use Rattle.sp_same.specs.Contents.{HoldRightly}
 use Rattle.sp_same.specs.Counts.{Count, taken, counts_in, counts_in_all, counts_of}
-use Rattle.sp_same.specs.Following.{SourcesSeen, AreReady, NodeGoes, BodyFollowed, alone}
+use Rattle.sp_same.specs.Following.{SourcesSeen, AreReady, NodeGoes, BodyFollowedRightly, alone}
 use Rattle.sp_same.proofs.LaneZero.{of_stages}
 use Rattle.sp_same.proofs.LoopNodes.{no_more_counts, inner_goes, outer_goes}
 use Rattle.sp_same.proofs.StillWords.{word_still}
@@ -47,26 +48,26 @@ chosen_of : (P Q : PlainNode → Type 0) (b : Bool) (one two with_one with_two :
 chosen_of P Q true one two with_one with_two f g x = f refl x
 chosen_of P Q false one two with_one with_two f g x = g refl x
 
-module _ (p : PlainProgram) (core : PlainCore) (roomy : List ℕ) (most : ℕ) (view : View) (b n place : ℕ) (s after : program_store.Store) (t : store.Store) (left rest : ℕ) (did : List program_shape.Shape) (enough : left ≤ most) (a : Agree p core view [] s t) where
-  pub loop_goes : (h : HasMemories p core) (style : Style) (loops : List PlainCounter) (body : PlainStmts) → CountersTyped p view.scope loops → SourcesSeen view.scope view.sources → AreReady p core is_early left s t b (bounds_of loops)
-      → ((around : counters.Scope) → BodyFollowed p core roomy most (record view { scope = with_counters view.scope loops; around = around }) (alone p view.sources n style body) body)
+module _ (p : PlainProgram) (core : PlainCore) (roomy : List ℕ) (most : ℕ) (view : View) (b n place : ℕ) (s after : program_store.Store) (t : store.Store) (left rest : ℕ) (did : List program_shape.Shape) (enough : left ≤ most) (right : HoldRightly p view.scope.mems s) (a : Agree p core view [] s t) where
+  pub loop_goes : (h : HasMemories p core) (style : Style) (loops : List PlainCounter) (body : PlainStmts) → CountersTyped p view.scope loops → BodyTyped p (with_counters view.scope loops) body → SourcesSeen view.scope view.sources → AreReady p core is_early left s t b (bounds_of loops)
+      → ((around : counters.Scope) → BodyFollowedRightly p core roomy most (record view { scope = with_counters view.scope loops; around = around }) (alone p view.sources n style body) body)
       → run_kind p.mems roomy (foreach style loops body) place left s ≡ step.went did rest after
       → NodeGoes p core most view (node p.mems (length p.counters) view.sources b n (foreach style loops body)) t after did
   unfolding node
-  loop_goes h style [] body typed seen ready followed e = absurd (omega (arith, typed.one_to_four.0))
-  loop_goes h style (c ∷ loops) body typed seen ready followed e =
+  loop_goes h style [] body typed typed_body seen ready followed e = absurd (omega (arith, typed.one_to_four.0))
+  loop_goes h style (c ∷ loops) body typed typed_body seen ready followed e =
       let all : PlainStages = stages p.mems (length p.counters) (no_run view.sources) n body no_more nothing in
       let ops : List plain.PlainOp = (inner_run p.mems (no_run view.sources) body).ops in
       let owned : List ℕ = map (mem_number p.mems) (own_mems body) in
       let cs : List plain.PlainCounter = counters_of p.mems view.sources b (c ∷ loops) in
-      chosen_of (λ x. (around : counters.Scope) → BodyFollowed p core roomy most (record view { scope = with_counters view.scope (c ∷ loops); around = around }) x body) (λ x. NodeGoes p core most view x t after did) (is_inner body)
+      chosen_of (λ x. (around : counters.Scope) → BodyFollowedRightly p core roomy most (record view { scope = with_counters view.scope (c ∷ loops); around = around }) x body) (λ x. NodeGoes p core most view x t after did) (is_inner body)
       (inner [] owned ops None) (outer [] style (owned ++ owned_registers n body no_more) all) (inner cs owned ops None) (outer cs style (owned ++ owned_registers n body no_more) all)
-      (λ f x. inner_goes p core h roomy most view seen b (c ∷ loops) typed body style place rest left s after t did a ready enough e owned ops None _ _ refl x)
-      (λ f x. outer_goes p core h roomy most view seen b (c ∷ loops) typed body style place rest left s after t did a ready enough e style (owned ++ owned_registers n body no_more) all _ _ (of_stages p.mems (length p.counters) (no_run view.sources) n body no_more nothing) refl x)
+      (λ f x. inner_goes p core h roomy most view seen b (c ∷ loops) typed body typed_body style place rest left s after t did a right ready enough e owned ops None _ _ refl x)
+      (λ f x. outer_goes p core h roomy most view seen b (c ∷ loops) typed body typed_body style place rest left s after t did a right ready enough e style (owned ++ owned_registers n body no_more) all _ _ (of_stages p.mems (length p.counters) (no_run view.sources) n body no_more nothing) refl x)
       followed
 
   pub block_goes : (style : Style) (body : PlainStmts) → fifos_with_room p.mems style body ≡ []
-      → BodyFollowed p core roomy most view (alone p view.sources n (style_of p.mems (length p.counters) style body) body) body
+      → BodyFollowedRightly p core roomy most view (alone p view.sources n (style_of p.mems (length p.counters) style body) body) body
       → run_kind p.mems roomy (block style body) place left s ≡ step.went did rest after
       → NodeGoes p core most view (node p.mems (length p.counters) view.sources b n (block style body)) t after did
   unfolding node run_kind step.in_order step.pure counts_in counts_in_all
@@ -75,7 +76,7 @@ module _ (p : PlainProgram) (core : PlainCore) (roomy : List ℕ) (most : ℕ) (
       let y = taken_apart (end_block p.mems style body place) (λ _. step.pure (ran (shapes x.answer) ∷ [])) x.between x.store did rest after x.second in
       let ends : step.in_order (λ m. keep_depth p.mems m place) [] x.between x.store ≡ step.went y.answer y.between y.store = ap (λ l. step.in_order (λ m. keep_depth p.mems m place) l x.between x.store) (sym none) ∙ y.first in
       let same : x.store ≡ after = same_store [] y.answer x.between y.between x.store y.store ends ∙ same_store (ran (shapes x.answer) ∷ []) did y.between rest y.store after y.second in
-      let goes = followed s x.store t left x.between x.answer enough a x.first in
+      let goes = followed s x.store t left x.between x.answer enough right a x.first in
       record {
         history = goes.history;
         after = goes.after;
@@ -85,8 +86,8 @@ module _ (p : PlainProgram) (core : PlainCore) (roomy : List ℕ) (most : ℕ) (
       }
 
   pub branch_goes : (h : HasMemories p core) (test : PlainExpr) (first second : PlainStmts) → HasTypeStill p view.scope Bit test
-      → BodyFollowed p core roomy most view (alone p view.sources n Pipe first) first
-      → BodyFollowed p core roomy most view (alone p view.sources (n + length (registers_in first no_more)) Pipe second) second
+      → BodyFollowedRightly p core roomy most view (alone p view.sources n Pipe first) first
+      → BodyFollowedRightly p core roomy most view (alone p view.sources (n + length (registers_in first no_more)) Pipe second) second
       → run_kind p.mems roomy (branch test first second) place left s ≡ step.went did rest after
       → NodeGoes p core most view (node p.mems (length p.counters) view.sources b n (branch test first second)) t after did
   unfolding node run_kind run step.pure core_step.pure shape_of counts_of counts_in counts_in_all
@@ -99,6 +100,7 @@ module _ (p : PlainProgram) (core : PlainCore) (roomy : List ℕ) (most : ℕ) (
       let y = taken_apart (chosen (x.answer == 1)) (λ did. step.pure (branched (x.answer == 1) (ran (shapes did)) ∷ [])) x.between x.store did rest after x.second in
       let fewer : x.between ≤ most = subst (λ k. k ≤ most) (sym still.0) enough in
       let here : Agree p core view [] x.store t = subst (λ v. Agree p core view [] v t) (sym still.1) a in
+      let right_here : HoldRightly p view.scope.mems x.store = subst (HoldRightly p view.scope.mems) (sym still.1) right in
       let ends : y.store ≡ after = same_store (branched (x.answer == 1) (ran (shapes y.answer)) ∷ []) did y.between rest y.store after y.second in
       let shaped : branched (x.answer == 1) (ran (shapes y.answer)) ∷ [] ≡ did = same_answer (branched (x.answer == 1) (ran (shapes y.answer)) ∷ []) did y.between rest y.store after y.second in
       let ops : List plain.PlainOp = word_list p.mems view.sources test in
@@ -112,7 +114,7 @@ module _ (p : PlainProgram) (core : PlainCore) (roomy : List ℕ) (most : ℕ) (
       let counted : (b : Bool) (cs : List Count) → (x.answer == 1) ≡ b → cs ≡ counts_in_all (shapes y.answer) → taken b ∷ cs ≡ counts_in_all (shapes did) =
       λ b cs f g. ap (λ l. taken b ∷ l) (g ∙ sym (no_more_counts (counts_in_all (shapes y.answer)))) ∙ ap (λ c. counts_in_all (shapes (branched c (ran (shapes y.answer)) ∷ []))) (sym f) ∙ ap (λ l. counts_in_all (shapes l)) shaped in
       either (x.answer == 1)
-      (λ f. let goes = one x.store y.store t x.between y.between y.answer fewer here (ap (λ b. chosen b x.between x.store) (sym f) ∙ y.first) in
+      (λ f. let goes = one x.store y.store t x.between y.between y.answer fewer right_here here (ap (λ b. chosen b x.between x.store) (sym f) ∙ y.first) in
       record {
         history = branch_ran es true goes.history;
         after = goes.after;
@@ -120,7 +122,7 @@ module _ (p : PlainProgram) (core : PlainCore) (roomy : List ℕ) (most : ℕ) (
         agree = subst (λ v. Agree p core view [] v goes.after) ends goes.agree;
         counts = counted true (counts_of node_one (shape_of node_one goes.history)) f goes.counts;
       })
-      (λ f. let goes = two x.store y.store t x.between y.between y.answer fewer here (ap (λ b. chosen b x.between x.store) (sym f) ∙ y.first) in
+      (λ f. let goes = two x.store y.store t x.between y.between y.answer fewer right_here here (ap (λ b. chosen b x.between x.store) (sym f) ∙ y.first) in
       record {
         history = branch_ran es false goes.history;
         after = goes.after;

@@ -116,7 +116,7 @@ module _ (p : PlainProgram) (core : PlainCore) (h : HasMemories p core) (most : 
   )
 
   -- a stage of its own: it holds, whatever stages come after it
-  stage_goes : (ops : List PlainOp) (t u : store.Store) (all : List Entry) → operations_after core view.around [] ops t ≡ went all u → (rest : PlainStages) (live : ℕ → Bool) (runs : Runs) (end : store.Store) → live 0 ≡ true → run_stages core plainly most rest live view.around u ≡ went runs end
+  pub stage_goes : (ops : List PlainOp) (t u : store.Store) (all : List Entry) → operations_after core view.around [] ops t ≡ went all u → (rest : PlainStages) (live : ℕ → Bool) (runs : Runs) (end : store.Store) → live 0 ≡ true → run_stages core plainly most rest live view.around u ≡ went runs end
       → (run_stages core plainly most (stage_of ops rest) live view.around t ≡ went (more_run (inner_ran [] [] (all ∷ [])) runs) end) × (stage_counts (stage_of ops rest) (stage_shapes (stage_of ops rest) (more_run (inner_ran [] [] (all ∷ [])) runs)) ≡ stage_counts rest (stage_shapes rest runs))
   unfolding run_stages shape_of stage_shapes counts_of stage_counts core_step.in_order pure
   stage_goes ops t u all goes rest live runs end l later = (

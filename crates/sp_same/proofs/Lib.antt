@@ -32,3 +32,4 @@ pub mod Lines
 pub mod LineNodes
 pub mod Ends
 pub mod Whole
+pub mod Rightly

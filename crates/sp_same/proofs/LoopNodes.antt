@@ -10,7 +10,7 @@ use Rattle.sp_tree.specs.Shape as program_shape
 use Rattle.sp_tree.specs.Shape.{shapes, ran, looped}
 use Rattle.sp_tree.specs.Step as step
 use Rattle.sp_tree.specs.Store as program_store
-use Rattle.sp_tree.specs.Typing.{CountersTyped, with_counters}
+use Rattle.sp_tree.specs.Typing.{CountersTyped, BodyTyped, with_counters}
 use Rattle.sp_core.specs.History.{Entry, History, Bounds, Runs, inner_ran, outer_ran, groups_of}
 use Rattle.sp_core.specs.PlainCore as plain
 use Rattle.sp_core.specs.PlainCore.{PlainOp, PlainNode, PlainStages, PlainCore, inner, outer}
@@ -22,21 +22,24 @@ use Rattle.sp_core.specs.Step as core_step
 use Rattle.sp_core.specs.Store as store
 use Rattle.sp_desugar.specs.Agreement.{HasMemories, View, Agree}
 use Rattle.sp_desugar.specs.Early.{is_early, counters_of, bounds_of}
+use Rattle.sp_desugar.proofs.Entering.{same_mems}
 use Rattle.sp_desugar.proofs.NodeParts.{InLaneZero}
 use Rattle.sp_desugar.proofs.StepLemmas.{same_answer, same_left, same_store, taken_apart, then_on}
+use Rattle.sp_same.specs.Contents.{HoldRightly}
 use Rattle.sp_same.specs.Counts.{Count, loop, counts_in, counts_in_all, counts_of as node_counts, group_counts, stage_counts}
-use Rattle.sp_same.specs.Following.{SourcesSeen, AreReady, NodeGoes, BodyFollowed}
+use Rattle.sp_same.specs.Following.{SourcesSeen, AreReady, NodeGoes, BodyFollowedRightly}
 use Rattle.sp_same.proofs.BoundsTaken.{IsLoop, core_loops, AreLoops, are_loops, SameValues, iterations, bounds_taken}
 use Rattle.sp_same.proofs.Counting.{enter, outside, leave}
 use Rattle.sp_same.proofs.Groups.{inner_group, one_inner, outer_group, one_outer, first_is_live}
 use Rattle.sp_same.proofs.Quietly.{Pairs}
+use Rattle.sp_same.proofs.Rightly.{keep_turn, keep_counts, keep_body, body_rightly}
 use Rattle.sp_same.proofs.Turns.{turn_falls, body_falls, each_pair}
 
 pub no_more_counts : (cs : List Count) → cs ++ [] ≡ cs
 no_more_counts [] = refl
 no_more_counts (c ∷ cs) = ap (λ l. c ∷ l) (no_more_counts cs)
 
-module _ (p : PlainProgram) (core : PlainCore) (h : HasMemories p core) (roomy : List ℕ) (most : ℕ) (view : View) (seen : SourcesSeen view.scope view.sources) (b : ℕ) (loops : List PlainCounter) (typed : CountersTyped p view.scope loops) (body : PlainStmts) where
+module _ (p : PlainProgram) (core : PlainCore) (h : HasMemories p core) (roomy : List ℕ) (most : ℕ) (view : View) (seen : SourcesSeen view.scope view.sources) (b : ℕ) (loops : List PlainCounter) (typed : CountersTyped p view.scope loops) (body : PlainStmts) (typed_body : BodyTyped p (with_counters view.scope loops) body) where
   abbrev core_counters : List plain.PlainCounter
   core_counters = counters_of p.mems view.sources b loops
 
@@ -48,10 +51,10 @@ module _ (p : PlainProgram) (core : PlainCore) (h : HasMemories p core) (roomy :
   iteration ws = step.◌>>◌ step.turn (step.◌>>◌ (count_now loops ws) (step.◌>>=◌ (run_all p.mems roomy body) (λ did. step.pure (ran (shapes did)))))
 
   abbrev Going : ℕ → program_store.Store → store.Store → Type 0
-  Going left s t = (left ≤ most) × Agree p core view [] s t
+  Going left s t = (left ≤ most) × Agree p core view [] s t × HoldRightly p view.scope.mems s
 
   -- some group, by a node without counters
-  module _ {B : Type 0} (alone : PlainNode) (followed : (around : counters.Scope) → BodyFollowed p core roomy most (inside around) alone body) (group : (around : counters.Scope) → (ℕ → Bool) → core_step.Step B) (counted : B → List Count)
+  module _ {B : Type 0} (alone : PlainNode) (followed : (around : counters.Scope) → BodyFollowedRightly p core roomy most (inside around) alone body) (group : (around : counters.Scope) → (ℕ → Bool) → core_step.Step B) (counted : B → List Count)
       (one : (around : counters.Scope) (live : ℕ → Bool) (h : History) (t u : store.Store) → live 0 ≡ true → run core plainly most alone around t ≡ core_step.went h u → (x : B) × (group around live t ≡ core_step.went x u) × (node_counts alone (shape_of alone h) ≡ counted x))
       (ls : List Loop) (numbers : Pairs IsLoop loops ls) where
     abbrev core_iteration : List ℤ → core_step.Step B
@@ -63,21 +66,24 @@ module _ (p : PlainProgram) (core : PlainCore) (h : HasMemories p core) (roomy :
     group_follows : (ws : List ℕ) (vs : List ℤ) (left rest : ℕ) (s after : program_store.Store) (t : store.Store) (a : program_shape.Shape) → SameValues p view.sources ls ws vs → Going left s t → iteration ws left s ≡ step.went a rest after
         → (x : B) × (u : store.Store) × (core_iteration vs t ≡ core_step.went x u) × Going rest after u × Counted a x
     unfolding step.pure counts_in
-    group_follows ws vs left rest s after t a same g e =
+    group_follows ws vs left rest s after t a equal g e =
         let c = taken_apart step.turn (λ _. step.◌>>◌ (count_now loops ws) (step.◌>>=◌ (run_all p.mems roomy body) (λ did. step.pure (ran (shapes did))))) left s a rest after e in
         let fell = turn_falls c.answer left c.between s c.store c.first in
         let d = taken_apart (count_now loops ws) (λ _. step.◌>>=◌ (run_all p.mems roomy body) (λ did. step.pure (ran (shapes did)))) c.between c.store a rest after c.second in
         let f = taken_apart (run_all p.mems roomy body) (λ did. step.pure (ran (shapes did))) d.between d.store a rest after d.second in
-        let entered = enter p core view loops ls ws vs (is_live ls vs) c.store d.store t d.answer c.between d.between numbers same.0 same.1 typed.binders seen (subst (λ v. Agree p core view [] v t) (sym fell.1) g.1) d.first in
+        let entered = enter p core view loops ls ws vs (is_live ls vs) c.store d.store t d.answer c.between d.between numbers equal.0 equal.1 typed.binders seen (subst (λ v. Agree p core view [] v t) (sym fell.1) g.1) d.first in
         let fewer : d.between ≤ most = omega (arith, fell.0, entered.0, g.0) in
-        let goes = followed (in_group view.around ls vs) d.store f.store t d.between f.between f.answer fewer entered.1 f.first in
-        let x = one (in_group view.around ls vs) (is_live ls vs) goes.history t goes.after (first_is_live ls vs same.1) goes.goes in
+        let here : HoldRightly p view.scope.mems d.store = keep_counts p view.scope.mems loops ws c.between d.between c.store d.store d.answer (keep_turn p view.scope.mems left c.between s c.store c.answer g.2 c.first) d.first in
+        let same : (with_counters view.scope loops).mems ≡ view.scope.mems = same_mems view.scope loops in
+        let goes = followed (in_group view.around ls vs) d.store f.store t d.between f.between f.answer fewer (subst (λ l. HoldRightly p l d.store) (sym same) here) entered.1 f.first in
+        let right : HoldRightly p view.scope.mems f.store = keep_body p h.declared roomy view.scope body (with_counters view.scope loops) same (body_rightly p h.declared roomy body (with_counters view.scope loops) typed_body) d.between f.between d.store f.store f.answer here f.first in
+        let x = one (in_group view.around ls vs) (is_live ls vs) goes.history t goes.after (first_is_live ls vs equal.1) goes.goes in
         let left_again = leave p core view loops (in_group view.around ls vs) f.store goes.after (λ k c. outside p core view.scope view.around loops ls vs (is_live ls vs) k numbers typed.binders c) seen goes.agree in
         let falls : f.between ≤ d.between = body_falls p.mems roomy body d.between f.between d.store f.store f.answer f.first in (
           x.0,
           goes.after,
           x.1,
-          (subst (λ n. n ≤ most) (same_left (ran (shapes f.answer)) a f.between rest f.store after f.second) (omega (arith, falls, fewer)), subst (λ v. Agree p core view [] v goes.after) (same_store (ran (shapes f.answer)) a f.between rest f.store after f.second) left_again),
+          (subst (λ n. n ≤ most) (same_left (ran (shapes f.answer)) a f.between rest f.store after f.second) (omega (arith, falls, fewer)), subst (λ v. Agree p core view [] v goes.after) (same_store (ran (shapes f.answer)) a f.between rest f.store after f.second) left_again, subst (HoldRightly p view.scope.mems) (same_store (ran (shapes f.answer)) a f.between rest f.store after f.second) right),
           sym x.2 ∙ goes.counts ∙ ap counts_in (same_answer (ran (shapes f.answer)) a f.between rest f.store after f.second),
         )
 
@@ -107,7 +113,7 @@ module _ (p : PlainProgram) (core : PlainCore) (h : HasMemories p core) (roomy :
   same_counts counted (a ∷ al) (x ∷ xs) q = ap (λ l. l ++ all_counted counted xs) q.0 ∙ ap (λ l. counts_in a ++ l) (same_counts counted al xs q.1)
 
   -- without its counters a node has no loop
-  module _ (style : Style) (place rest left : ℕ) (s after : program_store.Store) (t : store.Store) (did : List program_shape.Shape) (a : Agree p core view [] s t) (ready : AreReady p core is_early left s t b (bounds_of loops)) (enough : left ≤ most)
+  module _ (style : Style) (place rest left : ℕ) (s after : program_store.Store) (t : store.Store) (did : List program_shape.Shape) (a : Agree p core view [] s t) (right : HoldRightly p view.scope.mems s) (ready : AreReady p core is_early left s t b (bounds_of loops)) (enough : left ≤ most)
       (e : run_kind p.mems roomy (foreach style loops body) place left s ≡ step.went did rest after) where
     record Ran {B : Type 0} (group : (around : counters.Scope) → (ℕ → Bool) → core_step.Step B) (counted : B → List Count) : Type 0 where
       bs : List Bounds
@@ -118,7 +124,7 @@ module _ (p : PlainProgram) (core : PlainCore) (h : HasMemories p core) (roomy :
       agree : Agree p core view [] after end
       counts : loop (counts_of (core_loops p view.sources b loops bs)) ∷ all_counted counted xs ≡ counts_in_all (shapes did)
 
-    ran_groups : {B : Type 0} (alone : PlainNode) (followed : (around : counters.Scope) → BodyFollowed p core roomy most (inside around) alone body) (group : (around : counters.Scope) → (ℕ → Bool) → core_step.Step B) (counted : B → List Count)
+    ran_groups : {B : Type 0} (alone : PlainNode) (followed : (around : counters.Scope) → BodyFollowedRightly p core roomy most (inside around) alone body) (group : (around : counters.Scope) → (ℕ → Bool) → core_step.Step B) (counted : B → List Count)
         (one : (around : counters.Scope) (live : ℕ → Bool) (h : History) (t u : store.Store) → live 0 ≡ true → run core plainly most alone around t ≡ core_step.went h u → (x : B) × (group around live t ≡ core_step.went x u) × (node_counts alone (shape_of alone h) ≡ counted x))
         → Ran group counted
     unfolding run_kind step.pure counts_in counts_in_all
@@ -130,7 +136,7 @@ module _ (p : PlainProgram) (core : PlainCore) (h : HasMemories p core) (roomy :
         let all = each_pair iteration (λ vs. group (in_group view.around ls vs) (is_live ls vs)) (SameValues p view.sources ls) (λ shape x. counted x ≡ counts_in shape) Going
         (λ ws vs left rest s after t a. group_follows alone followed group counted one ls first.are.numbers ws vs left rest s after t a)
         (tuples x.answer) (group_values ls) x.between y.between x.store y.store t y.answer (iterations p view.sources b loops first.bs x.answer first.are)
-        (subst (λ n. n ≤ most) (sym first.same_turns) enough, subst (λ v. Agree p core view [] v t) (sym first.same_store) a) y.first in
+        (subst (λ n. n ≤ most) (sym first.same_turns) enough, subst (λ v. Agree p core view [] v t) (sym first.same_store) a, subst (HoldRightly p view.scope.mems) (sym first.same_store) right) y.first in
         record {
           bs = first.bs;
           xs = all.0;
@@ -151,7 +157,7 @@ module _ (p : PlainProgram) (core : PlainCore) (h : HasMemories p core) (roomy :
     all_none [] = refl
     all_none (x ∷ xs) = all_none xs
 
-    pub inner_goes : (owned : List ℕ) (ops : List PlainOp) (comb : Option ℕ) (c : plain.PlainCounter) (cs : List plain.PlainCounter) → c ∷ cs ≡ core_counters → ((around : counters.Scope) → BodyFollowed p core roomy most (inside around) (inner [] owned ops comb) body)
+    pub inner_goes : (owned : List ℕ) (ops : List PlainOp) (comb : Option ℕ) (c : plain.PlainCounter) (cs : List plain.PlainCounter) → c ∷ cs ≡ core_counters → ((around : counters.Scope) → BodyFollowedRightly p core roomy most (inside around) (inner [] owned ops comb) body)
         → NodeGoes p core most view (inner core_counters owned ops comb) t after did
     unfolding run core_step.pure shape_of node_counts none
     inner_goes owned ops comb c cs some followed =
@@ -176,7 +182,7 @@ module _ (p : PlainProgram) (core : PlainCore) (h : HasMemories p core) (roomy :
     all_stages stages [] = refl
     all_stages stages (x ∷ xs) = ap (λ l. stage_counts stages (stage_shapes stages x) ++ l) (all_stages stages xs)
 
-    pub outer_goes : (kind : Style) (owned : List ℕ) (stages : PlainStages) (c : plain.PlainCounter) (cs : List plain.PlainCounter) → InLaneZero stages → c ∷ cs ≡ core_counters → ((around : counters.Scope) → BodyFollowed p core roomy most (inside around) (outer [] kind owned stages) body)
+    pub outer_goes : (kind : Style) (owned : List ℕ) (stages : PlainStages) (c : plain.PlainCounter) (cs : List plain.PlainCounter) → InLaneZero stages → c ∷ cs ≡ core_counters → ((around : counters.Scope) → BodyFollowedRightly p core roomy most (inside around) (outer [] kind owned stages) body)
         → NodeGoes p core most view (outer core_counters kind owned stages) t after did
     unfolding run core_step.pure shape_of group_shapes node_counts group_counts of_stages
     outer_goes kind owned stages c cs zero some followed =

@@ -34,10 +34,12 @@ use Rattle.sp_desugar.proofs.Entering.{fresh_apart}
 use Rattle.sp_desugar.proofs.MemoryLemmas.{changed_here, changed_elsewhere}
 use Rattle.sp_desugar.proofs.NumberLemmas.{either}
 use Rattle.sp_desugar.proofs.StepLemmas.{as_it_went, not_more, same_answer, same_store, taken_apart, then_on}
+use Rattle.sp_same.specs.Contents.{HoldRightly}
 use Rattle.sp_same.specs.Counts.{turns, counts_in, counts_in_all, counts_of, body_counts, turn_count}
-use Rattle.sp_same.specs.Following.{AreSpare, NodeGoes, BodyFollowed, alone}
+use Rattle.sp_same.specs.Following.{AreSpare, NodeGoes, BodyFollowedRightly, alone}
 use Rattle.sp_same.proofs.LoopNodes.{no_more_counts}
 use Rattle.sp_same.proofs.Registers.{agree_written, agree_besides, agree_bound, agree_outside, agree_kept}
+use Rattle.sp_same.proofs.Rightly.{keep_body, body_rightly}
 use Rattle.sp_same.proofs.StillWords.{unchanged, word_still}
 use Rattle.sp_same.proofs.Turns.{body_falls, turn_falls}
 use Rattle.sp_same.proofs.WordsTaken.{Takes, word_taken}
@@ -86,6 +88,7 @@ module _ (p : PlainProgram) (core : PlainCore) (h : HasMemories p core) (roomy :
 
   -- between two turns
   record Between (w : ℕ) (s : program_store.Store) (t : store.Store) : Type 0 where
+    right : HoldRightly p view.scope.mems s
     agree : Agree p core view [] s t
     holds : Holds w t
 
@@ -97,18 +100,18 @@ module _ (p : PlainProgram) (core : PlainCore) (h : HasMemories p core) (roomy :
       let a = agree_bound p core h view s t v w fresh g.agree ty kept kept_as_before (subst (λ y. Finds p core view.around [] t y w) (sym there) g.holds) in
       let still = word_still p bound.scope e left rest x (program_store.name_value s v w) after etyped.0.0 etyped.1 goes in (
         still.0,
-        record { agree = subst (λ y. Agree p core view [] y t) (sym still.1) (agree_besides p core h view s t v w fresh g.agree); holds = g.holds },
+        record { right = subst (HoldRightly p view.scope.mems) (sym still.1) g.right; agree = subst (λ y. Agree p core view [] y t) (sym still.1) (agree_besides p core h view s t v w fresh g.agree); holds = g.holds },
         word_taken p core h bound e (program_store.name_value s v w) after t left rest x etyped.0.0 etyped.1 a goes,
       )
 
   -- the register takes a word
-  state_takes : (e : PlainExpr) (sources : Sources) (w : ℕ) (s : program_store.Store) (t : store.Store) → Agree p core view [] s t → (f : Takes p core h view (word_list p.mems sources e) t w)
+  state_takes : (e : PlainExpr) (sources : Sources) (w : ℕ) (s : program_store.Store) (t : store.Store) → HoldRightly p view.scope.mems s → Agree p core view [] s t → (f : Takes p core h view (word_list p.mems sources e) t w)
       → (state_now core plainly most view.around n (word_list p.mems sources e) t ≡ core_step.went f.0 (store.hold t n (cells (Some w ∷ [])))) × Between w s (store.hold t n (cells (Some w ∷ [])))
   unfolding core_step.pure core_step.change core_step.◌>>=◌
-  state_takes e sources w s t a f = (
+  state_takes e sources w s t right a f = (
     then_on (operations core view.around (word_list p.mems sources e)) (λ es. core_step.◌>>◌ (hold_now n (cells (Some (last_word es) ∷ []))) (core_step.pure es)) t f.0 t f.1
         ∙ ap (λ x. core_step.went f.0 (store.hold t n (cells (Some x ∷ [])))) f.2,
-    record { agree = agree_written p core h view [] s t n w added before a; holds = (added, changed_here t n n (Some (cells (Some w ∷ []))) refl) },
+    record { right = right; agree = agree_written p core h view [] s t n w added before a; holds = (added, changed_here t n n (Some (cells (Some w ∷ []))) refl) },
   )
 
   abbrev test_step : ℕ → step.Step Bool
@@ -146,7 +149,7 @@ module _ (p : PlainProgram) (core : PlainCore) (h : HasMemories p core) (roomy :
         record { es = f.2.0; goes = f.2.1; is = ap (λ y. y == 1) f.2.2 ∙ same_answer (x.answer == 1) holds x.between rest x.store after x.second; between = subst (λ y. Between w y t) (sym same.1) f.1 },
       )
 
-  module _ (followed : (w : ℕ) → BodyFollowed p core roomy most (inside w) body_node body) where
+  module _ (followed : (w : ℕ) → BodyFollowedRightly p core roomy most (inside w) body_node body) where
     -- a turn
     record Turned (t : store.Store) (found : List Entry) (answer : ℕ × program_shape.Shape) (after : program_store.Store) : Type 0 where
       turn : Turn
@@ -167,10 +170,12 @@ module _ (p : PlainProgram) (core : PlainCore) (h : HasMemories p core) (roomy :
         let bound : Agree p core (record view { scope = with_val view.scope state ty; sources = kept }) [] (program_store.name_value c.store state w) t = agree_bound p core h view c.store t state w typed.3 here ty kept kept_as_before (subst (λ y. Finds p core view.around [] t y w) (sym state_kept) g.holds) in
         let entered : Agree p core (inside w) [] (program_store.name_value c.store state w) t = agree_kept p core h (record view { scope = with_val view.scope state ty; sources = kept }) (program_store.name_value c.store state w) t (n, Some w) g.holds bound in
         let fewer : c.between ≤ most = omega (arith, fell.0, enough) in
-        let goes = followed w (program_store.name_value c.store state w) d.store t c.between d.between d.answer fewer entered d.first in
+        let right_here : HoldRightly p view.scope.mems c.store = subst (HoldRightly p view.scope.mems) (sym fell.1) g.right in
+        let goes = followed w (program_store.name_value c.store state w) d.store t c.between d.between d.answer fewer right_here entered d.first in
+        let right_then : HoldRightly p view.scope.mems d.store = keep_body p h.declared roomy view.scope body (with_val view.scope state ty) refl (body_rightly p h.declared roomy body (with_val view.scope state ty) typed.4) c.between d.between (program_store.name_value c.store state w) d.store d.answer right_here d.first in
         let out = agree_outside p core h view d.store goes.after state ty kept (n, Some w) kept_as_before goes.agree in
-        let f = binder_word last w next ty typed.5 last_kept typed.6 d.store x.store goes.after d.between x.between x.answer (record { agree = out.0; holds = out.1 }) x.first in
-        let put = state_takes next kept x.answer x.store goes.after f.1.agree f.2 in
+        let f = binder_word last w next ty typed.5 last_kept typed.6 d.store x.store goes.after d.between x.between x.answer (record { right = right_then; agree = out.0; holds = out.1 }) x.first in
+        let put = state_takes next kept x.answer x.store goes.after f.1.right f.1.agree f.2 in
         let same = unchanged (x.answer, ran (shapes d.answer)) answer x.between rest x.store after x.second in
         let answered : (x.answer, ran (shapes d.answer)) ≡ answer = same_answer (x.answer, ran (shapes d.answer)) answer x.between rest x.store after x.second in
         let falls : d.between ≤ c.between = body_falls p.mems roomy body c.between d.between (program_store.name_value c.store state w) d.store d.answer d.first in (
@@ -260,14 +265,14 @@ module _ (p : PlainProgram) (core : PlainCore) (h : HasMemories p core) (roomy :
         let f = test_follows w left x.between s x.store t x.answer g x.first in
         one_turn k m w t x.store after x.between rest did x.answer (machine k m (omega (arith, le))) (omega (arith, f.0, enough)) f.1 x.second
 
-    pub machine_goes : (s after : program_store.Store) (t : store.Store) (left rest : ℕ) (did : List program_shape.Shape) → left ≤ most → Agree p core view [] s t → run_kind p.mems roomy (fsm start tested test state body last next) place left s ≡ step.went did rest after
+    pub machine_goes : (s after : program_store.Store) (t : store.Store) (left rest : ℕ) (did : List program_shape.Shape) → left ≤ most → HoldRightly p view.scope.mems s → Agree p core view [] s t → run_kind p.mems roomy (fsm start tested test state body last next) place left s ≡ step.went did rest after
         → NodeGoes p core most view (node p.mems (length p.counters) view.sources b n (fsm start tested test state body last next)) t after did
     unfolding node run_kind run step.as_long_as step.pure core_step.pure shape_of counts_of counts_in counts_in_all
-    machine_goes s after t left rest did enough a e =
+    machine_goes s after t left rest did enough right a e =
         let x = taken_apart (word p.mems start) (λ first. step.◌>>=◌ (step.as_long_as test_step turn_step first) (λ bodies. step.pure (turned (length bodies) (shapes bodies) ∷ []))) left s did rest after e in
         let still = word_still p view.scope start left x.between x.answer s x.store typed.0.0.0 typed.0.1 x.first in
         let here : Agree p core view [] x.store t = subst (λ v. Agree p core view [] v t) (sym still.1) a in
-        let begins = state_takes start view.sources x.answer x.store t here (word_taken p core h view start s x.store t left x.between x.answer typed.0.0.0 typed.0.1 a x.first) in
+        let begins = state_takes start view.sources x.answer x.store t (subst (HoldRightly p view.scope.mems) (sym still.1) right) here (word_taken p core h view start s x.store t left x.between x.answer typed.0.0.0 typed.0.1 a x.first) in
         let y = taken_apart (step.as_long_as test_step turn_step x.answer) (λ bodies. step.pure (turned (length bodies) (shapes bodies) ∷ [])) x.between x.store did rest after x.second in
         let fewer : x.between ≤ most = omega (arith, still.0, enough) in
         let all = machine x.between most fewer x.answer x.store y.store (store.hold t n (cells (Some x.answer ∷ []))) x.between y.between y.answer fewer begins.1 y.first in

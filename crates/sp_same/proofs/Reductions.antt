@@ -61,7 +61,7 @@ use Rattle.sp_same.proofs.Registers.{agree_written, agree_kept}
 use Rattle.sp_same.proofs.Turns.{turn_falls, each_pair}
 
 -- a loop has a counter
-first_counter : (p : PlainProgram) (sources : Sources) (b : ℕ) (loops : List PlainCounter) → 1 ≤ length loops → (c : plain.PlainCounter) × (more : List plain.PlainCounter) × (c ∷ more ≡ counters_of p.mems sources b loops)
+pub first_counter : (p : PlainProgram) (sources : Sources) (b : ℕ) (loops : List PlainCounter) → 1 ≤ length loops → (c : plain.PlainCounter) × (more : List plain.PlainCounter) × (c ∷ more ≡ counters_of p.mems sources b loops)
 first_counter p sources b [] le = absurd (omega (arith, le))
 first_counter p sources b (c ∷ loops) le = (_, _, refl)
 

@@ -24,13 +24,13 @@ module _ (p : PlainProgram) (core : PlainCore) (h : HasMemories p core) (view : 
   Keeps_cell t x = IsAdded p core x.0 × (t x.0 ≡ Some (cells (x.1 ∷ [])))
 
   -- a register after all that are kept
-  module _ (done : List Entry) (s : program_store.Store) (t : store.Store) (n w : ℕ) (added : IsAdded p core n) (before : AreSpare n (suc n) view) (a : Agree p core view done s t) where
+  module _ (done : List Entry) (s : program_store.Store) (t : store.Store) (n : ℕ) (o : Option ℕ) (added : IsAdded p core n) (before : AreSpare n (suc n) view) (a : Agree p core view done s t) where
     abbrev held : store.Store
-    held = store.hold t n (cells (Some w ∷ []))
+    held = store.hold t n (cells (o ∷ []))
 
     still_found : (source : Source) (x : ℕ) → SourceBefore n source → Finds p core view.around done t source x → Finds p core view.around done held source x
     still_found (at_place k) x b f = f
-    still_found (in_register r) x b f = (f.0, changed_elsewhere t n r (Some (cells (Some w ∷ []))) (λ e. omega (arith, e, b)) ∙ f.1)
+    still_found (in_register r) x b f = (f.0, changed_elsewhere t n r (Some (cells (o ∷ []))) (λ e. omega (arith, e, b)) ∙ f.1)
     still_found (constant k) x b f = f
     still_found (count k) x b f = f
 
@@ -39,17 +39,20 @@ module _ (p : PlainProgram) (core : PlainCore) (h : HasMemories p core) (view : 
       exists = x.exists;
       on_chip = x.on_chip;
       unseen = x.unseen;
-      holds = λ f. changed_elsewhere t n (mem_number p.mems m) (Some (cells (Some w ∷ []))) (λ e. omega (arith, e, number_below p.mems m x.exists x.on_chip, added.after)) ∙ x.holds f;
+      holds = λ f. changed_elsewhere t n (mem_number p.mems m) (Some (cells (o ∷ []))) (λ e. omega (arith, e, number_below p.mems m x.exists x.on_chip, added.after)) ∙ x.holds f;
     }
 
-    pub agree_written : Agree p core view done s held
-    agree_written = record {
-      mems = λ m c. ((a.mems m c).0, changed_elsewhere t n _ (Some (cells (Some w ∷ []))) (λ e. register_apart p core h n m added (a.mems m c).0 (sym e)) ∙ (a.mems m c).1);
+    pub agree_cell : Agree p core view done s held
+    agree_cell = record {
+      mems = λ m c. ((a.mems m c).0, changed_elsewhere t n _ (Some (cells (o ∷ []))) (λ e. register_apart p core h n m added (a.mems m c).0 (sym e)) ∙ (a.mems m c).1);
       vals = λ v c. still_found (view.sources v.0) (s.values v.0) (before.0 v c) (a.vals v c);
       counts = a.counts;
       waiting = λ m c. still_waits m (a.waiting m c);
-      registers = λ x c. let f = a.registers x c in (f.0, changed_elsewhere t n x.0 (Some (cells (Some w ∷ []))) (λ e. before.1 x c n (omega arith) (omega arith) e) ∙ f.1);
+      registers = λ x c. let f = a.registers x c in (f.0, changed_elsewhere t n x.0 (Some (cells (o ∷ []))) (λ e. before.1 x c n (omega arith) (omega arith) e) ∙ f.1);
     }
+
+  pub agree_written : (done : List Entry) (s : program_store.Store) (t : store.Store) (n w : ℕ) → IsAdded p core n → AreSpare n (suc n) view → Agree p core view done s t → Agree p core view done s (store.hold t n (cells (Some w ∷ [])))
+  agree_written done s t n w = agree_cell done s t n (Some w)
 
   -- a value of a fresh name takes a word
   module _ (s : program_store.Store) (t : store.Store) (v w : ℕ) (fresh : IsFreshVal p view.scope v) (a : Agree p core view [] s t) where

@@ -28,6 +28,7 @@ use Rattle.sp_desugar.specs.Runs.{no_run}
 use Rattle.sp_desugar.specs.Stages.{nothing, body_node, stages}
 use Rattle.sp_desugar.specs.Uses.{no_more}
 use Rattle.sp_desugar.specs.Values.{Source, in_register, count, Sources, no_sources}
+use Rattle.sp_same.specs.Contents.{HoldRightly}
 use Rattle.sp_same.specs.Counts.{counts_in_all, counts_of, stage_counts}
 
 -- a value that stands for a counter stands for one that is visible
@@ -86,6 +87,12 @@ module _ (p : PlainProgram) (core : PlainCore) where
   abbrev pub AreCells : (PlainExpr → Bool) → store.Store → (register : ℕ) → List PlainExpr → Type 0
   AreCells crosses t r [] = Unit {0}
   AreCells crosses t r (e ∷ es) = (crosses e ≡ true → IsAdded p core r × ((o : Option ℕ) × (t r ≡ Some (cells (o ∷ []))))) × AreCells crosses t (after crosses r e) es
+
+  -- the same where the memories that are visible hold contents of their kinds
+  abbrev pub BodyFollowedRightly : (roomy : List ℕ) (most : ℕ) (view : View) → PlainNode → PlainStmts → Type 0
+  BodyFollowedRightly roomy most view node body =
+      (s after : program_store.Store) (t : store.Store) (left rest : ℕ) (did : List program_shape.Shape)
+      → left ≤ most → HoldRightly p view.scope.mems s → Agree p core view [] s t → run_all p.mems roomy body left s ≡ program_step.went did rest after → NodeGoes most view node t after did
 
   -- the stages before a statement put its early words into their registers, from a number on; whatever stages come after
   -- them go on from there, and the stages before count nothing

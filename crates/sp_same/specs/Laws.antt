@@ -31,7 +31,8 @@ use Rattle.sp_desugar.specs.Registers.{registers_in}
 use Rattle.sp_desugar.specs.Stages.{style_of, node}
 use Rattle.sp_desugar.specs.Uses.{no_more}
 use Rattle.sp_desugar.specs.Values.{Sources, with_state}
-use Rattle.sp_same.specs.Following.{SourcesSeen, AreSpare, HoldsWord, AreReady, AreCells, EarlyGoes, NodeGoes, IsOwn, BodyFollowed, alone, first_view}
+use Rattle.sp_same.specs.Contents.{HoldRightly}
+use Rattle.sp_same.specs.Following.{SourcesSeen, AreSpare, HoldsWord, AreReady, AreCells, EarlyGoes, NodeGoes, IsOwn, BodyFollowed, BodyFollowedRightly, alone, first_view}
 
 -- a transfer; the line buffer that a row is loaded into has as many rows as its first dimension
 abbrev pub IsTransfer : PlainProgram → program_store.Store → PlainStmtKind → Type 0
@@ -75,9 +76,9 @@ IsTransferFollowed p roomy core kind =
 abbrev pub IsLoopFollowed : PlainProgram → (roomy : List ℕ) → PlainCore → PlainStmts → Type 0
 IsLoopFollowed p roomy core body =
     (most : ℕ) (view : View) (style : Style) (loops : List PlainCounter) (b n place : ℕ) (s after : program_store.Store) (t : store.Store) (left rest : ℕ) (did : List Shape)
-    → HasMemories p core → CountersTyped p view.scope loops → SourcesSeen view.scope view.sources → left ≤ most
-    → Agree p core view [] s t → AreReady p core is_early left s t b (bounds_of loops)
-    → ((around : counters.Scope) → BodyFollowed p core roomy most (record view { scope = with_counters view.scope loops; around = around }) (alone p view.sources n style body) body)
+    → HasMemories p core → CountersTyped p view.scope loops → BodyTyped p (with_counters view.scope loops) body → SourcesSeen view.scope view.sources → left ≤ most
+    → HoldRightly p view.scope.mems s → Agree p core view [] s t → AreReady p core is_early left s t b (bounds_of loops)
+    → ((around : counters.Scope) → BodyFollowedRightly p core roomy most (record view { scope = with_counters view.scope loops; around = around }) (alone p view.sources n style body) body)
     → run_kind p.mems roomy (foreach style loops body) place left s ≡ program_step.went did rest after
     → NodeGoes p core most view (node p.mems (length p.counters) view.sources b n (foreach style loops body)) t after did
 
@@ -85,8 +86,8 @@ IsLoopFollowed p roomy core body =
 abbrev pub IsBlockFollowed : PlainProgram → (roomy : List ℕ) → PlainCore → PlainStmts → Type 0
 IsBlockFollowed p roomy core body =
     (most : ℕ) (view : View) (style : Style) (b n place : ℕ) (s after : program_store.Store) (t : store.Store) (left rest : ℕ) (did : List Shape)
-    → fifos_with_room p.mems style body ≡ [] → left ≤ most → Agree p core view [] s t
-    → BodyFollowed p core roomy most view (alone p view.sources n (style_of p.mems (length p.counters) style body) body) body
+    → fifos_with_room p.mems style body ≡ [] → left ≤ most → HoldRightly p view.scope.mems s → Agree p core view [] s t
+    → BodyFollowedRightly p core roomy most view (alone p view.sources n (style_of p.mems (length p.counters) style body) body) body
     → run_kind p.mems roomy (block style body) place left s ≡ program_step.went did rest after
     → NodeGoes p core most view (node p.mems (length p.counters) view.sources b n (block style body)) t after did
 
@@ -94,9 +95,9 @@ IsBlockFollowed p roomy core body =
 abbrev pub IsBranchFollowed : PlainProgram → (roomy : List ℕ) → PlainCore → PlainExpr → Type 0
 IsBranchFollowed p roomy core test =
     (most : ℕ) (view : View) (first second : PlainStmts) (b n place : ℕ) (s after : program_store.Store) (t : store.Store) (left rest : ℕ) (did : List Shape)
-    → HasMemories p core → HasTypeStill p view.scope Bit test → left ≤ most → Agree p core view [] s t
-    → BodyFollowed p core roomy most view (alone p view.sources n Pipe first) first
-    → BodyFollowed p core roomy most view (alone p view.sources (n + length (registers_in first no_more)) Pipe second) second
+    → HasMemories p core → HasTypeStill p view.scope Bit test → left ≤ most → HoldRightly p view.scope.mems s → Agree p core view [] s t
+    → BodyFollowedRightly p core roomy most view (alone p view.sources n Pipe first) first
+    → BodyFollowedRightly p core roomy most view (alone p view.sources (n + length (registers_in first no_more)) Pipe second) second
     → run_kind p.mems roomy (branch test first second) place left s ≡ program_step.went did rest after
     → NodeGoes p core most view (node p.mems (length p.counters) view.sources b n (branch test first second)) t after did
 
@@ -105,8 +106,8 @@ abbrev pub IsMachineFollowed : PlainProgram → (roomy : List ℕ) → PlainCore
 IsMachineFollowed p roomy core body =
     (most : ℕ) (view : View) (start : PlainExpr) (tested : ℕ) (test : PlainExpr) (state last : ℕ) (next : PlainExpr) (b n place : ℕ) (s after : program_store.Store) (t : store.Store) (left rest : ℕ) (did : List Shape)
     → let kept : Sources = with_state view.sources tested state last n in
-    HasMemories p core → StmtTyped p view.scope (fsm start tested test state body last next) → IsAdded p core n → AreSpare n (suc n) view → left ≤ most → Agree p core view [] s t
-    → ((w : ℕ) → BodyFollowed p core roomy most (record view { scope = with_val view.scope state (type_of start); sources = kept; registers = (n, Some w) ∷ view.registers }) (alone p kept (suc n) Pipe body) body)
+    HasMemories p core → StmtTyped p view.scope (fsm start tested test state body last next) → IsAdded p core n → AreSpare n (suc n) view → left ≤ most → HoldRightly p view.scope.mems s → Agree p core view [] s t
+    → ((w : ℕ) → BodyFollowedRightly p core roomy most (record view { scope = with_val view.scope state (type_of start); sources = kept; registers = (n, Some w) ∷ view.registers }) (alone p kept (suc n) Pipe body) body)
     → run_kind p.mems roomy (fsm start tested test state body last next) place left s ≡ program_step.went did rest after
     → NodeGoes p core most view (node p.mems (length p.counters) view.sources b n (fsm start tested test state body last next)) t after did
 

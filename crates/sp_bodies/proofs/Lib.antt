@@ -1,0 +1,10 @@
+pub mod Alike
+pub mod AlikeStages
+pub mod Known
+pub mod Statements
+pub mod StageSteps
+pub mod Owned
+pub mod StagesGo
+pub mod Fresh
+pub mod BodyStarts
+pub mod BodyNodes
