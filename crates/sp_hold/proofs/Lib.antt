@@ -1,0 +1,9 @@
+pub mod Counters
+pub mod FormValues
+pub mod IndexLemmas
+pub mod Likeness
+pub mod ListSteps
+pub mod ListWords
+pub mod Products
+pub mod Steady
+pub mod Steps

@@ -1,0 +1,52 @@
+-- A list of operations, one after the other: the first one, those after it, and where its entry stands in the end.
+use Rattle.std.proofs.Common.{◌≡◌, ℕ, suc, ◌<◌, List, [], ◌∷◌, ◌++◌, length, refl, ap, sym, ◌∙◌, arith}
+use Rattle.std.specs.Prelude.{slice_index_or}
+use Rattle.std.proofs.Math.ListN.{get_or-append}
+use Rattle.std.proofs.Math.Seq.{get_or-append_seam}
+use Rattle.sp_core.specs.History.{Entry, left_out}
+use Rattle.sp_core.specs.Operations.{operation, operations_after}
+use Rattle.sp_core.specs.PlainCore.{PlainOp, PlainCore}
+use Rattle.sp_core.specs.Scope.{Scope}
+use Rattle.sp_core.specs.Step.{Went, went, stopped, more, pure, ◌>>=◌}
+use Rattle.sp_core.specs.Store.{Store}
+
+module _ (core : PlainCore) (scope : Scope) where
+  -- the first operation of some, and those after it
+  pub record First (done : List Entry) (op : PlainOp) (later : List PlainOp) (s : Store) (es : List Entry) (t : Store) : Type 0 where
+    pub entry : Entry
+    pub next : Store
+    pub here : operation core scope op done s ≡ went entry next
+    pub rest : operations_after core scope (done ++ entry ∷ []) later next ≡ went es t
+
+  pub first_step : (done : List Entry) (op : PlainOp) (later : List PlainOp) (s : Store) (es : List Entry) (t : Store) → operations_after core scope done (op ∷ later) s ≡ went es t → First done op later s es t
+  unfolding operations_after ◌>>=◌
+  first_step done op later s es t h = by_step (operation core scope op done s) refl h
+    where
+      by_step : (r : Went Entry) → operation core scope op done s ≡ r →
+          (elim r as (λ x. Went (List Entry)) [ went e u ↦ operations_after core scope (done ++ e ∷ []) later u | stopped ↦ stopped | more ↦ more ]) ≡ went es t → First done op later s es t
+      by_step (went e u) is g = record { entry = e; next = u; here = is; rest = g }
+      by_step stopped is g = cc
+      by_step more is g = cc
+
+  pub at_end : (done : List Entry) (s : Store) (es : List Entry) (t : Store) → operations_after core scope done [] s ≡ went es t → done ≡ es
+  unfolding operations_after pure
+  at_end done s es t h = cc
+
+  pub longer : (done : List Entry) (e : Entry) → length (done ++ e ∷ []) ≡ suc (length done)
+  longer [] e = refl
+  longer (d ∷ done) e = ap suc (longer done e)
+
+  pub stays : (later : List PlainOp) (done : List Entry) (s : Store) (es : List Entry) (t : Store) → operations_after core scope done later s ≡ went es t → (k : ℕ) → k < length done → slice_index_or es k left_out ≡ slice_index_or done k left_out
+  stays [] done s es t h k less = ap (λ x. slice_index_or x k left_out) (sym (at_end done s es t h))
+  stays (op ∷ later) done s es t h k less =
+      let f = first_step done op later s es t h in
+      let longer_one = longer done f.entry in
+      stays later (done ++ f.entry ∷ []) f.next es t f.rest k (omega arith) ∙ get_or-append done (f.entry ∷ []) left_out k less
+
+  -- the entry of the first one
+  pub stands : (done : List Entry) (op : PlainOp) (later : List PlainOp) (s : Store) (es : List Entry) (t : Store) (h : operations_after core scope done (op ∷ later) s ≡ went es t) →
+      slice_index_or es (length done) left_out ≡ (first_step done op later s es t h).entry
+  stands done op later s es t h =
+      let f = first_step done op later s es t h in
+      let longer_one = longer done f.entry in
+      stays later (done ++ f.entry ∷ []) f.next es t f.rest (length done) (omega arith) ∙ get_or-append_seam done f.entry [] left_out

@@ -1,0 +1,32 @@
+-- What is said of the forms of operations, and of those of indices.
+use Rattle.std.specs.Prelude.{◌≡◌, ℕ, ◌^◌, true, ℤ, pos, ◌≤ℤ◌, List, Option}
+use Rattle.std.specs.List.{list_all}
+use Rattle.sp_affine.specs.Affine.{Affine, value_of, symbol_value}
+use Rattle.sp_core.specs.Elements.{index_value}
+use Rattle.sp_core.specs.Forms.{PlainForms, symbol_in}
+use Rattle.sp_core.specs.History.{Entry}
+use Rattle.sp_core.specs.Operations.{operations}
+use Rattle.sp_core.specs.PlainCore.{PlainOp, PlainCore}
+use Rattle.sp_core.specs.Scope.{Scope}
+use Rattle.sp_core.specs.Step.{went}
+use Rattle.sp_core.specs.Store.{Store}
+use Rattle.sp_patterns.specs.declared.place.CounterPlace.{CounterPlace}
+use Rattle.sp_patterns.specs.Forms.{forms_of}
+use Rattle.sp_patterns.specs.Indices.{is_index}
+use Rattle.sp_hold.specs.Values.{AreInScope, AreLike, ArePassed, is_allowed, IsLike, IsInt, AreInRanges}
+
+-- in a run of a list each operation that has a form gives a word like the form's value: at the counters' values and at the
+-- words that stand in memories as the run begins
+abbrev pub AreWordsLikeForms : PlainCore → List PlainOp → Type 0
+AreWordsLikeForms core ops =
+    (forms : PlainForms) (mask : Option ℕ) (scope : Scope) (places : List CounterPlace) (values : List ℤ) (s t : Store) (entries : List Entry) →
+    list_all (is_allowed core) ops ≡ true → operations core scope ops s ≡ went entries t → AreInScope scope places values → ArePassed mask 0 ops entries →
+    AreLike values (symbol_in core forms s) (forms_of core.mems ops mask places) entries
+
+-- a word like the value of an index's form is that value, where it is from 0 to 2^26, as an index inside of a memory is
+abbrev pub IsIndexItsForm : Affine → Type 0
+IsIndexItsForm f =
+    (ranges : List (Option (ℤ × ℤ))) (values : List ℤ) (symbols : ℕ → ℤ) (word : ℕ) →
+    is_index ranges f ≡ true → AreInRanges f.coefs ranges values → IsInt (symbol_value f.symbol symbols) →
+    pos 0 ≤ℤ index_value word → index_value word ≤ℤ pos (2 ^ 26) → IsLike word (value_of f values symbols) →
+    index_value word ≡ value_of f values symbols
