@@ -1,6 +1,6 @@
 -- The values of sums, differences and multiples of forms.
-use Rattle.std.proofs.Common.{◌≡◌, ℕ, zero, suc, Bool, true, false, ℤ, pos, ◌+ℤ◌, ◌-ℤ◌, ◌*ℤ◌, List, [], ◌∷◌, ◌&&◌, length, replicate, refl, ap, sym, ◌∙◌, arith}
-use Rattle.std.specs.Prelude.{Option, Some, None, if◌then◌else◌, ◌==◌}
+use Rattle.std.proofs.Common.{◌≡◌, ℕ, zero, suc, Bool, true, false, ℤ, pos, ◌+ℤ◌, ◌-ℤ◌, ◌*ℤ◌, List, [], ◌∷◌, ◌&&◌, length, replicate, refl, ap, sym, ◌∙◌, arith, subst}
+use Rattle.std.specs.Prelude.{Option, Some, None, if◌then◌else◌, ◌==◌, IfSome}
 use Rattle.std.specs.List.{list_all}
 use Rattle.std.specs.Ordering.{int_eq}
 use Rattle.std.proofs.lemmas.Int.{ints}
@@ -168,3 +168,41 @@ module _ (n : ℕ) (values : List ℤ) (symbols : ℕ → ℤ) where
     where
       joined : (d dz k kz s sz all two : ℤ) → d ≡ dz → k ≡ kz → s ≡ sz → all ≡ two +ℤ sz → two ≡ dz +ℤ kz → (d +ℤ k) +ℤ s ≡ all
       joined d dz k kz s sz all two p q r t u = omega (arith, ints)
+
+-- the symbol that is left is one of those that were there
+module _ (P : ℕ → Type 0) where
+  sum_keeps : (a b s : Option ℕ) → sum_symbol a b ≡ Some s → IfSome a P → IfSome b P → IfSome s P
+  sum_keeps None b s e h k = let same : b ≡ s = cc in subst (λ (x : Option ℕ). IfSome x P) same k
+  sum_keeps (Some m) None s e h k = let same : Some m ≡ s = cc in subst (λ (x : Option ℕ). IfSome x P) same h
+  sum_keeps (Some m) (Some n) s e h k = cc
+
+  difference_keeps : (a b s : Option ℕ) → difference_symbol a b ≡ Some s → IfSome a P → IfSome s P
+  difference_keeps None None s e h = let same : None ≡ s = cc in subst (λ (x : Option ℕ). IfSome x P) same tt
+  difference_keeps (Some m) None s e h = let same : Some m ≡ s = cc in subst (λ (x : Option ℕ). IfSome x P) same h
+  difference_keeps None (Some n) s e h = cc
+  difference_keeps (Some m) (Some n) s e h = by_test (m == n) e
+    where
+      by_test : (b : Bool) → (if b then Some None else None) ≡ Some s → IfSome s P
+      by_test true g = let same : None ≡ s = cc in subst (λ (x : Option ℕ). IfSome x P) same tt
+      by_test false g = cc
+
+  multiple_keeps : (a : Option ℕ) (z : ℤ) (s : Option ℕ) → multiple_symbol a z ≡ Some s → IfSome a P → IfSome s P
+  multiple_keeps None z s e h = let same : None ≡ s = cc in subst (λ (x : Option ℕ). IfSome x P) same tt
+  multiple_keeps (Some m) z s e h = by_zero (int_eq z (pos 0)) e
+    where
+      by_one : (b : Bool) → (if b then Some (Some m) else None) ≡ Some s → IfSome s P
+      by_one true g = let same : Some m ≡ s = cc in subst (λ (x : Option ℕ). IfSome x P) same h
+      by_one false g = cc
+
+      by_zero : (b : Bool) → (if b then Some None else (if int_eq z (pos 1) then Some (Some m) else None)) ≡ Some s → IfSome s P
+      by_zero true g = let same : None ≡ s = cc in subst (λ (x : Option ℕ). IfSome x P) same tt
+      by_zero false g = by_one _ g
+
+  pub sum_symbol_kept : (f g h : Affine) → sum_form f g ≡ Some h → IfSome f.symbol P → IfSome g.symbol P → IfSome h.symbol P
+  sum_symbol_kept f g h e = sum_keeps f.symbol g.symbol h.symbol (what_is_held (sums f.coefs g.coefs) (f.constant +ℤ g.constant) (sum_symbol f.symbol g.symbol) h e).symbol_is
+
+  pub difference_symbol_kept : (f g h : Affine) → difference_form f g ≡ Some h → IfSome f.symbol P → IfSome h.symbol P
+  difference_symbol_kept f g h e = difference_keeps f.symbol g.symbol h.symbol (what_is_held (differences f.coefs g.coefs) (f.constant -ℤ g.constant) (difference_symbol f.symbol g.symbol) h e).symbol_is
+
+  pub multiple_symbol_kept : (f : Affine) (z : ℤ) (h : Affine) → multiple_form f z ≡ Some h → IfSome f.symbol P → IfSome h.symbol P
+  multiple_symbol_kept f z h e = multiple_keeps f.symbol z h.symbol (what_is_held (multiples f.coefs z) (f.constant *ℤ z) (multiple_symbol f.symbol z) h e).symbol_is

@@ -1,3 +1,4 @@
+pub mod AccessIndices
 pub mod Counters
 pub mod FormValues
 pub mod IndexLemmas

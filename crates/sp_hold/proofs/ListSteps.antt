@@ -1,5 +1,5 @@
 -- A list of operations, one after the other: the first one, those after it, and where its entry stands in the end.
-use Rattle.std.proofs.Common.{◌≡◌, ℕ, suc, ◌<◌, List, [], ◌∷◌, ◌++◌, length, refl, ap, sym, ◌∙◌, arith}
+use Rattle.std.proofs.Common.{◌≡◌, ℕ, ◌+◌, suc, ◌<◌, List, [], ◌∷◌, ◌++◌, length, refl, ap, sym, ◌∙◌, arith}
 use Rattle.std.specs.Prelude.{slice_index_or}
 use Rattle.std.proofs.Math.ListN.{get_or-append}
 use Rattle.std.proofs.Math.Seq.{get_or-append_seam}
@@ -50,3 +50,25 @@ module _ (core : PlainCore) (scope : Scope) where
       let f = first_step done op later s es t h in
       let longer_one = longer done f.entry in
       stays later (done ++ f.entry ∷ []) f.next es t f.rest (length done) (omega arith) ∙ get_or-append_seam done f.entry [] left_out
+
+  -- an operation after some of a list
+  pub record At (before : List PlainOp) (op : PlainOp) (done : List Entry) (es : List Entry) : Type 0 where
+    pub earlier : List Entry
+    pub from : Store
+    pub entry : Entry
+    pub to : Store
+    pub here : operation core scope op earlier from ≡ went entry to
+    pub place : length earlier ≡ length done + length before
+    pub stands_there : slice_index_or es (length earlier) left_out ≡ entry
+    pub same : (k : ℕ) → k < length earlier → slice_index_or es k left_out ≡ slice_index_or earlier k left_out
+
+  pub at_place : (before : List PlainOp) (op : PlainOp) (after : List PlainOp) (done : List Entry) (s : Store) (es : List Entry) (t : Store) → operations_after core scope done (before ++ op ∷ after) s ≡ went es t → At before op done es
+  at_place [] op after done s es t h =
+      let f = first_step done op after s es t h in
+      record { earlier = done; from = s; entry = f.entry; to = f.next; here = f.here; place = omega arith; stands_there = stands done op after s es t h; same = stays (op ∷ after) done s es t h }
+  at_place (b ∷ before) op after done s es t h =
+      let f = first_step done b (before ++ op ∷ after) s es t h in
+      let r = at_place before op after (done ++ f.entry ∷ []) f.next es t f.rest in
+      let longer_one = longer done f.entry in
+      let placed = r.place in
+      record { earlier = r.earlier; from = r.from; entry = r.entry; to = r.to; here = r.here; place = omega arith; stands_there = r.stands_there; same = r.same }

@@ -186,7 +186,7 @@ module _ (core : PlainCore) (scope : Scope) where
     kind_keeps op ty at words e u v h allowed m s n = ap (λ (x : Store). x m) (sym (was_pure _ e u v h).store)
 
     -- what an operation does under its mask
-    unmasked : {P : Type 0} (op : PlainOp) (done : List Entry) (e : Entry) (u v : Store) → operation core scope op done u ≡ went e v →
+    pub unmasked : {P : Type 0} (op : PlainOp) (done : List Entry) (e : Entry) (u v : Store) → operation core scope op done u ≡ went e v →
         (left_out ≡ e → u ≡ v → P) → (done_by core scope op.kind op.ty op.mem (map (word_at done) op.args) u ≡ went e v → P) → P
     unmasked {P} op done e u v h masked passed = by_mask (is_masked op.mask done) h
       where
@@ -197,7 +197,7 @@ module _ (core : PlainCore) (scope : Scope) where
     operation_keeps : (op : PlainOp) (done : List Entry) (e : Entry) (u v : Store) → operation core scope op done u ≡ went e v → is_allowed core op ≡ true →
         (m : ℕ) → steady m ≡ true → (list_any (changes m) all ≡ false → changes m op ≡ false) → v m ≡ u m
     operation_keeps op done e u v h allowed m s n =
-        unmasked op done e u v h (λ left same. ap (λ (x : Store). x m) (sym same)) (λ g. kind_keeps op.kind op.ty op.mem _ e u v g allowed m s n)
+        unmasked op done e u v h (λ left same. ap (λ (x : Store). x m) (sym same)) (λ g. kind_keeps op.kind op.ty op.mem _ e u v g (both _ _ allowed).0 m s n)
 
     -- a steady memory gives its word whatever the indices
     same_word : (kind : Kind) (m : ℕ) → is_steady kind all m ≡ true → (ds is : List ℕ) (c : Option Contents) → word_in kind ds is c ≡ word_in kind ds [] c
@@ -240,7 +240,7 @@ module _ (core : PlainCore) (scope : Scope) where
           let f = first_step core scope done op later u es t h in
           let allow = both (is_allowed core op) _ allowed in
           let here = stands core scope done op later u es t h in
-          let read = unmasked op done f.entry u f.next f.here (λ left same. masked_read op.kind op.mem f.entry left) (λ g. is_read op.kind op.mem op.ty _ f.entry u f.next g allow.0 stays) in
+          let read = unmasked op done f.entry u f.next f.here (λ left same. masked_read op.kind op.mem f.entry left) (λ g. is_read op.kind op.mem op.ty _ f.entry u f.next g (both _ _ allow.0).0 stays) in
           let after = λ (m : ℕ) (is : steady m ≡ true). operation_keeps op done f.entry u f.next f.here allow.0 m is (λ away. (neither (changes m op) _ (part m away)).0) ∙ stays m is in
           let others = λ (m : ℕ) (away : list_any (changes m) all ≡ false). (neither (changes m op) _ (part m away)).1 in (
             subst (λ (x : Entry). IsRead core all (symbol_in core forms s) op.kind op.mem x) (sym here) read,

@@ -1,18 +1,21 @@
 -- The values of counters and symbols where a list of operations runs, and when a word is what a form comes to.
-use Rattle.std.specs.Prelude.{◌≡◌, ℕ, suc, ◌^◌, Bool, true, false, ℤ, pos, neg_ℤ, ◌≤ℤ◌, List, [], ◌∷◌, Option, Some, None, IfSome, slice_index_or, nat_lt, ◌&&◌, length}
-use Rattle.std.specs.List.{AllZip}
+use Rattle.std.specs.Prelude.{◌≡◌, ℕ, suc, ◌^◌, Bool, true, false, ℤ, pos, neg_ℤ, ◌≤ℤ◌, List, [], ◌∷◌, Option, Some, None, IfSome, slice_index_or, nat_lt, nat_le, ◌==◌, ◌&&◌, length}
+use Rattle.std.specs.List.{AllZip, list_all}
+use Rattle.sp_words.specs.declared.types.Ty.{Ty}
 use Rattle.sp_words.specs.Types.{int_type}
 use Rattle.sp_words.specs.Words.{wrap}
 use Rattle.sp_affine.specs.Affine.{Affine, value_of}
 use Rattle.sp_core.specs.declared.operation.OpKind.{OpKind}
-use Rattle.sp_core.specs.declared.operation.OpKind.TheVariants.{Read}
-use Rattle.sp_core.specs.Declarations.{mem}
+use Rattle.sp_core.specs.declared.operation.OpKind.TheVariants.{Read, Write}
+use Rattle.sp_core.specs.Declarations.{mem, dims}
 use Rattle.sp_core.specs.Elements.{index_value}
 use Rattle.sp_core.specs.History.{Entry, left_out, word_of}
 use Rattle.sp_core.specs.OperationRules.{can}
 use Rattle.sp_core.specs.PlainCore.{PlainOp, PlainCore}
+use Rattle.sp_core.specs.Typed.{is_type}
 use Rattle.sp_core.specs.Scope.{InGroup, Scope}
 use Rattle.sp_patterns.specs.declared.place.CounterPlace.{CounterPlace}
+use Rattle.sp_patterns.specs.Indices.{indices_at}
 use Rattle.sp_patterns.specs.Forms.{is_around, is_steady, is_masked_alike}
 
 -- a counter has in a scope this value, and goes on by so much from lane to lane
@@ -57,8 +60,13 @@ abbrev pub is_allowed_at : PlainCore → OpKind → Option ℕ → Bool
 is_allowed_at core kind None = true
 is_allowed_at core kind (Some m) = nat_lt m (length core.mems) && can kind (mem core m).kind (mem core m).start
 
+-- and is of the memory's type
+abbrev pub is_typed : PlainCore → Ty → Option ℕ → Bool
+is_typed core ty None = true
+is_typed core ty (Some m) = is_type ty (mem core m).ty
+
 abbrev pub is_allowed : PlainCore → PlainOp → Bool
-is_allowed core op = is_allowed_at core op.kind op.mem
+is_allowed core op = is_allowed_at core op.kind op.mem && is_typed core op.ty op.mem
 
 -- a number of `Int`
 abbrev pub IsInt : ℤ → Type 0
@@ -73,3 +81,23 @@ abbrev pub AreInRanges : (coefs : List ℤ) → List (Option (ℤ × ℤ)) → (
 AreInRanges [] [] [] = Unit {0}
 AreInRanges (c ∷ coefs) (r ∷ ranges) (v ∷ values) = IsInRange r v × IsInt v × AreInRanges coefs ranges values
 AreInRanges _ _ _ = ⊥
+
+-- a range and a value for each counter
+abbrev pub AreValues : List (Option (ℤ × ℤ)) → (values : List ℤ) → Type 0
+AreValues [] [] = Unit {0}
+AreValues (r ∷ ranges) (v ∷ values) = IsInRange r v × IsInt v × AreValues ranges values
+AreValues _ _ = ⊥
+
+-- a read takes as many words as its memory has indices, a write one more
+abbrev pub takes : OpKind → (args indices : ℕ) → Bool
+takes Read n i = n == i
+takes Write n i = n == suc i
+takes kind n i = true
+
+-- what an access after some operations of its list keeps: its operands are earlier ones, as many as its memory asks, and no
+-- dimension of the memory is greater than 2^26
+pub record IsOrderly (core : PlainCore) (before : List PlainOp) (op : PlainOp) (memory : ℕ) : Type 0 where
+  pub names : op.mem ≡ Some memory
+  pub earlier : list_all (λ a. nat_lt a (length before)) op.args ≡ true
+  pub taken : takes op.kind (length op.args) (indices_at core.mems op.mem) ≡ true
+  pub small : list_all (λ d. nat_le d (2 ^ 26)) (dims core memory) ≡ true
