@@ -1,21 +1,22 @@
 -- The indices at which an access touches its memory are its forms.
-use Rattle.std.proofs.Common.{◌≡◌, ℕ, zero, suc, ◌-◌, ◌^◌, ◌<◌, ◌≤◌, Bool, true, false, ◌&&◌, ℤ, pos, negsuc, ◌≤ℤ◌, List, [], ◌∷◌, ◌++◌, length, map, take, refl, ap, sym, ◌∙◌, subst, arith, append_assoc, zero-add}
+use Rattle.std.proofs.Common.{◌≡◌, ℕ, zero, suc, ◌-◌, ◌^◌, ◌<◌, ◌≤◌, Bool, true, false, ◌&&◌, ℤ, pos, negsuc, ◌≤ℤ◌, List, [], ◌∷◌, ◌++◌, length, map, take, refl, ap, sym, ◌∙◌, subst, arith, append_assoc, zero-add, ◌||◌, ◌+ℤ◌}
 use Rattle.std.specs.Prelude.{Option, Some, None, IfSome, nat_lt, nat_le, slice_index_or, if◌then◌else◌}
-use Rattle.std.specs.List.{list_all}
+use Rattle.std.specs.List.{list_all, list_any}
 use Rattle.std.specs.Ordering.{int_eq}
 use Rattle.std.proofs.lemmas.Int.{ints}
 use Rattle.std.proofs.lemmas.Bool.Decides.{Decides-int_eq, Decides-eqb, Decides-ltb}
 use Rattle.sp_words.specs.declared.kind.Kind.{Kind}
 use Rattle.sp_words.specs.declared.kind.Kind.TheVariants.{Reg, Sram, Fifo, LineBuf, Dram, ArgIn, ArgOut}
 use Rattle.sp_words.specs.declared.types.Ty.{Ty}
+use Rattle.sp_words.specs.Memory.{Contents}
 use Rattle.sp_words.specs.Types.{int_type}
-use Rattle.sp_affine.specs.Affine.{Affine, value_of, symbol_value}
+use Rattle.sp_affine.specs.Affine.{Affine, value_of, symbol_value, dot}
 use Rattle.sp_core.specs.declared.operation.OpKind.{OpKind}
 use Rattle.sp_core.specs.declared.operation.OpKind.TheVariants.{Read, Write, Enq, Deq, Reset}
-use Rattle.sp_core.specs.Accesses.{read_in, write_in, inside}
-use Rattle.sp_core.specs.Declarations.{mem, dims}
+use Rattle.sp_core.specs.Accesses.{read_in, write_in, inside, word_in}
+use Rattle.sp_core.specs.Declarations.{mem, dims, kind_of}
 use Rattle.sp_core.specs.Elements.{index_value, natural, is_below, are_inside}
-use Rattle.sp_core.specs.Forms.{PlainForms, symbol_in, are_indices, are_known_indices}
+use Rattle.sp_core.specs.Forms.{PlainForms, symbol_in, are_indices, are_known_indices, held_word}
 use Rattle.sp_core.specs.History.{Entry, left_out, touched, word_of, word_at}
 use Rattle.sp_core.specs.OperationRules.{can, is_fifo}
 use Rattle.sp_core.specs.Operations.{access, done_by, operation}
@@ -25,15 +26,16 @@ use Rattle.sp_core.specs.Sequential.{has_reset}
 use Rattle.sp_core.specs.Step.{went}
 use Rattle.sp_core.specs.Store.{Store}
 use Rattle.sp_core.specs.Typed.{rank_of, is_type}
-use Rattle.sp_patterns.specs.Forms.{forms_of}
+use Rattle.sp_patterns.specs.Forms.{forms_of, changes}
 use Rattle.sp_patterns.specs.Indices.{is_index, index_form, known_after, indices_at, access_forms}
 use Rattle.sp_patterns.specs.Ranges.{PlainAround}
 use Rattle.sp_hold.specs.Laws.{IsIndexItsForm, AreFormsIndices}
-use Rattle.sp_hold.specs.Values.{IsInt, AreInRanges, AreValues, takes, is_allowed, is_allowed_at}
+use Rattle.sp_hold.specs.Values.{IsInt, AreInRanges, AreValues, takes, is_allowed, is_allowed_at, did, IsLike}
 use Rattle.sp_hold.proofs.Likeness.{Kept}
 use Rattle.sp_hold.proofs.ListSteps.{at_place}
 use Rattle.sp_hold.proofs.ListWords.{IsSymbol, Fits, words_fit}
-use Rattle.sp_hold.proofs.Steady.{unmasked}
+use Rattle.sp_hold.proofs.Masks.{all_passed}
+use Rattle.sp_hold.proofs.Steady.{unmasked, steady_kept}
 use Rattle.sp_hold.proofs.Steps.{bound, was_pure, was_ensured, no_stop}
 
 both : (a b : Bool) → (a && b) ≡ true → (a ≡ true) × (b ≡ true)
@@ -269,21 +271,56 @@ allowed_there core (b ∷ before) op after h = allowed_there core before op afte
 did_nothing : {P : Type 0} (indices : List ℕ) (word : ℕ) → left_out ≡ touched indices word → P
 did_nothing indices word h = cc
 
+-- what holds of a list holds of its front
+all_front : {A : Type 0} (p : A → Bool) (xs ys : List A) → list_all p (xs ++ ys) ≡ true → list_all p xs ≡ true
+all_front p [] ys h = refl
+all_front p (x ∷ xs) ys h =
+    let b = both (p x) _ h in
+    ap (λ c. c && list_all p xs) b.0 ∙ all_front p xs ys b.1
+
+neither : (a b : Bool) → (a || b) ≡ false → (a ≡ false) × (b ≡ false)
+neither true b h = cc
+neither false b h = (refl, h)
+
+none_front : {A : Type 0} (p : A → Bool) (xs ys : List A) → list_any p (xs ++ ys) ≡ false → list_any p xs ≡ false
+none_front p [] ys h = refl
+none_front p (x ∷ xs) ys h =
+    let b = neither (p x) _ h in
+    ap (λ c. c || list_any p xs) b.0 ∙ none_front p xs ys b.1
+
+-- a form's value is the same where its symbol is
+fits_too : (core : PlainCore) (all : List PlainOp) (n : ℕ) (values : List ℤ) (one two : ℕ → ℤ) (r : Option Affine) (w : ℕ) → Fits core all n values one r w → ((m : ℕ) → IsSymbol core all m → one m ≡ two m) → Fits core all n values two r w
+fits_too core all n values one two None w h same = tt
+fits_too core all n values one two (Some f) w (counters, like, good) same = (counters, subst (IsLike w) (ap (λ z. (dot f.coefs values +ℤ f.constant) +ℤ z) (by_symbol f.symbol good)) like, good)
+  where
+    by_symbol : (o : Option ℕ) → IfSome o (IsSymbol core all) → symbol_value o one ≡ symbol_value o two
+    by_symbol None h = refl
+    by_symbol (Some m) h = same m h
+
+one_run : (es fs : List Entry) (s t : Store) → went es s ≡ went fs t → s ≡ t
+one_run es fs s t h = cc
+
 pub forms_are_indices : Kept → ((f : Affine) → IsIndexItsForm f) → (core : PlainCore) (around : PlainAround) (before : List PlainOp) (op : PlainOp) (after : List PlainOp) → AreFormsIndices core around before op after
-forms_are_indices kept index_is core around before op after forms scope values s t entries m indices word allowed h in_scope passed stands orderly lengths are_values are_int =
+forms_are_indices kept index_is core around before op after forms scope values s u t begun entries m indices word allowed g h in_scope masks stands orderly lengths are_values are_int =
+    let touched_it = ap did stands in
+    let passed = all_passed core scope before op after s entries t h masks touched_it in
     let at = at_place core scope before op after [] s entries t h in
     let place : length at.earlier ≡ length before = at.place ∙ zero-add (length before) in
+    let stores : at.from ≡ u = one_run at.earlier begun at.from u (sym at.reached ∙ g) in
+    let front = all_front (is_allowed core) before (op ∷ after) allowed in
+    let kept_words = λ (n : ℕ) (good : IsSymbol core (before ++ op ∷ after) n).
+    ap (λ (c : Option Contents). held_word core forms (word_in (kind_of core n) (dims core n) [] c)) (sym (steady_kept core scope (before ++ op ∷ after) before [] s begun u g front (λ k away. none_front (changes k) before (op ∷ after) away) n good.0)) in
     let is_entry : at.entry ≡ touched indices word = sym at.stands_there ∙ ap (λ k. slice_index_or entries k left_out) place ∙ stands in
     let here = subst (λ (e : Entry). operation core scope op at.earlier at.from ≡ went e at.to) is_entry at.here in
     let can_be = subst (λ (x : Option ℕ). is_allowed_at core op.kind x ≡ true) orderly.names (both _ _ (allowed_there core before op after allowed)).0 in
     let fits : (a : ℕ) → a < length before →
-    Fits core (before ++ op ∷ after) (length around.places) values (symbol_in core forms s) (slice_index_or (forms_of core.mems (before ++ op ∷ after) op.mask around.places) a None) (word_at at.earlier a) =
-    λ a less. moved core (before ++ op ∷ after) around (forms_of core.mems (before ++ op ∷ after) op.mask around.places) values (symbol_in core forms s) (word_at entries a) (word_at at.earlier a) a
+    Fits core (before ++ op ∷ after) (length around.places) values (symbol_in core forms u) (slice_index_or (forms_of core.mems (before ++ op ∷ after) op.mask around.places) a None) (word_at at.earlier a) =
+    λ a less. moved core (before ++ op ∷ after) around (forms_of core.mems (before ++ op ∷ after) op.mask around.places) values (symbol_in core forms u) (word_at entries a) (word_at at.earlier a) a
     (same_word entries at.earlier a (at.same a (earlier_too a (length before) (length at.earlier) place less)))
-    (words_fit kept core (before ++ op ∷ after) forms op.mask scope around.places values s t entries allowed h in_scope passed a) in
+    (fits_too core (before ++ op ∷ after) (length around.places) values (symbol_in core forms s) (symbol_in core forms u) _ _ (words_fit kept core (before ++ op ∷ after) forms op.mask scope around.places values s t entries allowed h in_scope passed a) kept_words) in
     unmasked core scope (before ++ op ∷ after) op at.earlier (touched indices word) at.from at.to here
     (λ left same. did_nothing indices word left)
-    (λ g. finish at.earlier at.from at.to (subst (λ (x : Option ℕ). done_by core scope op.kind op.ty x (map (word_at at.earlier) op.args) at.from ≡ went (touched indices word) at.to) orderly.names g) (both _ _ can_be).1 fits)
+    (λ d. finish at.earlier at.from at.to (subst (λ (x : Option ℕ). done_by core scope op.kind op.ty x (map (word_at at.earlier) op.args) at.from ≡ went (touched indices word) at.to) orderly.names d) (both _ _ can_be).1 fits)
   where
     earlier_too : (a n k : ℕ) → k ≡ n → a < n → a < k
     earlier_too a n k e h = omega arith
@@ -298,10 +335,10 @@ forms_are_indices kept index_is core around before op after forms scope values s
 
     finish : (earlier : List Entry) (from to : Store) → done_by core scope op.kind op.ty (Some m) (map (word_at earlier) op.args) from ≡ went (touched indices word) to → can op.kind (mem core m).kind (mem core m).start ≡ true →
         ((a : ℕ) → a < length before →
-        Fits core (before ++ op ∷ after) (length around.places) values (symbol_in core forms s) (slice_index_or (forms_of core.mems (before ++ op ∷ after) op.mask around.places) a None) (word_at earlier a)) →
-        are_known_indices core forms (access_forms core.mems around (before ++ op ∷ after) op) (map pos indices) values (symbol_in core forms s) ≡ true
+        Fits core (before ++ op ∷ after) (length around.places) values (symbol_in core forms u) (slice_index_or (forms_of core.mems (before ++ op ∷ after) op.mask around.places) a None) (word_at earlier a)) →
+        are_known_indices core forms (access_forms core.mems around (before ++ op ∷ after) op) (map pos indices) values (symbol_in core forms u) ≡ true
     finish earlier from to done can_be fits =
-        let symbols = symbol_in core forms s in
+        let symbols = symbol_in core forms u in
         let rs = forms_of core.mems (before ++ op ∷ after) op.mask around.places in
         let n = indices_at core.mems (Some m) in
         let count : indices_at core.mems op.mem ≡ n = ap (indices_at core.mems) orderly.names in

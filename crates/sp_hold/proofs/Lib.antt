@@ -5,6 +5,7 @@ pub mod IndexLemmas
 pub mod Likeness
 pub mod ListSteps
 pub mod ListWords
+pub mod Masks
 pub mod Products
 pub mod Steady
 pub mod Steps

@@ -32,6 +32,10 @@ module _ (core : PlainCore) (scope : Scope) where
   unfolding operations_after pure
   at_end done s es t h = cc
 
+  pub end_store : (done : List Entry) (s : Store) (es : List Entry) (t : Store) → operations_after core scope done [] s ≡ went es t → s ≡ t
+  unfolding operations_after pure
+  end_store done s es t h = cc
+
   pub longer : (done : List Entry) (e : Entry) → length (done ++ e ∷ []) ≡ suc (length done)
   longer [] e = refl
   longer (d ∷ done) e = ap suc (longer done e)
@@ -51,24 +55,33 @@ module _ (core : PlainCore) (scope : Scope) where
       let longer_one = longer done f.entry in
       stays later (done ++ f.entry ∷ []) f.next es t f.rest (length done) (omega arith) ∙ get_or-append_seam done f.entry [] left_out
 
+  at_start : (done : List Entry) (s : Store) → operations_after core scope done [] s ≡ went done s
+  unfolding operations_after pure
+  at_start done s = refl
+
+  after_first : (done : List Entry) (op : PlainOp) (later : List PlainOp) (s : Store) (e : Entry) (u : Store) → operation core scope op done s ≡ went e u → operations_after core scope done (op ∷ later) s ≡ operations_after core scope (done ++ e ∷ []) later u
+  unfolding operations_after ◌>>=◌
+  after_first done op later s e u h = ap (λ (r : Went Entry). elim r as (λ x. Went (List Entry)) [ went a v ↦ operations_after core scope (done ++ a ∷ []) later v | stopped ↦ stopped | more ↦ more ]) h
+
   -- an operation after some of a list
-  pub record At (before : List PlainOp) (op : PlainOp) (done : List Entry) (es : List Entry) : Type 0 where
+  pub record At (before : List PlainOp) (op : PlainOp) (done : List Entry) (begun : Store) (es : List Entry) : Type 0 where
     pub earlier : List Entry
     pub from : Store
     pub entry : Entry
     pub to : Store
     pub here : operation core scope op earlier from ≡ went entry to
+    pub reached : operations_after core scope done before begun ≡ went earlier from
     pub place : length earlier ≡ length done + length before
     pub stands_there : slice_index_or es (length earlier) left_out ≡ entry
     pub same : (k : ℕ) → k < length earlier → slice_index_or es k left_out ≡ slice_index_or earlier k left_out
 
-  pub at_place : (before : List PlainOp) (op : PlainOp) (after : List PlainOp) (done : List Entry) (s : Store) (es : List Entry) (t : Store) → operations_after core scope done (before ++ op ∷ after) s ≡ went es t → At before op done es
+  pub at_place : (before : List PlainOp) (op : PlainOp) (after : List PlainOp) (done : List Entry) (s : Store) (es : List Entry) (t : Store) → operations_after core scope done (before ++ op ∷ after) s ≡ went es t → At before op done s es
   at_place [] op after done s es t h =
       let f = first_step done op after s es t h in
-      record { earlier = done; from = s; entry = f.entry; to = f.next; here = f.here; place = omega arith; stands_there = stands done op after s es t h; same = stays (op ∷ after) done s es t h }
+      record { earlier = done; from = s; entry = f.entry; to = f.next; here = f.here; reached = at_start done s; place = omega arith; stands_there = stands done op after s es t h; same = stays (op ∷ after) done s es t h }
   at_place (b ∷ before) op after done s es t h =
       let f = first_step done b (before ++ op ∷ after) s es t h in
       let r = at_place before op after (done ++ f.entry ∷ []) f.next es t f.rest in
       let longer_one = longer done f.entry in
       let placed = r.place in
-      record { earlier = r.earlier; from = r.from; entry = r.entry; to = r.to; here = r.here; place = omega arith; stands_there = r.stands_there; same = r.same }
+      record { earlier = r.earlier; from = r.from; entry = r.entry; to = r.to; here = r.here; reached = after_first done b before s f.entry f.next f.here ∙ r.reached; place = omega arith; stands_there = r.stands_there; same = r.same }

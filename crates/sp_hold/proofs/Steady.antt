@@ -22,7 +22,7 @@ use Rattle.sp_core.specs.Step.{Went, went, pure}
 use Rattle.sp_core.specs.Store.{Store, hold}
 use Rattle.sp_patterns.specs.Forms.{is_change, is_memory, changes, is_steady}
 use Rattle.sp_hold.specs.Values.{IsRead, AreRead, IsLike, did, is_allowed, is_allowed_at}
-use Rattle.sp_hold.proofs.ListSteps.{first_step, longer, stands}
+use Rattle.sp_hold.proofs.ListSteps.{end_store, first_step, longer, stands}
 use Rattle.sp_hold.proofs.Steps.{bound, was_pure, was_looked, was_changed, was_ensured, no_stop}
 
 both : (a b : Bool) → (a && b) ≡ true → (a ≡ true) × (b ≡ true)
@@ -198,6 +198,15 @@ module _ (core : PlainCore) (scope : Scope) where
         (m : ℕ) → steady m ≡ true → (list_any (changes m) all ≡ false → changes m op ≡ false) → v m ≡ u m
     operation_keeps op done e u v h allowed m s n =
         unmasked op done e u v h (λ left same. ap (λ (x : Store). x m) (sym same)) (λ g. kind_keeps op.kind op.ty op.mem _ e u v g (both _ _ allowed).0 m s n)
+
+    pub steady_kept : (later : List PlainOp) (done : List Entry) (u : Store) (es : List Entry) (t : Store) → operations_after core scope done later u ≡ went es t → list_all (is_allowed core) later ≡ true →
+        ((m : ℕ) → list_any (changes m) all ≡ false → list_any (changes m) later ≡ false) → (m : ℕ) → steady m ≡ true → t m ≡ u m
+    steady_kept [] done u es t h allowed part m is = ap (λ (x : Store). x m) (sym (end_store core scope done u es t h))
+    steady_kept (op ∷ later) done u es t h allowed part m is =
+        let f = first_step core scope done op later u es t h in
+        let allow = both (is_allowed core op) _ allowed in
+        steady_kept later (done ++ f.entry ∷ []) f.next es t f.rest allow.1 (λ n away. (neither (changes n op) _ (part n away)).1) m is
+        ∙ operation_keeps op done f.entry u f.next f.here allow.0 m is (λ away. (neither (changes m op) _ (part m away)).0)
 
     -- a steady memory gives its word whatever the indices
     same_word : (kind : Kind) (m : ℕ) → is_steady kind all m ≡ true → (ds is : List ℕ) (c : Option Contents) → word_in kind ds is c ≡ word_in kind ds [] c

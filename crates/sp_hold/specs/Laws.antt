@@ -17,7 +17,7 @@ use Rattle.sp_patterns.specs.declared.place.CounterPlace.{CounterPlace}
 use Rattle.sp_patterns.specs.Forms.{forms_of}
 use Rattle.sp_patterns.specs.Indices.{is_index, access_forms}
 use Rattle.sp_patterns.specs.Ranges.{PlainAround}
-use Rattle.sp_hold.specs.Values.{AreInScope, AreLike, ArePassed, is_allowed, IsLike, IsInt, AreInRanges, AreValues, IsOrderly}
+use Rattle.sp_hold.specs.Values.{AreInScope, AreLike, ArePassed, are_masks_earlier, is_allowed, IsLike, IsInt, AreInRanges, AreValues, IsOrderly}
 
 -- in a run of a list each operation that has a form gives a word like the form's value: at the counters' values and at the
 -- words that stand in memories as the run begins
@@ -35,11 +35,12 @@ IsIndexItsForm f =
     pos 0 ≤ℤ index_value word → index_value word ≤ℤ pos (2 ^ 26) → IsLike word (value_of f values symbols) →
     index_value word ≡ value_of f values symbols
 
--- in a run of a list the forms of an access's indices, where all are known, are the indices at which it touches its memory
+-- in a run of a list the forms of an access's indices, where all are known, are the indices at which it touches its memory:
+-- at the counters' values and at the words that stand in memories just before it
 abbrev pub AreFormsIndices : PlainCore → PlainAround → (before : List PlainOp) → PlainOp → (after : List PlainOp) → Type 0
 AreFormsIndices core around before op after =
-    (forms : PlainForms) (scope : Scope) (values : List ℤ) (s t : Store) (entries : List Entry) (memory : ℕ) (indices : List ℕ) (word : ℕ) →
-    list_all (is_allowed core) (before ++ op ∷ after) ≡ true → operations core scope (before ++ op ∷ after) s ≡ went entries t → AreInScope scope around.places values →
-    ArePassed op.mask 0 (before ++ op ∷ after) entries → slice_index_or entries (length before) left_out ≡ touched indices word → IsOrderly core before op memory →
-    length around.ranges ≡ length around.places → AreValues around.ranges values → ((m : ℕ) → is_type int_type (mem core m).ty ≡ true → IsInt (symbol_in core forms s m)) →
-    are_known_indices core forms (access_forms core.mems around (before ++ op ∷ after) op) (map pos indices) values (symbol_in core forms s) ≡ true
+    (forms : PlainForms) (scope : Scope) (values : List ℤ) (s u t : Store) (first entries : List Entry) (memory : ℕ) (indices : List ℕ) (word : ℕ) →
+    list_all (is_allowed core) (before ++ op ∷ after) ≡ true → operations core scope before s ≡ went first u → operations core scope (before ++ op ∷ after) s ≡ went entries t →
+    AreInScope scope around.places values → are_masks_earlier 0 (before ++ op ∷ after) ≡ true → slice_index_or entries (length before) left_out ≡ touched indices word → IsOrderly core before op memory →
+    length around.ranges ≡ length around.places → AreValues around.ranges values → ((m : ℕ) → is_type int_type (mem core m).ty ≡ true → IsInt (symbol_in core forms u m)) →
+    are_known_indices core forms (access_forms core.mems around (before ++ op ∷ after) op) (map pos indices) values (symbol_in core forms u) ≡ true

@@ -46,6 +46,15 @@ abbrev pub ArePassed : (mask : Option ℕ) → (place : ℕ) → List PlainOp �
 ArePassed mask k [] entries = Unit {0}
 ArePassed mask k (op ∷ ops) entries = (is_masked_alike op.mask mask ≡ true → did (slice_index_or entries k left_out) ≡ true) × ArePassed mask (suc k) ops entries
 
+-- masks are earlier operations of their list
+abbrev pub is_earlier : Option ℕ → (place : ℕ) → Bool
+is_earlier None k = true
+is_earlier (Some m) k = nat_lt m k
+
+abbrev pub are_masks_earlier : (place : ℕ) → List PlainOp → Bool
+are_masks_earlier k [] = true
+are_masks_earlier k (op ∷ ops) = is_earlier op.mask k && are_masks_earlier (suc k) ops
+
 -- a word that is read from a memory that the list doesn't change is the memory's symbol
 abbrev pub IsRead : PlainCore → (all : List PlainOp) → (symbols : ℕ → ℤ) → OpKind → Option ℕ → Entry → Type 0
 IsRead core all symbols Read (Some m) e = is_steady (mem core m).kind all m ≡ true → did e ≡ true → IsLike (word_of e) (symbols m)
