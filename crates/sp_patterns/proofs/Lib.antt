@@ -1,1 +1,5 @@
+pub mod Held
+pub mod Symbols
+pub mod Trees
 pub mod Values
+pub mod WalkLemmas

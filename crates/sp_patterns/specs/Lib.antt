@@ -1,1 +1,4 @@
 pub mod Forms
+pub mod Indices
+pub mod Patterns
+pub mod Ranges

@@ -2,8 +2,7 @@
 ghost use Rattle.std.specs.Prelude.{◌≡◌, length, pos, IfOk, IfSome};
 ghost use Rattle.std.specs.List.{list_all};
 ghost use Rattle.std.specs.Ordering.{int_eq};
-ghost use Rattle.sp_affine.specs.Combination.{sum_of, difference_of, multiple_of};
-ghost use Rattle.sp_patterns.specs.Forms.{IsResult, is_constant};
+ghost use Rattle.sp_patterns.specs.Forms.{sum_form, difference_form, multiple_form, is_constant};
 
 use sp_affine::{Form, FormError, add, minus, scale};
 use std::alloc::{AllocError, Global};
@@ -11,7 +10,7 @@ use std::alloc::{AllocError, Global};
 /// The sum of two forms.
 pub fn sum(alloc: Global, a: &Form, b: &Form) -> Result<Option<Form>, AllocError>
     requires { length a.now.coefs ≡ length b.now.coefs }
-    ensures form { IfOk result (λ r. IsResult (sum_of a.now b.now) r) }
+    ensures form { IfOk result (λ r. r ≡ sum_form a.now b.now) }
     ensures counters { IfOk result (λ r. IfSome r (λ f. length f.coefs ≡ length a.now.coefs)) }
 {
     match add(alloc, a, b) {
@@ -25,7 +24,7 @@ pub fn sum(alloc: Global, a: &Form, b: &Form) -> Result<Option<Form>, AllocError
 /// The difference of two forms.
 pub fn difference(alloc: Global, a: &Form, b: &Form) -> Result<Option<Form>, AllocError>
     requires { length a.now.coefs ≡ length b.now.coefs }
-    ensures form { IfOk result (λ r. IsResult (difference_of a.now b.now) r) }
+    ensures form { IfOk result (λ r. r ≡ difference_form a.now b.now) }
     ensures counters { IfOk result (λ r. IfSome r (λ f. length f.coefs ≡ length a.now.coefs)) }
 {
     match minus(alloc, a, b) {
@@ -38,7 +37,7 @@ pub fn difference(alloc: Global, a: &Form, b: &Form) -> Result<Option<Form>, All
 
 /// A form times a number.
 pub fn multiple(alloc: Global, a: &Form, by: i64) -> Result<Option<Form>, AllocError>
-    ensures form { IfOk result (λ r. IsResult (multiple_of a.now by) r) }
+    ensures form { IfOk result (λ r. r ≡ multiple_form a.now by) }
     ensures counters { IfOk result (λ r. IfSome r (λ f. length f.coefs ≡ length a.now.coefs)) }
 {
     match scale(alloc, a, by) {

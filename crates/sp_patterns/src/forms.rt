@@ -2,7 +2,7 @@
 ghost use Rattle.std.specs.Prelude.{◌≡◌, length, map, IfOk, IfSome};
 ghost use Rattle.sp_core.specs.Plain.{plain_op, plain_ops, plain_mem};
 ghost use Rattle.sp_core.specs.Typed.{is_type};
-ghost use Rattle.sp_patterns.specs.Forms.{HaveCounters, is_masked_alike, IsFormOf, AreForms};
+ghost use Rattle.sp_patterns.specs.Forms.{HaveCounters, is_masked_alike, form_of, forms_of};
 
 use crate::leaves::{counter, literal, symbol};
 use crate::operands::{difference_of_operands, opposite_of, product_of_operands, sum_of_operands};
@@ -22,7 +22,7 @@ pub fn forms_of(
     mask: Option<u32>,
     places: &[CounterPlace],
 ) -> Result<Vec<Option<Form>>, AllocError>
-    ensures forms { IfOk result (λ v. AreForms (map plain_mem mems.now) (plain_ops ops.now) mask places.now (plain_ops ops.now) v.items) }
+    ensures forms { IfOk result (λ v. v.items ≡ forms_of (map plain_mem mems.now) (plain_ops ops.now) mask places.now) }
     ensures counters { IfOk result (λ v. HaveCounters (length places.now) v.items) }
 {
     let mut forms = Vec::with_capacity(alloc, ops.len())?;
@@ -43,7 +43,7 @@ fn form_of(
     done: &[Option<Form>],
 ) -> Result<Option<Form>, AllocError>
     requires { HaveCounters (length places.now) done.now }
-    ensures form { IfOk result (λ r. IsFormOf (map plain_mem mems.now) (plain_ops ops.now) mask places.now (plain_op op.now) done.now r) }
+    ensures form { IfOk result (λ r. r ≡ form_of (map plain_mem mems.now) (plain_ops ops.now) mask places.now (plain_op op.now) done.now) }
     ensures counters { IfOk result (λ r. IfSome r (λ f. length f.coefs ≡ length places.now)) }
 {
     if !(is_type(op.ty, Ty::int()) && is_masked_alike(op.mask, mask)) {

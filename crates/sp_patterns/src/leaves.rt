@@ -1,13 +1,10 @@
 //! The forms of operations that have no operands.
-ghost use Rattle.std.specs.Prelude.{◌≡◌, ◌*◌, ℕ, ℤ, length, map, pos, IfOk, IfSome, IsSome, MatchOption, FitsSigned, slice_index_or, if◌then◌else◌, ◌==◌};
-ghost use Rattle.std.specs.Int.{w64};
-ghost use Rattle.std.specs.List.{list_any};
+ghost use Rattle.std.specs.Prelude.{◌≡◌, ◌*◌, length, map, pos, IfOk, IfSome, MatchOption, slice_index_or, if◌then◌else◌, Some, None, IsTrue, false};
 ghost use Rattle.sp_words.specs.Types.{int_type};
 ghost use Rattle.sp_words.specs.Words.{value_of};
 ghost use Rattle.sp_core.specs.Plain.{plain_ops, plain_mem};
 ghost use Rattle.sp_core.specs.PlainCore.{no_mem};
-ghost use Rattle.sp_patterns.specs.declared.place.CounterPlace.{CounterPlace};
-ghost use Rattle.sp_patterns.specs.Forms.{no_counters, constant_form, counter_form, is_around, lane_step, IsResult, IsSymbol, IsCounter};
+ghost use Rattle.sp_patterns.specs.Forms.{no_counters, fits, constant_form, counter_form, read_form, is_around, nearest_coefs, lane_step};
 
 use crate::memory::is_steady;
 use crate::place::CounterPlace;
@@ -18,7 +15,7 @@ use std::alloc::{AllocError, Global};
 
 /// The form of a word of `Int`.
 pub fn literal(alloc: Global, places: &[CounterPlace], w: u64) -> Result<Option<Form>, AllocError>
-    ensures form { IfOk result (λ r. IsResult (constant_form places.now (value_of int_type w)) r) }
+    ensures form { IfOk result (λ r. r ≡ constant_form places.now (value_of int_type w)) }
     ensures counters { IfOk result (λ r. IfSome r (λ f. length f.coefs ≡ length places.now)) }
 {
     let Some(constant) = narrow(&int_value(w)) else {
@@ -42,7 +39,7 @@ fn int_value(w: u64) -> i128
 }
 
 fn narrow(z: &i128) -> Option<i64>
-    ensures { MatchOption result (¬ FitsSigned w64 z.now) (λ x. x ≡ z.now) }
+    ensures { result ≡ (if fits z.now then Some z.now else None) }
 {
     i64::try_from(*z).ok()
 }
@@ -54,18 +51,18 @@ pub fn counter(
     c: u32,
     lane: u32,
 ) -> Result<Option<Form>, AllocError>
-    ensures form { IfOk result (λ r. IsCounter places.now c lane r) }
+    ensures form { IfOk result (λ r. r ≡ counter_form places.now c lane) }
     ensures counters { IfOk result (λ r. IfSome r (λ f. length f.coefs ≡ length places.now)) }
 {
     if !is_around(places, c) {
         return Ok(None);
     }
     let more = u64::from(lane) * u64::from(lane_step(places, c));
-    let Some(constant) = i64::try_from(more).ok() else {
+    let Some(constant) = narrow(&i128::from(more)) else {
         return Ok(None);
     };
     Ok(Some(Form {
-        coefs: ones(alloc, places, c)?,
+        coefs: nearest_coefs(alloc, places, c)?,
         constant,
         symbol: None,
     }))
@@ -86,7 +83,7 @@ fn lane_step(places: &[CounterPlace], c: u32) -> u32
     let [p, rest @ ..] = places else {
         return 0;
     };
-    if p.id == c {
+    if p.id == c && !is_around(rest, c) {
         p.lane_step
     } else {
         lane_step(rest, c)
@@ -99,14 +96,15 @@ fn zeros(alloc: Global, places: &[CounterPlace]) -> Result<Vec<i64>, AllocError>
     vec![in alloc; 0i64; places.len()]
 }
 
-fn ones(alloc: Global, places: &[CounterPlace], c: u32) -> Result<Vec<i64>, AllocError>
-    ensures { IfOk result (λ v. v.items ≡ map (λ (p : CounterPlace). if p.id == c then pos 1 else pos 0) places.now) }
+fn nearest_coefs(alloc: Global, places: &[CounterPlace], c: u32) -> Result<Vec<i64>, AllocError>
+    ensures { IfOk result (λ v. v.items ≡ nearest_coefs places.now c) }
 {
-    let mut made = Vec::with_capacity(alloc, places.len())?;
-    for p in places {
-        made.push(if p.id == c { 1 } else { 0 })?;
+    let mut coefs = Vec::with_capacity(alloc, places.len())?;
+    for (i, p) in places.iter().enumerate() {
+        let is_nearest = p.id == c && !is_around(&places[i + 1..], c);
+        coefs.push(i64::from(is_nearest))?;
     }
-    Ok(made)
+    Ok(coefs)
 }
 
 /// The form of a word that is read from a memory.
@@ -117,7 +115,7 @@ pub fn symbol(
     places: &[CounterPlace],
     mem: Option<u32>,
 ) -> Result<Option<Form>, AllocError>
-    ensures form { IfOk result (λ r. IsSymbol (map plain_mem mems.now) (plain_ops ops.now) places.now mem r) }
+    ensures form { IfOk result (λ r. r ≡ read_form (map plain_mem mems.now) (plain_ops ops.now) places.now mem) }
     ensures counters { IfOk result (λ r. IfSome r (λ f. length f.coefs ≡ length places.now)) }
 {
     let Some(m) = mem else {

@@ -1,7 +1,6 @@
 //! The forms of operations on the words of earlier ones.
-ghost use Rattle.std.specs.Prelude.{◌≡◌, length, IfOk, IfSome, negsuc, option_map};
-ghost use Rattle.sp_affine.specs.Combination.{sum_of, difference_of, multiple_of};
-ghost use Rattle.sp_patterns.specs.Forms.{HaveCounters, operand, IsProduct, IsProductOf, IsResult, IsResultOfOne, IsResultOfTwo};
+ghost use Rattle.std.specs.Prelude.{◌≡◌, length, IfOk, IfSome, option_map, option_and_then};
+ghost use Rattle.sp_patterns.specs.Forms.{HaveCounters, operand, of_both, opposite_form, sum_form, difference_form, product_form, multiple_form};
 
 use crate::combine::{difference, is_constant, multiple, sum};
 use sp_affine::Form;
@@ -30,7 +29,7 @@ pub fn opposite_of(
     args: &[u32],
 ) -> Result<Option<Form>, AllocError>
     requires { HaveCounters counters done.now }
-    ensures form { IfOk result (λ r. IsResultOfOne (λ f. multiple_of f (negsuc 0)) (operand done.now args.now 0) r) }
+    ensures form { IfOk result (λ r. r ≡ option_and_then opposite_form (operand done.now args.now 0)) }
     ensures counters { IfOk result (λ r. IfSome r (λ f. length f.coefs ≡ counters)) }
 {
     match operand(counters, done, args, 0) {
@@ -47,7 +46,7 @@ pub fn sum_of_operands(
     args: &[u32],
 ) -> Result<Option<Form>, AllocError>
     requires { HaveCounters counters done.now }
-    ensures form { IfOk result (λ r. IsResultOfTwo sum_of (operand done.now args.now 0) (operand done.now args.now 1) r) }
+    ensures form { IfOk result (λ r. r ≡ of_both sum_form (operand done.now args.now 0) (operand done.now args.now 1)) }
     ensures counters { IfOk result (λ r. IfSome r (λ f. length f.coefs ≡ counters)) }
 {
     let Some(f) = operand(counters, done, args, 0) else {
@@ -67,7 +66,7 @@ pub fn difference_of_operands(
     args: &[u32],
 ) -> Result<Option<Form>, AllocError>
     requires { HaveCounters counters done.now }
-    ensures form { IfOk result (λ r. IsResultOfTwo difference_of (operand done.now args.now 0) (operand done.now args.now 1) r) }
+    ensures form { IfOk result (λ r. r ≡ of_both difference_form (operand done.now args.now 0) (operand done.now args.now 1)) }
     ensures counters { IfOk result (λ r. IfSome r (λ f. length f.coefs ≡ counters)) }
 {
     let Some(f) = operand(counters, done, args, 0) else {
@@ -87,7 +86,7 @@ pub fn product_of_operands(
     args: &[u32],
 ) -> Result<Option<Form>, AllocError>
     requires { HaveCounters counters done.now }
-    ensures form { IfOk result (λ r. IsProduct (operand done.now args.now 0) (operand done.now args.now 1) r) }
+    ensures form { IfOk result (λ r. r ≡ of_both product_form (operand done.now args.now 0) (operand done.now args.now 1)) }
     ensures counters { IfOk result (λ r. IfSome r (λ f. length f.coefs ≡ counters)) }
 {
     let Some(f) = operand(counters, done, args, 0) else {
@@ -101,7 +100,7 @@ pub fn product_of_operands(
 
 fn product(alloc: Global, f: &Form, g: &Form) -> Result<Option<Form>, AllocError>
     requires { length f.now.coefs ≡ length g.now.coefs }
-    ensures form { IfOk result (λ r. IsProductOf f.now g.now r) }
+    ensures form { IfOk result (λ r. r ≡ product_form f.now g.now) }
     ensures counters { IfOk result (λ r. IfSome r (λ h. length h.coefs ≡ length f.now.coefs)) }
 {
     if is_constant(f) {
@@ -114,7 +113,7 @@ fn product(alloc: Global, f: &Form, g: &Form) -> Result<Option<Form>, AllocError
 }
 
 fn multiple_by(alloc: Global, a: &Form, by: &Form) -> Result<Option<Form>, AllocError>
-    ensures form { IfOk result (λ r. IsResult (multiple_of a.now by.now.constant) r) }
+    ensures form { IfOk result (λ r. r ≡ multiple_form a.now by.now.constant) }
     ensures counters { IfOk result (λ r. IfSome r (λ f. length f.coefs ≡ length a.now.coefs)) }
 {
     multiple(alloc, a, by.constant)

@@ -1,8 +1,20 @@
-use Rattle.std.proofs.Common.{◌∙◌, ap, length}
+use Rattle.std.proofs.Common.{◌∙◌, ap, length, Err}
+use Rattle.sp_affine.specs.Combination.{sum_of}
+use Rattle.sp_patterns.specs.Forms.{sum_symbol}
+use Rattle.sp_patterns.proofs.Held.{is_held, none_by_width, none_by_symbols}
+use Rattle.sp_patterns.proofs.Symbols.{tells_sum}
 use Rattle.sp_patterns.proofs.Values.{length_sums}
 use Rattle.sp_patterns.proofs.combine.sum.Goals as goal
 
+pub returns-in-Ok-clause-form : goal.returns-in-Ok-clause-form
+returns-in-Ok-clause-form c = is_held (sum_symbol c.args.a.now.symbol c.args.b.now.symbol) (sum_of c.args.a.now c.args.b.now) c.in-Ok.f (tells_sum c.args.a.now.symbol c.args.b.now.symbol) c.in-Ok.ensures.form c.in-Ok.ensures.narrow
+
+pub returns-in-Err-Wide-clause-form : goal.returns-in-Err-Wide-clause-form
+returns-in-Err-Wide-clause-form c = none_by_width (sum_symbol c.args.a.now.symbol c.args.b.now.symbol) (sum_of c.args.a.now c.args.b.now) (c.in-Err-Wide.ensures.wide.0 (ap Err c.in-Err-Wide.field-0-is))
+
+pub returns-in-Err-Symbols-clause-form : goal.returns-in-Err-Symbols-clause-form
+returns-in-Err-Symbols-clause-form c =
+    none_by_symbols (sum_symbol c.args.a.now.symbol c.args.b.now.symbol) (sum_of c.args.a.now c.args.b.now) (tells_sum c.args.a.now.symbol c.args.b.now.symbol) (c.in-Err-Symbols.ensures.symbols.0 (ap Err c.in-Err-Symbols.field-0-is)).1
+
 pub returns-in-Ok-clause-counters : goal.returns-in-Ok-clause-counters
-returns-in-Ok-clause-counters c =
-    let equal = rw c.in-Ok.is at c.add.ensures.form in
-    ap length equal.coefs ∙ length_sums c.args.a.now.coefs c.args.b.now.coefs c.requires
+returns-in-Ok-clause-counters c = ap length c.in-Ok.ensures.form.coefs ∙ length_sums c.args.a.now.coefs c.args.b.now.coefs c.requires

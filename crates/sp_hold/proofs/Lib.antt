@@ -1,0 +1,11 @@
+pub mod AccessIndices
+pub mod Counters
+pub mod FormValues
+pub mod IndexLemmas
+pub mod Likeness
+pub mod ListSteps
+pub mod ListWords
+pub mod Masks
+pub mod Products
+pub mod Steady
+pub mod Steps
