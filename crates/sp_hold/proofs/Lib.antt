@@ -1,5 +1,6 @@
 pub mod AccessIndices
 pub mod Counters
+pub mod Entries
 pub mod FormValues
 pub mod IndexLemmas
 pub mod Likeness

@@ -7,6 +7,7 @@ use Rattle.sp_core.specs.Declarations.{mem}
 use Rattle.sp_core.specs.Elements.{index_value}
 use Rattle.sp_core.specs.Forms.{PlainForms, symbol_in, are_known_indices}
 use Rattle.sp_core.specs.History.{Entry, left_out, touched}
+use Rattle.sp_core.specs.Numbered.{numbers, access_count, ranges_count}
 use Rattle.sp_core.specs.Operations.{operations}
 use Rattle.sp_core.specs.PlainCore.{PlainOp, PlainCore}
 use Rattle.sp_core.specs.Scope.{Scope}
@@ -16,6 +17,7 @@ use Rattle.sp_core.specs.Typed.{is_type}
 use Rattle.sp_patterns.specs.declared.place.CounterPlace.{CounterPlace}
 use Rattle.sp_patterns.specs.Forms.{forms_of}
 use Rattle.sp_patterns.specs.Indices.{is_index, access_forms}
+use Rattle.sp_patterns.specs.Patterns.{patterns_of}
 use Rattle.sp_patterns.specs.Ranges.{PlainAround}
 use Rattle.sp_hold.specs.Values.{AreInScope, AreLike, ArePassed, are_masks_earlier, is_allowed, IsLike, IsInt, AreInRanges, AreValues, IsOrderly}
 
@@ -44,3 +46,8 @@ AreFormsIndices core around before op after =
     AreInScope scope around.places values → are_masks_earlier 0 (before ++ op ∷ after) ≡ true → slice_index_or entries (length before) left_out ≡ touched indices word → IsOrderly core before op memory →
     length around.ranges ≡ length around.places → AreValues around.ranges values → ((m : ℕ) → is_type int_type (mem core m).ty ≡ true → IsInt (symbol_in core forms u m)) →
     are_known_indices core forms (access_forms core.mems around (before ++ op ∷ after) op) (map pos indices) values (symbol_in core forms u) ≡ true
+
+-- the forms of a core have an entry for each access and each transfer, and a length for each range, as they are numbered
+pub record HasEntries (core : PlainCore) : Type 0 where
+  pub forms : length (patterns_of core).forms ≡ access_count (numbers core.root)
+  pub lengths : length (patterns_of core).lengths ≡ ranges_count (numbers core.root)

@@ -4,11 +4,16 @@ ghost use Rattle.std.specs.Prelude.{List};
 ghost use Rattle.sp_affine.specs.Affine.{Affine};
 ghost use Rattle.sp_core.specs.PlainCore.{PlainOp, PlainCore};
 ghost use Rattle.sp_patterns.specs.Ranges.{PlainAround};
-ghost use Rattle.sp_hold.specs.Laws.{AreWordsLikeForms, IsIndexItsForm, AreFormsIndices};
+ghost use Rattle.sp_hold.specs.Laws.{HasEntries, AreWordsLikeForms, IsIndexItsForm, AreFormsIndices};
 
 use sp_words::{
     divisions_leave_remainders, parts_make_the_type, values_are_a_range, wrapping_is_kept,
 };
+
+/// The forms of a core have an entry for each access and for each range.
+pub fn accesses_have_entries()
+    ensures { (core : PlainCore) → HasEntries core }
+{}
 
 /// The words of a list's operations are their forms' values modulo 2^32.
 pub fn words_are_like_forms()
