@@ -7,6 +7,7 @@ pub mod Likeness
 pub mod ListSteps
 pub mod ListWords
 pub mod Masks
+pub mod Orderly
 pub mod Products
 pub mod Steady
 pub mod Steps

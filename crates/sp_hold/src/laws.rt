@@ -2,6 +2,7 @@
 
 ghost use Rattle.std.specs.Prelude.{List};
 ghost use Rattle.sp_affine.specs.Affine.{Affine};
+ghost use Rattle.sp_core.specs.Around.{Around};
 ghost use Rattle.sp_core.specs.PlainCore.{PlainOp, PlainCore};
 ghost use Rattle.sp_patterns.specs.Ranges.{PlainAround};
 ghost use Rattle.sp_hold.specs.Laws.{HasEntries, AreWordsLikeForms, IsIndexItsForm, AreFormsIndices};
@@ -31,9 +32,9 @@ pub fn indices_are_their_forms()
     divisions_leave_remainders();
 }
 
-/// The forms of an access of a list, where they are known, are the indices at which it touches its memory.
+/// The forms of an access of a core's list, where they are known, are the indices at which it touches its memory.
 pub fn accesses_are_at_their_forms()
-    ensures { (core : PlainCore) (around : PlainAround) (before : List PlainOp) (op : PlainOp) (after : List PlainOp) → AreFormsIndices core around before op after }
+    ensures { (core : PlainCore) (outside : Around) (around : PlainAround) (before : List PlainOp) (op : PlainOp) (after : List PlainOp) → AreFormsIndices core outside around before op after }
 {
     wrapping_is_kept();
     values_are_a_range();
