@@ -9,5 +9,6 @@ pub mod ListWords
 pub mod Masks
 pub mod Orderly
 pub mod Products
+pub mod Scopes
 pub mod Steady
 pub mod Steps

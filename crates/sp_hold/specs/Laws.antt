@@ -7,13 +7,13 @@ use Rattle.sp_core.specs.Around.{Around}
 use Rattle.sp_core.specs.Declarations.{mem}
 use Rattle.sp_core.specs.Elements.{index_value}
 use Rattle.sp_core.specs.Forms.{PlainForms, symbol_in, are_known_indices}
-use Rattle.sp_core.specs.History.{Entry, left_out, touched}
+use Rattle.sp_core.specs.History.{Entry, left_out, touched, Bounds}
 use Rattle.sp_core.specs.Numbered.{numbers, access_count, ranges_count}
 use Rattle.sp_core.specs.MemoryRules.{are_memories_right}
 use Rattle.sp_core.specs.OperationRules.{are_operations_right}
 use Rattle.sp_core.specs.Operations.{operations}
-use Rattle.sp_core.specs.PlainCore.{PlainOp, PlainCore}
-use Rattle.sp_core.specs.Scope.{Scope}
+use Rattle.sp_core.specs.PlainCore.{PlainOp, PlainCore, PlainCounter}
+use Rattle.sp_core.specs.Scope.{Reading, loops_of, Scope, in_group}
 use Rattle.sp_core.specs.Step.{went}
 use Rattle.sp_core.specs.Store.{Store}
 use Rattle.sp_core.specs.Typed.{is_type}
@@ -21,7 +21,7 @@ use Rattle.sp_patterns.specs.declared.place.CounterPlace.{CounterPlace}
 use Rattle.sp_patterns.specs.Forms.{forms_of}
 use Rattle.sp_patterns.specs.Indices.{is_index, access_forms}
 use Rattle.sp_patterns.specs.Patterns.{patterns_of}
-use Rattle.sp_patterns.specs.Ranges.{PlainAround}
+use Rattle.sp_patterns.specs.Ranges.{PlainAround, places_in}
 use Rattle.sp_hold.specs.Values.{AreInScope, AreLike, ArePassed, is_allowed, IsLike, IsInt, AreInRanges, AreValues}
 
 -- in a run of a list each operation that has a form gives a word like the form's value: at the counters' values and at the
@@ -54,3 +54,10 @@ AreFormsIndices core outside around before op after =
 pub record HasEntries (core : PlainCore) : Type 0 where
   pub forms : length (patterns_of core).forms ≡ access_count (numbers core.root)
   pub lengths : length (patterns_of core).lengths ≡ ranges_count (numbers core.root)
+
+-- in a group of a controller's iterations its counters have the group's values, after those of the counters around it
+abbrev pub AreCountersInScope : Type 0
+AreCountersInScope =
+    (reading : Reading) (counters : List PlainCounter) (bounds : List Bounds) (scope : Scope) (places : List CounterPlace) (outer values : List ℤ) →
+    length bounds ≡ length counters → length values ≡ length counters → AreInScope scope places outer →
+    AreInScope (in_group scope (loops_of reading counters bounds) values) (places ++ places_in counters) (outer ++ values)

@@ -5,7 +5,7 @@ ghost use Rattle.sp_affine.specs.Affine.{Affine};
 ghost use Rattle.sp_core.specs.Around.{Around};
 ghost use Rattle.sp_core.specs.PlainCore.{PlainOp, PlainCore};
 ghost use Rattle.sp_patterns.specs.Ranges.{PlainAround};
-ghost use Rattle.sp_hold.specs.Laws.{HasEntries, AreWordsLikeForms, IsIndexItsForm, AreFormsIndices};
+ghost use Rattle.sp_hold.specs.Laws.{HasEntries, AreWordsLikeForms, IsIndexItsForm, AreFormsIndices, AreCountersInScope};
 
 use sp_words::{
     divisions_leave_remainders, parts_make_the_type, values_are_a_range, wrapping_is_kept,
@@ -41,3 +41,8 @@ pub fn accesses_are_at_their_forms()
     parts_make_the_type();
     indices_are_their_forms();
 }
+
+/// In a group of a controller its counters have the group's values.
+pub fn counters_have_their_values()
+    ensures { AreCountersInScope }
+{}
