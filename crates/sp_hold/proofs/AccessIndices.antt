@@ -19,7 +19,7 @@ use Rattle.sp_core.specs.Elements.{index_value, natural, is_below, are_inside}
 use Rattle.sp_core.specs.Forms.{PlainForms, symbol_in, are_indices, are_known_indices, held_word}
 use Rattle.sp_core.specs.History.{Entry, left_out, touched, word_of, word_at}
 use Rattle.sp_core.specs.OperationRules.{can, is_fifo}
-use Rattle.sp_core.specs.Operations.{access, done_by, operation}
+use Rattle.sp_core.specs.Operations.{access, done_by, operation, operations}
 use Rattle.sp_core.specs.PlainCore.{PlainOp, PlainCore}
 use Rattle.sp_core.specs.Scope.{Scope}
 use Rattle.sp_core.specs.Sequential.{has_reset}
@@ -29,8 +29,10 @@ use Rattle.sp_core.specs.Typed.{rank_of, is_type}
 use Rattle.sp_patterns.specs.Forms.{forms_of, changes}
 use Rattle.sp_patterns.specs.Indices.{is_index, index_form, known_after, indices_at, access_forms}
 use Rattle.sp_patterns.specs.Ranges.{PlainAround}
+use Rattle.sp_hold.proofs.Orderly.{all_allowed, all_masked, orderly}
+use Rattle.sp_core.specs.Around.{Around}
 use Rattle.sp_hold.specs.Laws.{IsIndexItsForm, AreFormsIndices}
-use Rattle.sp_hold.specs.Values.{IsInt, AreInRanges, AreValues, takes, is_allowed, is_allowed_at, did, IsLike}
+use Rattle.sp_hold.specs.Values.{IsInt, AreInRanges, AreValues, takes, is_allowed, is_allowed_at, did, IsLike, AreInScope, are_masks_earlier, IsOrderly}
 use Rattle.sp_hold.proofs.Likeness.{Kept}
 use Rattle.sp_hold.proofs.ListSteps.{at_place}
 use Rattle.sp_hold.proofs.ListWords.{IsSymbol, Fits, words_fit}
@@ -300,8 +302,17 @@ fits_too core all n values one two (Some f) w (counters, like, good) same = (cou
 one_run : (es fs : List Entry) (s t : Store) → went es s ≡ went fs t → s ≡ t
 one_run es fs s t h = cc
 
-pub forms_are_indices : Kept → ((f : Affine) → IsIndexItsForm f) → (core : PlainCore) (around : PlainAround) (before : List PlainOp) (op : PlainOp) (after : List PlainOp) → AreFormsIndices core around before op after
-forms_are_indices kept index_is core around before op after forms scope values s u t begun entries m indices word allowed g h in_scope masks stands orderly lengths are_values are_int =
+-- by what its list keeps
+abbrev AreIndices : PlainCore → PlainAround → (before : List PlainOp) → PlainOp → (after : List PlainOp) → Type 0
+AreIndices core around before op after =
+    (forms : PlainForms) (scope : Scope) (values : List ℤ) (s u t : Store) (first entries : List Entry) (memory : ℕ) (indices : List ℕ) (word : ℕ) →
+    list_all (is_allowed core) (before ++ op ∷ after) ≡ true → operations core scope before s ≡ went first u → operations core scope (before ++ op ∷ after) s ≡ went entries t →
+    AreInScope scope around.places values → are_masks_earlier 0 (before ++ op ∷ after) ≡ true → slice_index_or entries (length before) left_out ≡ touched indices word → IsOrderly core before op memory →
+    length around.ranges ≡ length around.places → AreValues around.ranges values → ((m : ℕ) → is_type int_type (mem core m).ty ≡ true → IsInt (symbol_in core forms u m)) →
+    are_known_indices core forms (access_forms core.mems around (before ++ op ∷ after) op) (map pos indices) values (symbol_in core forms u) ≡ true
+
+orderly_indices : Kept → ((f : Affine) → IsIndexItsForm f) → (core : PlainCore) (around : PlainAround) (before : List PlainOp) (op : PlainOp) (after : List PlainOp) → AreIndices core around before op after
+orderly_indices kept index_is core around before op after forms scope values s u t begun entries m indices word allowed g h in_scope masks stands orderly lengths are_values are_int =
     let touched_it = ap did stands in
     let passed = all_passed core scope before op after s entries t h masks touched_it in
     let at = at_place core scope before op after [] s entries t h in
@@ -353,3 +364,8 @@ forms_are_indices kept index_is core around before op after forms scope values s
         ap (λ k. are_known_indices core forms (known_after [] (map (λ a. index_form around.ranges (slice_index_or rs a None)) (take k op.args))) (map pos indices) values symbols) count
         ∙ ap (λ (xs : List ℕ). are_known_indices core forms (known_after [] (map (λ a. index_form around.ranges (slice_index_or rs a None)) (take n op.args))) (map pos xs) values symbols) are
         ∙ whole
+
+pub forms_are_indices : Kept → ((f : Affine) → IsIndexItsForm f) → (core : PlainCore) (outside : Around) (around : PlainAround) (before : List PlainOp) (op : PlainOp) (after : List PlainOp) → AreFormsIndices core outside around before op after
+forms_are_indices kept index_is core outside around before op after forms scope values s u t begun entries m indices word memories right names g h stands in_scope lengths are_values are_int =
+    orderly_indices kept index_is core around before op after forms scope values s u t begun entries m indices word (all_allowed core outside (before ++ op ∷ after) [] right) g h in_scope
+    (all_masked core outside (before ++ op ∷ after) [] right) stands (orderly core outside before op after m memories right names) lengths are_values are_int

@@ -1,11 +1,14 @@
 pub mod AccessIndices
 pub mod Counters
+pub mod Entries
 pub mod FormValues
 pub mod IndexLemmas
 pub mod Likeness
 pub mod ListSteps
 pub mod ListWords
 pub mod Masks
+pub mod Orderly
 pub mod Products
+pub mod Scopes
 pub mod Steady
 pub mod Steps

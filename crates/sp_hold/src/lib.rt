@@ -3,4 +3,7 @@
 
 mod laws;
 
-pub use laws::{accesses_are_at_their_forms, indices_are_their_forms, words_are_like_forms};
+pub use laws::{
+    accesses_are_at_their_forms, accesses_have_entries, counters_have_their_values,
+    indices_are_their_forms, words_are_like_forms,
+};
