@@ -27,7 +27,7 @@ HaveCounts s c [] = Unit {0}
 HaveCounts s c (j ∷ js) = (s.counts c ≡ j) × HaveCounts s (suc c) js
 
 -- indices inside of a memory stand for themselves
-index_is : (j d : ℕ) → j < d → IsCount d → index_value j ≡ pos j
+pub index_is : (j d : ℕ) → j < d → IsCount d → index_value j ≡ pos j
 index_is j d lt is = small_value j (omega (arith, lt, is.1))
 
 pub are_in : (dims js : List ℕ) → AreBelow dims js → All IsCount dims → are_inside dims (map index_value js) ≡ true

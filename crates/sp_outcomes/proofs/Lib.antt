@@ -10,3 +10,4 @@ pub mod ElementLoops
 pub mod ElementWords
 pub mod SoFar
 pub mod ElementOps
+pub mod AccElements
