@@ -11,3 +11,4 @@ pub mod ElementWords
 pub mod SoFar
 pub mod ElementOps
 pub mod AccElements
+pub mod ElementGoes
