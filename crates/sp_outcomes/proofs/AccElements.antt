@@ -1,6 +1,6 @@
 -- An element of an accumulator is read and written alike in a program and its core.
-use Rattle.std.proofs.Common.{◌≡◌, ℕ, ◌+◌, ◌<◌, true, not, List, [], ◌∷◌, ◌++◌, Some, None, refl, sym, ◌∙◌, ap}
-use Rattle.std.specs.Prelude.{length, map, slice_index_or, slice_set, All, Option}
+use Rattle.std.proofs.Common.{◌≡◌, ℕ, ◌<◌, true, not, List, [], ◌∷◌, ◌++◌, Some, None, refl, ◌∙◌, ap}
+use Rattle.std.specs.Prelude.{length, map, slice_index_or, slice_set, All}
 use Rattle.sp_words.specs.declared.kind.Kind.TheVariants.{Sram}
 use Rattle.sp_words.specs.declared.types.Ty.{Ty}
 use Rattle.sp_words.specs.Interface.{IsCount}

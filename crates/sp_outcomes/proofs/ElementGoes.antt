@@ -1,15 +1,15 @@
 -- One element of a MemReduce: where the program assigns it, the operations go on to a store that agrees.
-use Rattle.std.proofs.Common.{◌≡◌, ℕ, suc, ◌+◌, ◌==◌, Bool, true, false, List, [], ◌∷◌, ◌++◌, Some, None, refl, sym, ◌∙◌, ap, subst}
-use Rattle.std.specs.Prelude.{length, map, slice_index_or, slice_set, Contains, All, Option}
+use Rattle.std.proofs.Common.{◌≡◌, ℕ, suc, ◌==◌, Bool, true, false, List, [], ◌∷◌, ◌++◌, Some, None, refl, sym, ◌∙◌, ap, subst}
+use Rattle.std.specs.Prelude.{map, slice_index_or, slice_set, Contains, All, Option}
 use Rattle.sp_words.specs.declared.kind.Kind.TheVariants.{Sram}
 use Rattle.sp_words.specs.declared.types.Ty.{Ty}
 use Rattle.sp_words.specs.Interface.{IsCount}
-use Rattle.sp_words.specs.Memory.{Contents, cells}
+use Rattle.sp_words.specs.Memory.{cells}
 use Rattle.sp_tree.specs.declared.statement.Comb.{Comb}
 use Rattle.sp_tree.specs.Accesses as program
 use Rattle.sp_tree.specs.Elements.{row_major}
 use Rattle.sp_tree.specs.Expressions as expressions
-use Rattle.sp_tree.specs.Operators.{bit, combined}
+use Rattle.sp_tree.specs.Operators.{combined}
 use Rattle.sp_tree.specs.PlainExpression.{expr, get_sram}
 use Rattle.sp_tree.specs.PlainProgram.{PlainProgram}
 use Rattle.sp_tree.specs.Sequential.{assign}

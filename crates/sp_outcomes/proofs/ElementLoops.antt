@@ -1,13 +1,13 @@
 -- The counters of the elements of a memory are those of a loop with literal bounds.
-use Rattle.std.proofs.Common.{◌≡◌, ℕ, zero, suc, ◌+◌, ◌-◌, ◌*◌, ◌/◌, ◌^◌, ◌<◌, ◌≤◌, true, false, List, [], ◌∷◌, ◌++◌, refl, sym, ◌∙◌, ap, arith}
+use Rattle.std.proofs.Common.{◌≡◌, ℕ, zero, suc, ◌+◌, ◌-◌, ◌*◌, ◌/◌, ◌^◌, ◌<◌, ◌≤◌, false, List, [], ◌∷◌, ◌++◌, refl, ◌∙◌, ap, arith}
 use Rattle.std.proofs.Math.Nat.{mod-eq_of_lt}
 use Rattle.std.proofs.lemmas.Int.{ints}
-use Rattle.std.specs.Prelude.{ℤ, pos, ◌+ℤ◌, ◌-ℤ◌, nat_le, map, All, if◌then◌else◌}
+use Rattle.std.specs.Prelude.{pos, ◌+ℤ◌, ◌-ℤ◌, nat_le, map, All, if◌then◌else◌}
 use Rattle.sp_words.specs.Interface.{IsCount}
 use Rattle.sp_words.specs.Types.{int_type}
 use Rattle.sp_words.specs.WholeNumbers.{modulo}
-use Rattle.sp_words.specs.Words.{IsWord, value_of, has_sign, wrap}
-use Rattle.sp_tree.specs.Elements.{natural, index_value, length_between, count_below, numbers_below, counter_words}
+use Rattle.sp_words.specs.Words.{value_of, has_sign, wrap}
+use Rattle.sp_tree.specs.Elements.{natural, index_value, count_below, numbers_below, counter_words}
 use Rattle.sp_tree.specs.Expressions.{word}
 use Rattle.sp_tree.specs.PlainExpression.{expr, literal}
 use Rattle.sp_tree.specs.PlainProgram.{PlainProgram}
@@ -60,6 +60,7 @@ dimension_words d lt =
   where
     difference : (d : ℕ) → pos d -ℤ pos 0 ≡ pos d
     difference d = omega (arith, ints)
+
     counted : (d : ℕ) → count_below (pos 0) (pos d) 1 ≡ d
     counted d = ap (λ z. (natural z + (1 - 1)) / 1) (difference d) ∙ so_many d
 

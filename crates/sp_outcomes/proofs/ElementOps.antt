@@ -1,5 +1,5 @@
 -- The operations of one element of a MemReduce's combination.
-use Rattle.std.proofs.Common.{◌≡◌, ℕ, suc, ◌+◌, ◌<◌, ◌==◌, Bool, true, false, not, List, [], ◌∷◌, ◌++◌, Some, None, refl, sym, ◌∙◌, ap, subst, arith, append_assoc}
+use Rattle.std.proofs.Common.{◌≡◌, ℕ, suc, ◌+◌, ◌==◌, Bool, true, false, List, [], ◌∷◌, ◌++◌, Some, None, refl, sym, ◌∙◌, ap, subst, arith, append_assoc}
 use Rattle.std.specs.Prelude.{length, map, slice_index_or, slice_set, Contains, All, Option}
 use Rattle.sp_words.specs.declared.kind.Kind.TheVariants.{Sram}
 use Rattle.sp_words.specs.declared.types.Ty.{Ty}
@@ -11,7 +11,6 @@ use Rattle.sp_tree.specs.Accesses as program
 use Rattle.sp_tree.specs.Elements.{row_major}
 use Rattle.sp_tree.specs.Expressions as expressions
 use Rattle.sp_tree.specs.Expressions.{word}
-use Rattle.sp_tree.specs.Meaning.{is_dram}
 use Rattle.sp_tree.specs.Operators.{bit}
 use Rattle.sp_tree.specs.PlainExpression.{expr, get_sram}
 use Rattle.sp_tree.specs.PlainProgram.{PlainProgram}
@@ -30,9 +29,9 @@ use Rattle.sp_core.specs.Scope as counters
 use Rattle.sp_core.specs.Step as core_step
 use Rattle.sp_core.specs.Step.{went, pure}
 use Rattle.sp_core.specs.Store as store
-use Rattle.sp_desugar.specs.Agreement.{HasMemories, View, IsAdded, Finds, Agree, GoOn}
+use Rattle.sp_desugar.specs.Agreement.{HasMemories, View, IsAdded, Finds, Agree}
 use Rattle.sp_desugar.specs.Combination.{operator_of, element_indices, is_last_element, element_value, element_ops}
-use Rattle.sp_desugar.specs.Numbers.{is_off_dram, mem_number}
+use Rattle.sp_desugar.specs.Numbers.{mem_number}
 use Rattle.sp_desugar.specs.Operations.{Code, Codes, code, code_of, codes, computes, read_op, write_op, literal_op, under}
 use Rattle.sp_desugar.specs.Values.{no_sources, in_register}
 use Rattle.sp_desugar.proofs.Follows.{follows, row_follow}

@@ -1,24 +1,23 @@
 -- What the expressions over the counters of an element give.
-use Rattle.std.proofs.Common.{◌≡◌, ℕ, zero, suc, ◌+◌, ◌-◌, ◌*◌, ◌<◌, ◌≤◌, ◌==◌, nat_lt, Bool, true, false, ◌&&◌, List, [], ◌∷◌, ◌++◌, refl, sym, ◌∙◌, ap, arith, lt-ltb}
-use Rattle.std.specs.Prelude.{ℤ, pos, map, All, if◌then◌else◌}
+use Rattle.std.proofs.Common.{◌≡◌, ℕ, suc, ◌-◌, ◌<◌, ◌==◌, Bool, true, false, ◌&&◌, List, [], ◌∷◌, refl, ◌∙◌, ap, arith, lt-ltb}
+use Rattle.std.specs.Prelude.{pos, map, All}
 use Rattle.sp_words.specs.declared.kind.BinOp.TheVariants as binary
 use Rattle.sp_words.specs.declared.types.Ty.{Ty}
 use Rattle.sp_words.specs.declared.types.Ty.TheVariants.{Bit}
 use Rattle.sp_words.specs.Interface.{IsCount}
-use Rattle.sp_words.specs.Types.{int_type}
 use Rattle.sp_words.specs.Words.{word_eq, word_and}
 use Rattle.sp_tree.specs.declared.statement.FaultKind.TheVariants.{Bounds}
 use Rattle.sp_tree.specs.Accesses.{read_cell}
 use Rattle.sp_tree.specs.Elements.{index_value, natural, is_below, are_inside, row_major}
 use Rattle.sp_tree.specs.Expressions as expressions
 use Rattle.sp_tree.specs.Expressions.{word, word_of, words}
-use Rattle.sp_tree.specs.Operators.{two_word, bit}
-use Rattle.sp_tree.specs.PlainExpression.{PlainExpr, expr, literal, counter, get_sram, two, type_of}
+use Rattle.sp_tree.specs.Operators.{bit}
+use Rattle.sp_tree.specs.PlainExpression.{PlainExpr, expr, get_sram, two, type_of}
 use Rattle.sp_tree.specs.PlainProgram.{PlainProgram}
 use Rattle.sp_tree.specs.Step as step
 use Rattle.sp_tree.specs.Store as store
 use Rattle.sp_desugar.specs.Combination.{element_indices, is_last_at, conjunction, is_last_element}
-use Rattle.sp_outcomes.proofs.ElementOrder.{AreBelow, AreLast}
+use Rattle.sp_outcomes.proofs.ElementOrder.{AreBelow}
 use Rattle.sp_outcomes.proofs.ElementLoops.{small_value, first_count, other_counts}
 
 -- the counters from a number on have these words

@@ -1,12 +1,12 @@
 -- Operations of a list that have gone on so far, with those that are left.
-use Rattle.std.proofs.Common.{◌≡◌, ℕ, ◌+◌, ◌<◌, List, [], ◌∷◌, ◌++◌, refl, sym, ◌∙◌, ap, arith, length-append}
+use Rattle.std.proofs.Common.{◌≡◌, ℕ, ◌+◌, List, [], ◌∷◌, ◌++◌, refl, ◌∙◌, ap, arith, length-append}
 use Rattle.std.specs.Prelude.{length, map}
 use Rattle.sp_tree.specs.PlainProgram.{PlainProgram}
 use Rattle.sp_tree.specs.Store as program_store
 use Rattle.sp_core.specs.History.{Entry, word_of, word_at}
 use Rattle.sp_core.specs.Operations.{operation, operations_after}
 use Rattle.sp_core.specs.PlainCore.{PlainOp, PlainCore}
-use Rattle.sp_core.specs.Step.{went, pure}
+use Rattle.sp_core.specs.Step.{went}
 use Rattle.sp_core.specs.Store as store
 use Rattle.sp_desugar.specs.Agreement.{View, Agree, GiveAt, GoOn}
 use Rattle.sp_desugar.proofs.GoOnLemmas.{keeps_front, at_end, agree_still, give_still, ops_append}
@@ -52,14 +52,17 @@ module _ (p : PlainProgram) (core : PlainCore) (view : View) (whole : List Plain
 
   pub some_ops : (ops rest : List PlainOp) (s u : program_store.Store) (n : ℕ) (ks ws ls us : List ℕ) (g : SoFar (ops ++ rest) s n ks ws) → GoOn p core view g.all ops g.after u ls us
       → (x : SoFar rest u (n + length ops) ks ws) × GiveAt x.all ls us
-  some_ops ops rest s u n ks ws ls us g more = (record {
-    all = more.all;
-    after = more.after;
-    goes = g.goes ∙ ops_append p core view ops rest g.all g.after more.all more.after more.goes;
-    long = omega (arith, g.long, more.counted);
-    agree = more.agree;
-    give = give_still p core view g.all more.all ks ws (omega (arith, more.counted), more.kept) g.give;
-  }, more.give)
+  some_ops ops rest s u n ks ws ls us g more = (
+    record {
+      all = more.all;
+      after = more.after;
+      goes = g.goes ∙ ops_append p core view ops rest g.all g.after more.all more.after more.goes;
+      long = omega (arith, g.long, more.counted);
+      agree = more.agree;
+      give = give_still p core view g.all more.all ks ws (omega (arith, more.counted), more.kept) g.give;
+    },
+    more.give,
+  )
 
   -- one word more is known
   pub noted : (rest : List PlainOp) (s : program_store.Store) (n k w : ℕ) (ks ws : List ℕ) (g : SoFar rest s n ks ws) → GiveAt g.all (k ∷ []) (w ∷ []) → SoFar rest s n (k ∷ ks) (w ∷ ws)
