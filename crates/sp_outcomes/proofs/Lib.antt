@@ -5,3 +5,10 @@ pub mod StageReductions
 pub mod Recursion
 pub mod Streamed
 pub mod Programs
+pub mod ElementOrder
+pub mod ElementLoops
+pub mod ElementWords
+pub mod SoFar
+pub mod ElementOps
+pub mod AccElements
+pub mod ElementGoes
