@@ -1,0 +1,4 @@
+pub mod Below
+pub mod Dividing
+pub mod FinestSlots
+pub mod Places
