@@ -1,16 +1,16 @@
 -- The slots that begin after each stage that isn't joined with the next one are the finest.
-use Rattle.std.proofs.Common.{◌≡◌, ℕ, zero, suc, ◌+◌, ◌-◌, ◌<◌, ◌≤◌, ◌==◌, not, nat_lt, nat_le, ◌&&◌, ◌||◌, Bool, true, false, cond, List, [], ◌∷◌, length, map, get_or, slice_index, refl, ap, sym, subst, ◌∙◌, ⊎_elim, ◌⊎◌, inl, inr, eq-eqb, eqb-true, ltb-true, leb-true, le-leb, lt-ltb, arith}
+use Rattle.std.proofs.Common.{◌≡◌, ℕ, zero, suc, ◌+◌, ◌-◌, ◌<◌, ◌≤◌, ◌==◌, not, nat_le, ◌||◌, Bool, true, false, cond, List, [], ◌∷◌, length, slice_index, refl, ap, sym, subst, ◌∙◌, ⊎_elim, eq-eqb, eqb-true, ltb-true, leb-true, le-leb, lt-ltb, arith}
 use Rattle.std.specs.List.{list_all, list_any}
 use Rattle.std.proofs.lemmas.Bool.{cases_lt, eqb-false}
 use Rattle.std.proofs.lemmas.List.{get_or_past, length-map}
 use Rattle.sp_core.specs.declared.access.Meet.{Meet}
 use Rattle.sp_core.specs.Elements.{numbers_below}
 use Rattle.sp_core.specs.PlainCore.{PlainCounter, PlainCore}
-use Rattle.sp_plan.specs.Slots.{StageRun, run_at, lane_size, stage_of, is_next, is_slot_right, are_slots_right, has_one_slot, is_once, is_pair, is_held, are_held}
+use Rattle.sp_plan.specs.Slots.{StageRun, run_at, lane_size, stage_of, is_slot_right, are_slots_right, has_one_slot, is_once, is_pair, is_held, are_held}
 use Rattle.sp_stages.specs.Divided.{are_around, is_over, is_over_any, is_over_end, is_joined, slot_of, slots_of}
 use Rattle.sp_stages.specs.Finest.{are_in_place, AreSlots, AreFinestSlots}
-use Rattle.sp_stages.proofs.Below.{and_parts, and_both, or_cases, or_first, or_second, if_true, if_false, length-numbers, listed, all_at, all_from, any_from, any_at, filter_most}
-use Rattle.sp_stages.proofs.Dividing.{ArePlaces, AreSteps, IsStep, IsAcross, at_most}
+use Rattle.sp_stages.proofs.Below.{and_parts, and_both, or_cases, or_first, or_second, length-numbers, listed, all_at, all_from, any_from, any_at}
+use Rattle.sp_stages.proofs.Steps.{ArePlaces, IsAcross, at_most}
 use Rattle.sp_stages.proofs.Places.{of_all, places, steps, one_slot}
 use Rattle.sp_words.specs.declared.kind.Style.{Style}
 
@@ -47,7 +47,7 @@ module _ (core : PlainCore) (meets : List Meet) (counters : List PlainCounter) (
   joined = is_joined core meets counters style owned runs
 
   abbrev slot_number : ℕ → ℕ
-  slot_number = slot_of core meets counters style owned runs
+  slot_number = slot_of joined
 
   abbrev pairs : ℕ → ℕ → Meet → Bool
   pairs p q = is_pair runs [] [] core owned p q
@@ -61,29 +61,29 @@ module _ (core : PlainCore) (meets : List Meet) (counters : List PlainCounter) (
     pub before : ℕ
     pub after_in : after < length runs
     pub before_in : before < length runs
-    pub around : are_around core meets counters style owned runs k after before ≡ true
+    pub around : are_around core owned runs k after before ≡ true
     pub held : list_any (pairs after before) xs ≡ true
 
-  across_in : (k : ℕ) (xs : List Meet) → list_any (is_over_end core meets counters style owned runs k) xs ≡ true → IsHeldAcross xs k
+  across_in : (k : ℕ) (xs : List Meet) → list_any (is_over_end core owned runs k) xs ≡ true → IsHeldAcross xs k
   across_in k [] h = absurd (cc)
   across_in k (m ∷ xs) h = ⊎_elim
       (λ e.
-      let p = any_at (is_over_any core meets counters style owned runs k m) (length runs) e in
-      let q = any_at (is_over core meets counters style owned runs k m p.place) (length runs) p.found in
-      let both = and_parts (are_around core meets counters style owned runs k p.place q.place) (pairs p.place q.place m) q.found in
+      let p = any_at (is_over_any core owned runs k m) (length runs) e in
+      let q = any_at (is_over core owned runs k m p.place) (length runs) p.found in
+      let both = and_parts (are_around core owned runs k p.place q.place) (pairs p.place q.place m) q.found in
       record { after = p.place; before = q.place; after_in = p.below; before_in = q.below; around = both.0; held = or_first _ _ both.1 })
       (λ e.
       let rest = across_in k xs e in
       record { after = rest.after; before = rest.before; after_in = rest.after_in; before_in = rest.before_in; around = rest.around; held = or_second (pairs rest.after rest.before m) _ rest.held })
-      (or_cases (is_over_end core meets counters style owned runs k m) (list_any (is_over_end core meets counters style owned runs k) xs) h)
+      (or_cases (is_over_end core owned runs k m) (list_any (is_over_end core owned runs k) xs) h)
 
   -- what is held together is joined
   joins : (k p q : ℕ) → p < length runs → q < length runs → stage_of runs q ≤ k → k < stage_of runs p → is_once counters ≡ false → list_any (pairs p q) meets ≡ true → joined k ≡ true
   joins k p q lp lq begins ends once held =
       or_second (has_one_slot counters style) _ (and_both _ _ (ap not once)
-      (any_like (pairs p q) (is_over_end core meets counters style owned runs k) meets
-      (λ m e. any_from (is_over_any core meets counters style owned runs k m) (length runs) p lp
-      (any_from (is_over core meets counters style owned runs k m p) (length runs) q lq
+      (any_like (pairs p q) (is_over_end core owned runs k) meets
+      (λ m e. any_from (is_over_any core owned runs k m) (length runs) p lp
+      (any_from (is_over core owned runs k m p) (length runs) q lq
       (and_both _ _ (and_both _ _ (le-leb (stage_of runs q) k begins) (lt-ltb k (stage_of runs p) ends)) e)))
       held))
 

@@ -1,4 +1,9 @@
 pub mod Below
-pub mod Dividing
+pub mod Covering
+pub mod Steps
+pub mod FinestAt
 pub mod FinestSlots
+pub mod NamesLemmas
+pub mod Numbered
 pub mod Places
+pub mod Sizes

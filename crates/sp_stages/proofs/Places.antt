@@ -1,11 +1,11 @@
 -- Runs that stand in their lanes, and slots of theirs that are right.
-use Rattle.std.proofs.Common.{◌≡◌, ℕ, zero, suc, ◌+◌, ◌-◌, ◌*◌, ◌<◌, ◌≤◌, ◌==◌, not, nat_lt, nat_le, ◌&&◌, ◌||◌, Bool, true, false, cond, List, [], ◌∷◌, length, filter, slice_index, slice_index_or, refl, ap, sym, subst, ◌∙◌, ⊎_elim, ◌⊎◌, inl, inr, eq-eqb, eqb-true, ltb-true, leb-true, arith}
-use Rattle.std.proofs.lemmas.Bool.{ne_eqb, eqb-false}
+use Rattle.std.proofs.Common.{◌≡◌, ℕ, zero, suc, ◌+◌, ◌-◌, ◌*◌, ◌<◌, ◌≤◌, ◌==◌, not, nat_le, ◌&&◌, ◌||◌, Bool, true, false, cond, List, [], length, slice_index, refl, ap, sym, subst, ◌∙◌, ⊎_elim, inl, inr, eq-eqb, eqb-true, ltb-true, leb-true, arith}
+use Rattle.std.proofs.lemmas.Bool.{ne_eqb}
 use Rattle.sp_core.specs.PlainCore.{PlainCounter}
 use Rattle.sp_plan.specs.Slots.{StageRun, no_run, is_of_all, is_in_lane_0, run_at, lane_size, stage_of, is_next, is_slot_right, are_slots_right, has_one_slot}
-use Rattle.sp_stages.specs.Finest.{is_in_lane, is_in_place, are_in_place}
+use Rattle.sp_stages.specs.Finest.{is_in_place, are_in_place}
 use Rattle.sp_stages.proofs.Below.{and_parts, or_cases, or_first, or_second, if_true, if_false, all_at, filter_most, filter_fewer}
-use Rattle.sp_stages.proofs.Dividing.{ArePlaces, AreSteps, IsStep}
+use Rattle.sp_stages.proofs.Steps.{ArePlaces, AreSteps, IsStep}
 use Rattle.sp_words.specs.declared.kind.Style.{Style}
 
 zero_lane : (a n k : ℕ) → a * n ≤ k → k < n → a ≡ 0

@@ -1,5 +1,5 @@
 -- The slots of an outer body, from the stages that aren't held together with the next one.
-use Rattle.std.specs.Prelude.{ℕ, zero, suc, ◌+◌, nat_le, nat_lt, Bool, true, false, ◌&&◌, ◌||◌, not, List, [], map, length, Option, Some, None, if◌then◌else◌}
+use Rattle.std.specs.Prelude.{ℕ, zero, suc, ◌+◌, nat_le, nat_lt, Bool, false, ◌&&◌, ◌||◌, not, List, [], map, length, Option, Some, None, if◌then◌else◌}
 use Rattle.std.specs.List.{list_any}
 use Rattle.sp_core.specs.declared.access.Meet.{Meet}
 use Rattle.sp_core.specs.Elements.{numbers_below}
@@ -9,7 +9,7 @@ use Rattle.sp_plan.specs.Nodes.{Site, site_at}
 use Rattle.sp_plan.specs.Slots.{StageRun, runs_of, stage_of, is_once, has_one_slot, is_pair}
 use Rattle.sp_words.specs.declared.kind.Style.{Style}
 
-module _ (core : PlainCore) (meets : List Meet) (counters : List PlainCounter) (style : Style) (owned : List ℕ) (runs : List StageRun) where
+module _ (core : PlainCore) (owned : List ℕ) (runs : List StageRun) where
   -- two runs that a meet holds together stand on both sides of the end of a stage
   abbrev pub are_around : (stage p q : ℕ) → Bool
   are_around k p q = nat_le (stage_of runs q) k && nat_lt k (stage_of runs p)
@@ -23,17 +23,18 @@ module _ (core : PlainCore) (meets : List Meet) (counters : List PlainCounter) (
   abbrev pub is_over_end : (stage : ℕ) → Meet → Bool
   is_over_end k m = list_any (is_over_any k m) (numbers_below (length runs))
 
+-- a slot begins after each stage that isn't joined with the next one
+abbrev pub slot_of : (joined : ℕ → Bool) → (stage : ℕ) → ℕ
+slot_of joined zero = 0
+slot_of joined (suc k) = slot_of joined k + (if joined k then 0 else 1)
+
+module _ (core : PlainCore) (meets : List Meet) (counters : List PlainCounter) (style : Style) (owned : List ℕ) (runs : List StageRun) where
   -- a stage and the next one are held together
   abbrev pub is_joined : (stage : ℕ) → Bool
-  is_joined k = has_one_slot counters style || (not (is_once counters) && list_any (is_over_end k) meets)
-
-  -- a slot begins after each stage that isn't joined with the next one
-  abbrev pub slot_of : (stage : ℕ) → ℕ
-  slot_of zero = 0
-  slot_of (suc k) = slot_of k + (if is_joined k then 0 else 1)
+  is_joined k = has_one_slot counters style || (not (is_once counters) && list_any (is_over_end core owned runs k) meets)
 
   abbrev pub slots_of : List ℕ
-  slots_of = map (λ p. slot_of (stage_of runs p)) (numbers_below (length runs))
+  slots_of = map (λ p. slot_of is_joined (stage_of runs p)) (numbers_below (length runs))
 
 -- those of the node of a number
 abbrev pub slots_in : PlainCore → List Meet → (number : ℕ) → PlainNode → List ℕ

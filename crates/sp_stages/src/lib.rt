@@ -1,8 +1,15 @@
-//! The finest slots and chains of outer bodies.
+//! The finest slots of outer bodies.
 #![tactic(auto)]
 
+mod dividing;
 mod examples;
+mod finest;
 mod laws;
+mod names;
+mod pairs;
+mod runs;
 
 pub use examples::worked_slots;
+pub use finest::slots;
 pub use laws::divided_slots_are_finest;
+pub use std::alloc::AllocError as NoMemory;
