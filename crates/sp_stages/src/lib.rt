@@ -8,8 +8,10 @@ mod laws;
 mod names;
 mod pairs;
 mod runs;
+#[cfg(test)]
+mod tests;
 
 pub use examples::worked_slots;
 pub use finest::slots;
-pub use laws::divided_slots_are_finest;
+pub use laws::{divided_slots_are_finest, finest_slots_are_right};
 pub use std::alloc::AllocError as NoMemory;
