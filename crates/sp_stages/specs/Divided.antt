@@ -36,7 +36,18 @@ module _ (core : PlainCore) (meets : List Meet) (counters : List PlainCounter) (
   abbrev pub slots_of : List ℕ
   slots_of = map (λ p. slot_of is_joined (stage_of runs p)) (numbers_below (length runs))
 
--- those of the node of a number
+-- the stages and the slots of the node of a number
+abbrev pub runs_in : (number : ℕ) → PlainNode → List StageRun
+runs_in n (outer counters style owned stages) = runs_of (n + counters_size counters) stages
+runs_in n node = []
+
+abbrev pub runs_at : Option Site → List StageRun
+runs_at (Some site) = runs_in site.number site.node
+runs_at None = []
+
+abbrev pub runs_of_node : PlainCore → (node : ℕ) → List StageRun
+runs_of_node core k = runs_at (site_at k 0 false core.root)
+
 abbrev pub slots_in : PlainCore → List Meet → (number : ℕ) → PlainNode → List ℕ
 slots_in core meets n (outer counters style owned stages) = slots_of core meets counters style owned (runs_of (n + counters_size counters) stages)
 slots_in core meets n node = []

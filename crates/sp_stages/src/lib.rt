@@ -11,7 +11,7 @@ mod runs;
 #[cfg(test)]
 mod tests;
 
-pub use examples::worked_slots;
+pub use examples::{worked_places, worked_slots};
 pub use finest::slots;
 pub use laws::{divided_slots_are_finest, finest_slots_are_right};
 pub use std::alloc::AllocError as NoMemory;
