@@ -1,0 +1,9 @@
+pub mod Below
+pub mod Covering
+pub mod Steps
+pub mod FinestAt
+pub mod FinestSlots
+pub mod NamesLemmas
+pub mod Numbered
+pub mod Places
+pub mod Sizes

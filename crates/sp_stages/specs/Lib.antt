@@ -1,0 +1,4 @@
+pub mod Divided
+pub mod Finest
+pub mod Parts
+pub mod Plans

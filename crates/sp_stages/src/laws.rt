@@ -1,0 +1,22 @@
+//! Laws of finest slots. Each function does nothing: what it ensures is the law.
+
+ghost use Rattle.std.specs.Prelude.{ℕ, ◌&&◌, IsTrue, List};
+ghost use Rattle.sp_core.specs.declared.access.Meet.{Meet};
+ghost use Rattle.sp_core.specs.PlainCore.{PlainCore, PlainCounter};
+ghost use Rattle.sp_plan.specs.Slots.{StageRun, are_slots_right, are_held};
+ghost use Rattle.sp_stages.specs.Divided.{slots_of};
+ghost use Rattle.sp_stages.specs.Finest.{are_in_place, AreFinestSlots};
+ghost use Rattle.sp_words.specs.declared.kind.Style.{Style};
+
+/// The slots that begin after each stage that isn't joined with the next one are the finest: they may be those of a plan,
+/// and no others that may be are greater anywhere.
+pub fn divided_slots_are_finest()
+    ensures { (core : PlainCore) (meets : List Meet) (counters : List PlainCounter) (style : Style) (owned : List ℕ) (runs : List StageRun)
+        → IsTrue (are_in_place runs) → AreFinestSlots core meets counters style owned runs (slots_of core meets counters style owned runs) }
+{}
+
+/// The finest slots keep the rules of slots of a valid plan, whatever its chains are.
+pub fn finest_slots_are_right()
+    ensures { (core : PlainCore) (meets : List Meet) (counters : List PlainCounter) (style : Style) (owned : List ℕ) (runs : List StageRun) (slots chains : List ℕ)
+        → AreFinestSlots core meets counters style owned runs slots → IsTrue (are_slots_right runs slots chains counters style && are_held runs slots chains core owned counters meets) }
+{}

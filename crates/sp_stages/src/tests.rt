@@ -1,0 +1,117 @@
+use crate::slots;
+use sp_core::{Core, CoreCounter, CoreError, CoreMem, Meet, Meets, Node, Op, OpKind, Stage};
+use sp_words::{BinOp, Kind, Ports, Style, Ty};
+use std::alloc::{AllocError, Global};
+use std::test::Fail;
+
+/// An operation on `Int`, without a mask.
+fn op(alloc: Global, kind: OpKind, args: &[u32], mem: Option<u32>) -> Result<Op, AllocError> {
+    Ok(Op {
+        kind,
+        ty: Ty::int(),
+        args: args.to_vec(alloc)?,
+        mem,
+        mask: None,
+    })
+}
+
+fn stage(node: Node) -> Stage {
+    Stage {
+        first: 0,
+        last: 0,
+        comb: false,
+        node,
+    }
+}
+
+fn body(alloc: Global, ops: Vec<Op>) -> Node {
+    Node::Inner {
+        counters: Vec::new(alloc),
+        owned: Vec::new(alloc),
+        ops,
+        comb: None,
+    }
+}
+
+fn mem(alloc: Global, name: &str, kind: Kind, dims: &[u32]) -> Result<CoreMem, AllocError> {
+    Ok(CoreMem {
+        name: String::from_str(alloc, name)?,
+        kind,
+        ty: Ty::int(),
+        dims: dims.to_vec(alloc)?,
+        start: None,
+        written: true,
+    })
+}
+
+/// `r := i` and then `s(i) = r + 10`, for i from 0 to 3: access 3 writes r, and 5 reads it.
+fn register_between(alloc: Global) -> Result<Result<Core, CoreError>, AllocError> {
+    let writes = vec![in alloc;
+        op(alloc, OpKind::Count(0, 0), &[], None)?,
+        op(alloc, OpKind::Write, &[0], Some(0))?,
+    ]?;
+    let reads = vec![in alloc;
+        op(alloc, OpKind::Count(0, 0), &[], None)?,
+        op(alloc, OpKind::Read, &[], Some(0))?,
+        op(alloc, OpKind::Word(10), &[], None)?,
+        op(alloc, OpKind::Two(BinOp::Add), &[1, 2], None)?,
+        op(alloc, OpKind::Write, &[0, 3], Some(1))?,
+    ]?;
+    let counter = CoreCounter {
+        id: 0,
+        from: vec![in alloc; op(alloc, OpKind::Word(0), &[], None)?]?,
+        until: vec![in alloc; op(alloc, OpKind::Word(4), &[], None)?]?,
+        by: 1,
+        par: 1,
+    };
+    let inside = Node::Outer {
+        counters: vec![in alloc; counter]?,
+        style: Style::Pipe,
+        owned: Vec::new(alloc),
+        stages: vec![in alloc; stage(body(alloc, writes)), stage(body(alloc, reads))]?,
+    };
+    let root = Node::Outer {
+        counters: Vec::new(alloc),
+        style: Style::Pipe,
+        owned: vec![in alloc; 0, 1]?,
+        stages: vec![in alloc; stage(inside)]?,
+    };
+    let mems = vec![in alloc;
+        mem(alloc, "r", Kind::Reg, &[])?,
+        mem(alloc, "s", Kind::Sram, &[4])?,
+    ]?;
+    let ports = Ports {
+        args: Vec::new(alloc),
+        outs: Vec::new(alloc),
+        drams: Vec::new(alloc),
+    };
+    Ok(Core::new(alloc, mems, ports, root))
+}
+
+fn meet(first: u32, second: u32, least: u64) -> Meet {
+    Meet {
+        first,
+        second,
+        least,
+    }
+}
+
+#[test]
+fn a_register_joins_two_stages(rt: HostRuntime) -> Result<(), Fail> {
+    let alloc = rt.alloc();
+    let core = register_between(alloc)??;
+    let near = Meets {
+        pairs: vec![in alloc; meet(3, 5, 0), meet(5, 3, 1)]?,
+    };
+    assert_eq!(rt;
+        slots(alloc, &core, 1, &near)?.as_slice(),
+        [0, 0].as_slice()
+    );
+    assert_eq!(rt; slots(alloc, &core, 0, &near)?.as_slice(), [0].as_slice());
+    assert_eq!(rt; slots(alloc, &core, 2, &near)?.len(), 0);
+    let far = Meets {
+        pairs: vec![in alloc; meet(3, 5, 0), meet(5, 3, 2)]?,
+    };
+    assert_eq!(rt; slots(alloc, &core, 1, &far)?.as_slice(), [0, 1].as_slice());
+    Ok(())
+}
