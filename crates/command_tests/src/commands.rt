@@ -1,5 +1,5 @@
-use sp_top::{Status, spatialc};
 use sp_edges::{MemFile, MemInputs, MemSink, SinkStop};
+use sp_top::{Status, spatialc};
 use std::alloc::{AllocError, Global};
 use std::process::Abort;
 use std::test::Fail;
@@ -108,6 +108,21 @@ simulate F S S|netlist 1;in x 0 s32.0;const 1 32 3;op 2 s32.0 add 0 1;reg 3 32 0
 compile F|val x = ArgIn[Int];val y = ArgOut[Int];Accel {;};|-|-|0|netlist 1;in x 0 s32.0;reg 1 32 0 1 2;const 2 1 1;reg 3 1 0 2 2;out y 1 s32.0;done 3;\n\
 compile F|val x = ArgIn[Int];val y = ArgOut[Int];Accel {;  y := x + 3;};|-|-|0|netlist 1;in x 0 s32.0;const 1 32 3;op 2 s32.0 add 0 1;reg 3 32 0 2 4;const 4 1 1;reg 5 1 0 4 4;out y 3 s32.0;done 5;\n\
 compile F|val x = ArgIn[Int];val y = ArgOut[Int];Accel {;  y := x + 3;  y := x * x;};|-|-|0|netlist 1;in x 0 s32.0;const 1 32 3;op 2 s32.0 add 0 1;op 3 s32.0 mul 0 0;reg 4 32 0 3 5;const 5 1 1;reg 6 1 0 5 5;out y 4 s32.0;done 6;\n\
+check F|val x = ArgIn[Int];val y = ArgOut[Int];Accel {;  y := x + 3;};|-|-|0|ok;\n\
+check F|val a = DRAM[Int](67108864); Accel { }|-|-|0|ok;\n\
+check F|val a = DRAM[Int](67108865); Accel { }|-|-|4|limit: dram 67108865;\n\
+check F|Acc|-|-|1|source: no parse at 0;\n\
+check F|Accel { y := 3|-|-|1|source: no parse at 14;\n\
+check F|Accel { y := 340282366920938463463374607431768211456 }|-|-|1|source: literal too wide at 13;\n\
+check F|val x = ArgIn[Int]; val x = ArgOut[Int]; Accel { }|-|-|3|types: name given twice at 24;\n\
+check F|val y = ArgOut[Int]; Accel { y := z }|-|-|3|types: unknown name at 34;\n\
+check F|val y = ArgOut[Int]; Accel { y := true }|-|-|3|types: clash at 34, want Int, got Bit;\n\
+check F|val y = ArgOut[Int]; Accel { y := y }|-|-|3|types: misused at 34;\n\
+check F|val y = ArgOut[Int]; Accel { val s = SRAM[Int](2); y := s(0, 0) }|-|-|3|types: rank at 56, want 1, got 2;\n\
+check F|val y = ArgOut[Int]; Accel { Foreach(4 by 1 par 2, 4 by 1){ (i, j) => y := i } }|-|-|3|types: par place at 44;\n\
+check F|val y = ArgOut[Int]; Accel { Foreach(4 by 1 par 17){ i => y := i } }|-|-|4|limit: lanes 17;\n\
+check Q|Accel { }|-|-|8|read fault;\n\
+check F S|Accel { }|-|-|2|words: not in the command table;\n\
 compile Q|val x = ArgIn[Int];val y = ArgOut[Int];Accel {;  y := x + 3;};|-|-|8|read fault;\n\
 compile F||-|-|15|unbuilt at line 1;\n\
 compile F|val x = ArgIn[Int];val y = ArgOut[Int];Accel {;  y := x + 3;|-|-|15|unbuilt at line 5;\n\

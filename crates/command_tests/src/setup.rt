@@ -1,5 +1,5 @@
-use sp_setup::{Setup, SetupEnd, dram_sizes_fit, read};
 use sp_edges::{MemFile, MemInputs};
+use sp_setup::{Setup, SetupEnd, dram_sizes_fit, read};
 use sp_words::{FixTy, PortDecl, Ports, Ty};
 use std::alloc::{AllocError, Global};
 use std::process::Abort;

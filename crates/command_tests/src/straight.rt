@@ -79,7 +79,10 @@ fn texts_are_read_or_break_at_their_line(rt: HostRuntime) -> Result<(), Fail> {
     for row in TEXTS.lines() {
         let (line, text) = row.split_once("|").ok_or("a row")?;
         let text = lines_of(alloc, text)?;
-        assert!(rt; breaks_at(alloc, text.as_bytes(), line.parse::<u32>()?)?, "{row}");
+        assert!(rt;
+            breaks_at(alloc, text.as_bytes(), line.parse::<u32>()?)?,
+            "{row}"
+        );
     }
     Ok(())
 }
@@ -90,7 +93,13 @@ fn bytes_that_are_no_text_break_their_line(rt: HostRuntime) -> Result<(), Fail> 
     assert!(rt; breaks_at(alloc, b"Accel {\n}\r\n", 2)?);
     assert!(rt; breaks_at(alloc, b"val x = ArgIn[Int]\r\nAccel {\n}\n", 1)?);
     assert!(rt; breaks_at(alloc, b"val \xC3\xA9 = ArgIn[Int]\nAccel {\n}\n", 1)?);
-    assert!(rt; breaks_at(alloc, b"val x = ArgIn[Int]\nval \xFF = ArgOut[Int]\nAccel {\n}\n", 2)?);
+    assert!(rt;
+        breaks_at(
+            alloc,
+            b"val x = ArgIn[Int]\nval \xFF = ArgOut[Int]\nAccel {\n}\n",
+            2
+        )?
+    );
     Ok(())
 }
 
@@ -129,7 +138,13 @@ Accel {
 #[test]
 fn a_compiled_program_gives_its_results_in_order(rt: HostRuntime) -> Result<(), Fail> {
     let alloc = rt.alloc();
-    let compiled = answer_with(alloc, &["compile", "P"], "P", PROGRAM.as_bytes(), Vec::new(alloc))?;
+    let compiled = answer_with(
+        alloc,
+        &["compile", "P"],
+        "P",
+        PROGRAM.as_bytes(),
+        Vec::new(alloc),
+    )?;
     let mut files = Vec::new(alloc);
     files.push(MemFile {
         name: String::from_str(alloc, "L")?,

@@ -10,6 +10,8 @@ use std::alloc::Global;
 /// A row of the command table.
 #[derive(Clone, Copy, Debug)]
 pub enum Command<'a> {
+    /// `check P`: whether program P is one of the language.
+    Check { program: &'a str },
     /// `compile P`: the listing of the netlist of program P.
     Compile { program: &'a str },
     /// `verilog P`: the Verilog text of that netlist.
@@ -28,6 +30,7 @@ fn row_of(said: Said<'_>) -> Option<Command<'_>>
 {
     let program = said.first;
     match (said.verb, said.second) {
+        ("check", None) => Some(Command::Check { program }),
         ("compile", None) => Some(Command::Compile { program }),
         ("verilog", None) => Some(Command::Verilog { program }),
         ("simulate", Some(setup)) => Some(Command::Simulate {

@@ -3,11 +3,11 @@ use Rattle.std.proofs.Common.{◌≡◌, ◌⊎◌, inl, inr, ap, sym, ◌∙◌
 use Rattle.std.proofs.lemmas.List.{length-take}
 use Rattle.sp_edges.specs.Standing.{Standing, Holds, IsAllOf, BeginsWith}
 use Rattle.sp_top.specs.Form.{Line, IsStraight, BreaksAt}
-use Rattle.sp_top.specs.Status.{PlainStatus, done, words, setup_refused, read_fault, write_fault, memory, listing_refused, conflict, cycles_spent, too_long, unbuilt}
+use Rattle.sp_top.specs.Status.{PlainStatus, done, words, setup_refused, read_fault, write_fault, memory, listing_refused, conflict, cycles_spent, too_long, unbuilt, source_refused}
 use Rattle.sp_edges.specs.Calls.{Call}
 use Rattle.sp_top.specs.Reads.{IsPastText}
 use Rattle.sp_top.specs.Compile.{longest_program, CompileRefuses}
-use Rattle.sp_top.specs.Commands.{Command, compile, verilog, simulate, waves, IsCommand, MayRefuse, Refuses, MayEnd, NotRefused}
+use Rattle.sp_top.specs.Commands.{Command, check, compile, verilog, simulate, waves, IsCommand, MayRefuse, Refuses, MayEnd, NotRefused}
 use Rattle.sp_top.specs.Record.{SinkChange, Records}
 use Rattle.sp_top.proofs.LawLemmas.{breaks_or_reads}
 
@@ -21,6 +21,19 @@ one_verilog said p q first second = let a = first.0 in let b = second.0 in cc
 -- their first words begin with other letters
 abbrev first_letter : List (List ℕ) → ℕ
 first_letter said = slice_index (slice_index_or said 0 []) 0
+
+abbrev second_letter : List (List ℕ) → ℕ
+second_letter said = slice_index (slice_index_or said 0 []) 1
+
+pub not_check : (said : List (List ℕ)) (p q : List ℕ) → IsCommand said (check p) → IsCommand said (compile q) → ⊥
+not_check said p q one other =
+    let letters : 104 ≡ 111 = sym (ap second_letter one.0) ∙ ap second_letter other.0 in
+    omega (arith, letters)
+
+pub not_check_verilog : (said : List (List ℕ)) (p q : List ℕ) → IsCommand said (check p) → IsCommand said (verilog q) → ⊥
+not_check_verilog said p q one other =
+    let letters : 99 ≡ 118 = sym (ap first_letter one.0) ∙ ap first_letter other.0 in
+    omega (arith, letters)
 
 not_both : (said : List (List ℕ)) (p q : List ℕ) → IsCommand said (compile p) → IsCommand said (verilog q) → ⊥
 not_both said p q one other =
@@ -49,6 +62,8 @@ same_bytes standing bytes others told all = subst (λ (s : Standing). IsAllOf s 
 -- words that are that command refuse as it does
 only_compile : (said : List (List ℕ)) (told : List ℕ → Standing) (failed : List ℕ → Type 0) (asked : List Call → Type 0) (program : List ℕ) (status : PlainStatus) (command : Command)
     → IsTranslation said program → IsCommand said command → MayRefuse told failed asked command status → CompileRefuses told failed asked program status
+only_compile said told failed asked program status (check other) (inl is) also refuses = absurd (not_check said other program also is)
+only_compile said told failed asked program status (check other) (inr is) also refuses = absurd (not_check_verilog said other program also is)
 only_compile said told failed asked program status (compile other) (inl is) also refuses =
     let P : List ℕ → Type 0 = λ p. CompileRefuses told failed asked p status in subst P (one_program said other program also is) refuses
 only_compile said told failed asked program status (compile other) (inr is) also refuses = absurd (not_both said other program also is)
@@ -74,6 +89,7 @@ ends_well said told failed asked is fine out aside (listing_refused error) recor
 ends_well said told failed asked is fine out aside (conflict cycle bank port) records = fine (conflict cycle bank port) records.2.0
 ends_well said told failed asked is fine out aside (cycles_spent cycles) records = fine (cycles_spent cycles) records.2.0
 ends_well said told failed asked is fine out aside (too_long name) records = fine (too_long name) records.2.0
+ends_well said told failed asked is fine out aside (source_refused error) records = fine (source_refused error) records.2.0
 ends_well said told failed asked is fine out aside (unbuilt line) records = fine (unbuilt line) records.2.0
 
 module _ (told : List ℕ → Standing) (failed : List ℕ → Type 0) (asked : List Call → Type 0) (program bytes : List ℕ) (lines : List Line) where
@@ -90,6 +106,7 @@ module _ (told : List ℕ → Standing) (failed : List ℕ → Type 0) (asked : 
   compiles (conflict cycle bank port) read holds small straight refuses = absurd refuses
   compiles (cycles_spent cycles) read holds small straight refuses = absurd refuses
   compiles (too_long name) read holds small straight refuses = absurd (past longest_program (told program) bytes holds small refuses.2)
+  compiles (source_refused error) read holds small straight refuses = absurd refuses
   compiles (unbuilt line) read holds small straight refuses =
       let same : refuses.bytes ≡ bytes = same_bytes (told program) bytes refuses.bytes holds refuses.gives.all in
       absurd (breaks_or_reads bytes line lines (subst (λ (b : List ℕ). BreaksAt b line) same refuses.breaks) straight)

@@ -19,10 +19,10 @@ use Rattle.sp_setup.specs.declared.error.SetupEnd.TheVariants as setup
 use Rattle.sp_setup.specs.Setup.{PlainSetup, IsSetup, SetupEnds, files_named}
 use Rattle.sp_setup.specs.Laws.{AreTold, SetupEnds-wide, SetupEnds-read_fault}
 use Rattle.sp_words.specs.Ports.{PlainPorts}
-use Rattle.sp_top.specs.Status.{PlainStatus, done, words, setup_refused, read_fault, write_fault, memory, listing_refused, conflict, cycles_spent, too_long, unbuilt}
+use Rattle.sp_top.specs.Status.{PlainStatus, done, words, setup_refused, read_fault, write_fault, memory, listing_refused, conflict, cycles_spent, too_long, unbuilt, source_refused}
 use Rattle.sp_top.specs.Reads.{ReadRefuses}
 use Rattle.sp_top.specs.Simulate.{longest_listing, longest_setup, setting_of, end_status, GivesNetlist, RefusesListing, ListingRefuses, SetupRefuses, RunEnds, DumpEnds, SimulateRefuses}
-use Rattle.sp_top.specs.Commands.{Command, compile, verilog, simulate, waves, IsCommand, MayRefuse, MayEnd, NotRefused}
+use Rattle.sp_top.specs.Commands.{Command, check, compile, verilog, simulate, waves, IsCommand, MayRefuse, MayEnd, NotRefused}
 use Rattle.sp_top.specs.Complete.{IsRunnable, IsDoneInTime}
 use Rattle.sp_top.specs.Record.{SinkChange, Records}
 use Rattle.sp_top.proofs.CompleteLemmas.{past, same_bytes, ends_well}
@@ -57,6 +57,7 @@ read_part standing failed asked most name held fine told small (listing_refused 
 read_part standing failed asked most name held fine told small (conflict cycle bank port) refuses = absurd refuses
 read_part standing failed asked most name held fine told small (cycles_spent cycles) refuses = absurd refuses
 read_part standing failed asked most name held fine told small (too_long said) refuses = absurd (past most standing held told small refuses.2)
+read_part standing failed asked most name held fine told small (source_refused error) refuses = absurd refuses
 read_part standing failed asked most name held fine told small (unbuilt line) refuses = absurd refuses
 
 module _ (laws : HasLaws) (told : List ℕ → Standing) (sure failed : List ℕ → Type 0) (asked : List Call → Type 0) (fine : (name : List ℕ) → sure name → failed name → ⊥)
@@ -102,6 +103,7 @@ module _ (laws : HasLaws) (told : List ℕ → Standing) (sure failed : List ℕ
   listing_part (conflict cycle bank port) refuses = absurd refuses
   listing_part (cycles_spent cycles) refuses = absurd refuses
   listing_part (too_long said) refuses = read_listing (too_long said) refuses
+  listing_part (source_refused error) refuses = absurd refuses
   listing_part (unbuilt line) refuses = absurd refuses
 
   one_netlist : (others : List PlainCell) → GivesNetlist (told listing) others → others ≡ cells
@@ -175,6 +177,7 @@ module _ (laws : HasLaws) (told : List ℕ → Standing) (sure failed : List ℕ
   run_ends in_time (cycles_spent cycles) ends =
       let same = (laws.one_ending (setting_of cells plain) r.netlist.netlist plain.cycles).same_ending _ _ in_time.ends ends.1 in absurd (cc)
   run_ends in_time (too_long name) ends = absurd ends
+  run_ends in_time (source_refused error) ends = absurd ends
   run_ends in_time (unbuilt line) ends = absurd ends
 
   dump_ends : (status : PlainStatus) → DumpEnds cells plain status → NotRefused status
@@ -188,6 +191,7 @@ module _ (laws : HasLaws) (told : List ℕ → Standing) (sure failed : List ℕ
   dump_ends (conflict cycle bank port) ends = absurd ends
   dump_ends (cycles_spent cycles) ends = absurd ends
   dump_ends (too_long name) ends = absurd ends
+  dump_ends (source_refused error) ends = absurd ends
   dump_ends (unbuilt line) ends = absurd ends
 
   -- ---- the commands
@@ -195,6 +199,7 @@ module _ (laws : HasLaws) (told : List ℕ → Standing) (sure failed : List ℕ
   -- words are one command
   simulates_alone : (said : List (List ℕ)) (status : PlainStatus) (command : Command) → IsCommand said (simulate listing setup_name) → IsCommand said command
       → MayRefuse told failed asked command status → SimulateRefuses RunEnds told failed asked listing setup_name status
+  simulates_alone said status (check other) is also refuses = let a = is.0 in let b = also.0 in absurd (cc)
   simulates_alone said status (compile other) is also refuses = let a = is.0 in let b = also.0 in absurd (cc)
   simulates_alone said status (verilog other) is also refuses = let a = is.0 in let b = also.0 in absurd (cc)
   simulates_alone said status (simulate l s) is also refuses =
@@ -210,6 +215,7 @@ module _ (laws : HasLaws) (told : List ℕ → Standing) (sure failed : List ℕ
 
   dumps_alone : (said : List (List ℕ)) (status : PlainStatus) (command : Command) → IsCommand said (waves listing setup_name) → IsCommand said command
       → MayRefuse told failed asked command status → SimulateRefuses DumpEnds told failed asked listing setup_name status
+  dumps_alone said status (check other) is also refuses = let a = is.0 in let b = also.0 in absurd (cc)
   dumps_alone said status (compile other) is also refuses = let a = is.0 in let b = also.0 in absurd (cc)
   dumps_alone said status (verilog other) is also refuses = let a = is.0 in let b = also.0 in absurd (cc)
   dumps_alone said status (waves l s) is also refuses =

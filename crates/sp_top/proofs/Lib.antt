@@ -19,6 +19,7 @@ pub mod Loops
 pub mod EndLoops
 pub mod Ends
 pub mod CompleteLemmas
+pub mod CheckLemmas
 pub mod CompleteRuns
 pub mod ResultLemmas
 pub mod SimulateLemmas

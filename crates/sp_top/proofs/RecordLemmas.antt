@@ -5,7 +5,7 @@ use Rattle.std.proofs.lemmas.List.{append-nil}
 use Rattle.sp_edges.specs.Gained.{Gained}
 use Rattle.sp_top.specs.declared.status.SinkName.{SinkName}
 use Rattle.sp_top.specs.declared.status.SinkName.TheVariants.{Out, Aside}
-use Rattle.sp_top.specs.Status.{PlainStatus, done, words, setup_refused, read_fault, write_fault, memory, listing_refused, conflict, cycles_spent, too_long, unbuilt, line_of, HasParts}
+use Rattle.sp_top.specs.Status.{PlainStatus, done, words, setup_refused, read_fault, write_fault, memory, listing_refused, conflict, cycles_spent, too_long, unbuilt, source_refused, line_of, HasParts}
 use Rattle.sp_top.specs.Record.{SinkChange, Took, TookLine, TookNothing, PutPart, Puts, Refuses, Delivers, Ends, Records}
 
 -- a sink that wasn't used gained nothing
@@ -27,6 +27,7 @@ delivered may (cycles_spent cycles) out_text aside_text out aside ends took = ab
 delivered may read_fault out_text aside_text out aside ends took = absurd took
 delivered may memory out_text aside_text out aside ends took = absurd took
 delivered may (too_long name) out_text aside_text out aside ends took = absurd took
+delivered may (source_refused error) out_text aside_text out aside ends took = absurd took
 delivered may (unbuilt line) out_text aside_text out aside ends took = absurd took
 
 -- no call ends as a text whose put failed
@@ -53,6 +54,7 @@ took_line may read_fault out aside none undone ends nothing took = (line_of read
 took_line may (write_fault which) out aside none undone ends nothing took = absurd (none which _ _ ends)
 took_line may memory out aside none undone ends nothing took = (line_of memory, [], ends, took, took_none aside nothing)
 took_line may (too_long name) out aside none undone ends nothing took = (line_of (too_long name), [], ends, took, took_none aside nothing)
+took_line may (source_refused error) out aside none undone ends nothing took = (line_of (source_refused error), [], ends, took, took_none aside nothing)
 took_line may (unbuilt line) out aside none undone ends nothing took = (line_of (unbuilt line), [], ends, took, took_none aside nothing)
 
 put_line : (said : PlainStatus) (sink : SinkChange) (line : List ℕ) → NotDone said → sink.put (line ∷ []) → PutPart said sink line
@@ -66,6 +68,7 @@ put_line read_fault sink line undone put = put
 put_line (write_fault which) sink line undone put = put
 put_line memory sink line undone put = put
 put_line (too_long name) sink line undone put = put
+put_line (source_refused error) sink line undone put = put
 put_line (unbuilt number) sink line undone put = put
 
 puts_line : (may : Ends) (said result : PlainStatus) (out aside : SinkChange) → NoFault may → NotDone said → may said (line_of said) [] → TookNothing aside

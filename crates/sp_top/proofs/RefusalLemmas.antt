@@ -10,11 +10,12 @@ use Rattle.sp_setup.specs.Setup.{PlainSetup, SetupEnds}
 use Rattle.sp_setup.specs.Laws.{SetupEnds-refused, SetupEnds-too_long}
 use Rattle.sp_setup.specs.declared.error.SetupEnd.{SetupEnd}
 use Rattle.sp_setup.specs.declared.error.SetupEnd.TheVariants as setup
-use Rattle.sp_top.specs.Status.{PlainStatus, done, words, setup_refused, read_fault, write_fault, memory, listing_refused, conflict, cycles_spent, too_long, unbuilt, line_of, HasParts}
+use Rattle.sp_top.specs.Status.{PlainStatus, done, words, setup_refused, read_fault, write_fault, memory, listing_refused, conflict, cycles_spent, too_long, unbuilt, source_refused, line_of, HasParts}
 use Rattle.sp_top.specs.Reads.{ReadRefuses}
+use Rattle.sp_top.specs.Check.{CheckRefuses}
 use Rattle.sp_top.specs.Compile.{CompileRefuses}
 use Rattle.sp_top.specs.Simulate.{ListingRefuses, SetupRefuses, end_status, RunEnds, DumpEnds, longest_setup}
-use Rattle.sp_top.specs.Commands.{Command, compile, verilog, simulate, waves, MayRefuse, Refuses, MayEnd}
+use Rattle.sp_top.specs.Commands.{Command, check, compile, verilog, simulate, waves, MayRefuse, Refuses, MayEnd}
 
 -- a status in which a command may refuse
 abbrev pub IsRefusal : PlainStatus → Type 0
@@ -28,6 +29,7 @@ IsRefusal (listing_refused error) = Unit {0}
 IsRefusal (conflict cycle bank port) = Unit {0}
 IsRefusal (cycles_spent cycles) = Unit {0}
 IsRefusal (too_long text) = Unit {0}
+IsRefusal (source_refused error) = Unit {0}
 IsRefusal (unbuilt line) = Unit {0}
 
 end_refuses : (end : SetupEnd) → IsRefusal (end_status end)
@@ -47,6 +49,7 @@ read_refuses standing failed asked most name (listing_refused error) refuses = t
 read_refuses standing failed asked most name (conflict cycle bank port) refuses = tt
 read_refuses standing failed asked most name (cycles_spent cycles) refuses = tt
 read_refuses standing failed asked most name (too_long text) refuses = tt
+read_refuses standing failed asked most name (source_refused error) refuses = tt
 read_refuses standing failed asked most name (unbuilt line) refuses = tt
 
 compile_refuses : (told : List ℕ → Standing) (failed : List ℕ → Type 0) (asked : List Call → Type 0) (program : List ℕ) (status : PlainStatus) → CompileRefuses told failed asked program status → IsRefusal status
@@ -60,7 +63,22 @@ compile_refuses told failed asked program (listing_refused error) refuses = tt
 compile_refuses told failed asked program (conflict cycle bank port) refuses = tt
 compile_refuses told failed asked program (cycles_spent cycles) refuses = tt
 compile_refuses told failed asked program (too_long text) refuses = tt
+compile_refuses told failed asked program (source_refused error) refuses = tt
 compile_refuses told failed asked program (unbuilt line) refuses = tt
+
+check_refuses : (told : List ℕ → Standing) (failed : List ℕ → Type 0) (asked : List Call → Type 0) (program : List ℕ) (status : PlainStatus) → CheckRefuses told failed asked program status → IsRefusal status
+check_refuses told failed asked program done refuses = absurd refuses
+check_refuses told failed asked program words refuses = absurd refuses
+check_refuses told failed asked program (setup_refused refusal) refuses = tt
+check_refuses told failed asked program read_fault refuses = tt
+check_refuses told failed asked program (write_fault which) refuses = absurd refuses
+check_refuses told failed asked program memory refuses = tt
+check_refuses told failed asked program (listing_refused error) refuses = tt
+check_refuses told failed asked program (conflict cycle bank port) refuses = tt
+check_refuses told failed asked program (cycles_spent cycles) refuses = tt
+check_refuses told failed asked program (too_long text) refuses = tt
+check_refuses told failed asked program (source_refused error) refuses = tt
+check_refuses told failed asked program (unbuilt line) refuses = tt
 
 listing_refuses : (standing : Standing) (failed : Type 0) (asked : List Call → Type 0) (name : List ℕ) (status : PlainStatus) → ListingRefuses standing failed asked name status → IsRefusal status
 listing_refuses standing failed asked name done refuses = absurd refuses
@@ -73,6 +91,7 @@ listing_refuses standing failed asked name (listing_refused error) refuses = tt
 listing_refuses standing failed asked name (conflict cycle bank port) refuses = tt
 listing_refuses standing failed asked name (cycles_spent cycles) refuses = tt
 listing_refuses standing failed asked name (too_long text) refuses = tt
+listing_refuses standing failed asked name (source_refused error) refuses = tt
 listing_refuses standing failed asked name (unbuilt line) refuses = tt
 
 setup_refuses : (told : List ℕ → Standing) (failed : List ℕ → Type 0) (asked : List Call → Type 0) (ports : PlainPorts) (name : List ℕ) (status : PlainStatus) → SetupRefuses told failed asked ports name status → IsRefusal status
@@ -90,6 +109,7 @@ run_refuses cells plain (listing_refused error) refuses = tt
 run_refuses cells plain (conflict cycle bank port) refuses = tt
 run_refuses cells plain (cycles_spent cycles) refuses = tt
 run_refuses cells plain (too_long text) refuses = tt
+run_refuses cells plain (source_refused error) refuses = tt
 run_refuses cells plain (unbuilt line) refuses = tt
 
 dump_refuses : (cells : List PlainCell) (plain : PlainSetup) (status : PlainStatus) → DumpEnds cells plain status → IsRefusal status
@@ -103,9 +123,11 @@ dump_refuses cells plain (listing_refused error) refuses = tt
 dump_refuses cells plain (conflict cycle bank port) refuses = tt
 dump_refuses cells plain (cycles_spent cycles) refuses = tt
 dump_refuses cells plain (too_long text) refuses = tt
+dump_refuses cells plain (source_refused error) refuses = tt
 dump_refuses cells plain (unbuilt line) refuses = tt
 
 may_refuse : (told : List ℕ → Standing) (failed : List ℕ → Type 0) (asked : List Call → Type 0) (command : Command) (status : PlainStatus) → MayRefuse told failed asked command status → IsRefusal status
+may_refuse told failed asked (check program) status refuses = check_refuses told failed asked program status refuses
 may_refuse told failed asked (compile program) status refuses = compile_refuses told failed asked program status refuses
 may_refuse told failed asked (verilog program) status refuses = compile_refuses told failed asked program status refuses
 may_refuse told failed asked (simulate listing setup) status (inl refuses) = listing_refuses (told listing) (failed listing) asked listing status refuses
@@ -130,6 +152,7 @@ ends_refused said told failed asked (listing_refused error) refuses = (refuses, 
 ends_refused said told failed asked (conflict cycle bank port) refuses = (refuses, refl, refl)
 ends_refused said told failed asked (cycles_spent cycles) refuses = (refuses, refl, refl)
 ends_refused said told failed asked (too_long text) refuses = (refuses, refl, refl)
+ends_refused said told failed asked (source_refused error) refuses = (refuses, refl, refl)
 ends_refused said told failed asked (unbuilt line) refuses = (refuses, refl, refl)
 
 pub not_done : (said : List (List ℕ)) (told : List ℕ → Standing) (failed : List ℕ → Type 0) (asked : List Call → Type 0) (status : PlainStatus) → Refuses said told failed asked status → status ≡ done → ⊥
@@ -155,6 +178,7 @@ read_memory standing failed asked most name (listing_refused error) parts refuse
 read_memory standing failed asked most name (conflict cycle bank port) parts refuses = absurd refuses
 read_memory standing failed asked most name (cycles_spent cycles) parts refuses = absurd refuses
 read_memory standing failed asked most name (too_long text) parts refuses = too_long_call asked name refuses.0
+read_memory standing failed asked most name (source_refused error) parts refuses = absurd refuses
 read_memory standing failed asked most name (unbuilt line) parts refuses = absurd refuses
 
 compile_memory : (told : List ℕ → Standing) (failed : List ℕ → Type 0) (asked : List Call → Type 0) (program : List ℕ) (status : PlainStatus) → HasParts status
@@ -169,7 +193,23 @@ compile_memory told failed asked program (listing_refused error) parts refuses =
 compile_memory told failed asked program (conflict cycle bank port) parts refuses = absurd refuses
 compile_memory told failed asked program (cycles_spent cycles) parts refuses = absurd refuses
 compile_memory told failed asked program (too_long text) parts refuses = too_long_call asked program refuses.0
+compile_memory told failed asked program (source_refused error) parts refuses = absurd refuses
 compile_memory told failed asked program (unbuilt line) parts refuses = given_call asked program refuses.asks
+
+check_memory : (told : List ℕ → Standing) (failed : List ℕ → Type 0) (asked : List Call → Type 0) (program : List ℕ) (status : PlainStatus) → HasParts status
+    → CheckRefuses told failed asked program status → WantsMemory asked (program ∷ [])
+check_memory told failed asked program done parts refuses = absurd parts
+check_memory told failed asked program words parts refuses = absurd parts
+check_memory told failed asked program (setup_refused refusal) parts refuses = absurd refuses
+check_memory told failed asked program read_fault parts refuses = absurd parts
+check_memory told failed asked program (write_fault which) parts refuses = absurd parts
+check_memory told failed asked program memory parts refuses = absurd parts
+check_memory told failed asked program (listing_refused error) parts refuses = absurd refuses
+check_memory told failed asked program (conflict cycle bank port) parts refuses = absurd refuses
+check_memory told failed asked program (cycles_spent cycles) parts refuses = absurd refuses
+check_memory told failed asked program (too_long text) parts refuses = too_long_call asked program refuses.0
+check_memory told failed asked program (source_refused error) parts refuses = given_call asked program refuses.asks
+check_memory told failed asked program (unbuilt line) parts refuses = absurd refuses
 
 listing_memory : (standing : Standing) (failed : Type 0) (asked : List Call → Type 0) (name : List ℕ) (status : PlainStatus) → HasParts status
     → ListingRefuses standing failed asked name status → WantsMemory asked (name ∷ [])
@@ -183,6 +223,7 @@ listing_memory standing failed asked name (listing_refused error) parts refuses 
 listing_memory standing failed asked name (conflict cycle bank port) parts refuses = absurd refuses
 listing_memory standing failed asked name (cycles_spent cycles) parts refuses = absurd refuses
 listing_memory standing failed asked name (too_long text) parts refuses = too_long_call asked name refuses.0
+listing_memory standing failed asked name (source_refused error) parts refuses = absurd refuses
 listing_memory standing failed asked name (unbuilt line) parts refuses = absurd refuses
 
 end_memory : (told : List ℕ → Standing) (failed : List ℕ → Type 0) (asked : List Call → Type 0) (ports : PlainPorts) (bytes : List ℕ) (end : SetupEnd) → HasParts (end_status end)
@@ -206,6 +247,7 @@ setup_memory told failed asked ports name status parts (inr stops) =
 
 memory_refuses : (told : List ℕ → Standing) (failed : List ℕ → Type 0) (asked : List Call → Type 0) (command : Command) (status : PlainStatus) → HasParts status
     → MayRefuse told failed asked command status → MayRefuse told failed asked command memory
+memory_refuses told failed asked (check program) status parts refuses = check_memory told failed asked program status parts refuses
 memory_refuses told failed asked (compile program) status parts refuses = compile_memory told failed asked program status parts refuses
 memory_refuses told failed asked (verilog program) status parts refuses = compile_memory told failed asked program status parts refuses
 memory_refuses told failed asked (simulate listing setup) status parts (inl refuses) = inl (listing_memory (told listing) (failed listing) asked listing status parts refuses)

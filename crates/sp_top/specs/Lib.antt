@@ -6,6 +6,7 @@ pub mod Status
 pub mod Reads
 pub mod ResultText
 pub mod Compile
+pub mod Check
 pub mod Complete
 pub mod Simulate
 pub mod Simulated

@@ -8,9 +8,16 @@ use Rattle.sp_listing.specs.declared.error.ListError.{ListError}
 use Rattle.sp_listing.specs.declared.error.ListError.TheVariants as list
 use Rattle.sp_setup.specs.Refusal.{Refusal, plain_error}
 use Rattle.sp_setup.specs.ErrorText.{refusal_text}
+use Rattle.sp_check.specs.declared.error.TypeError.{TypeError}
+use Rattle.sp_check.specs.declared.error.TypeError.TheVariants as types
+use Rattle.sp_check.specs.Texts.{error_text}
+use Rattle.sp_reader.specs.declared.error.ReadError.{ReadError}
+use Rattle.sp_reader.specs.declared.error.ReadError.TheVariants as read
+use Rattle.sp_source.specs.declared.error.SourceError.{SourceError}
+use Rattle.sp_source.specs.declared.error.SourceError.TheVariants as source
 use Rattle.sp_top.specs.declared.status.SinkName.{SinkName}
 use Rattle.sp_top.specs.declared.status.Status.{Status}
-use Rattle.sp_top.specs.declared.status.Status.TheVariants.{Done, Words, Setup, ReadFault, WriteFault, Memory, Listing, Conflict, CyclesSpent, TooLong, Unbuilt}
+use Rattle.sp_top.specs.declared.status.Status.TheVariants.{Done, Words, Setup, ReadFault, WriteFault, Memory, Listing, Conflict, CyclesSpent, TooLong, Unbuilt, Source}
 
 pub data PlainStatus : Type 0 where
   done : PlainStatus
@@ -24,6 +31,7 @@ pub data PlainStatus : Type 0 where
   cycles_spent : (cycles : ℕ) → PlainStatus
   too_long : (name : List ℕ) → PlainStatus
   unbuilt : (line : ℕ) → PlainStatus
+  source_refused : (error : SourceError) → PlainStatus
 
 abbrev pub plain_status : Status → PlainStatus
 plain_status Done = done
@@ -37,6 +45,18 @@ plain_status (Conflict cycle bank port) = conflict cycle bank port
 plain_status (CyclesSpent cycles) = cycles_spent cycles
 plain_status (TooLong name) = too_long (string_bytes name)
 plain_status (Unbuilt line) = unbuilt line
+plain_status (Source error) = source_refused error
+
+-- a text that isn't read, a place that breaks a rule of names and types, and a count past its limit have numbers of
+-- their own
+abbrev pub types_number : TypeError → ℕ
+types_number (types.Limit which count) = 4
+types_number error = 3
+
+abbrev pub source_number : SourceError → ℕ
+source_number (source.Read error) = 1
+source_number (source.Types error) = types_number error
+source_number source.Memory = 10
 
 abbrev pub number_of : PlainStatus → ℕ
 number_of done = 0
@@ -50,6 +70,7 @@ number_of (conflict cycle bank port) = 12
 number_of (cycles_spent cycles) = 13
 number_of (too_long name) = 14
 number_of (unbuilt line) = 15
+number_of (source_refused error) = source_number error
 
 -- why a list of cells is no netlist
 abbrev pub net_line : NetError → List ℕ
@@ -64,6 +85,25 @@ abbrev pub list_line : ListError → List ℕ
 list_line (list.NoListing line) = codes "no listing at line " ++ (decimal line ++ codes "\n")
 list_line (list.Net error) = net_line error
 list_line list.Memory = codes "out of memory\n"
+
+-- why a text isn't read
+abbrev pub read_line : ReadError → List ℕ
+read_line (read.NotText at) = codes "not text at " ++ (decimal at ++ codes "\n")
+read_line (read.NoParse at) = codes "no parse at " ++ (decimal at ++ codes "\n")
+read_line (read.TooDeep at) = codes "too deep at " ++ (decimal at ++ codes "\n")
+read_line (read.LiteralTooWide at) = codes "literal too wide at " ++ (decimal at ++ codes "\n")
+read_line read.Memory = codes "out of memory\n"
+
+-- the first word of the line of a tree that is refused
+abbrev pub types_head : TypeError → List ℕ
+types_head (types.Limit which count) = codes "limit: "
+types_head error = codes "types: "
+
+-- why a text spells no program
+abbrev pub source_line : SourceError → List ℕ
+source_line (source.Read error) = codes "source: " ++ read_line error
+source_line (source.Types error) = types_head error ++ (error_text error ++ codes "\n")
+source_line source.Memory = codes "source: out of memory\n"
 
 abbrev pub port_text : Port → List ℕ
 port_text Read = codes "read port"
@@ -82,6 +122,7 @@ line_of (conflict cycle bank port) = codes "conflict: cycle " ++ (decimal cycle 
 line_of (cycles_spent cycles) = codes "cycles spent: " ++ (decimal cycles ++ codes "\n")
 line_of (too_long name) = codes "too long: " ++ (name ++ codes "\n")
 line_of (unbuilt line) = codes "unbuilt at line " ++ (decimal line ++ codes "\n")
+line_of (source_refused error) = source_line error
 
 -- the line has a name or a number in it, so memory is needed for it; the other lines are constants
 abbrev pub HasParts : PlainStatus → Type 0

@@ -1,12 +1,16 @@
 //! The lines of refusals.
-ghost use Rattle.std.specs.Prelude.{◌≡◌, IfOk, MatchOption, string_bytes};
+ghost use Rattle.std.specs.Prelude.{◌≡◌, ◌++◌, IfOk, MatchOption, codes, string_bytes};
 ghost use Rattle.sp_setup.specs.Refusal.{plain_error};
-ghost use Rattle.sp_top.specs.Status.{plain_status, line_of, HasParts, listing_refused, conflict, setup_refused};
+ghost use Rattle.sp_top.specs.Status.{plain_status, line_of, HasParts, listing_refused, conflict, setup_refused, read_line, types_head, source_refused};
+ghost use Rattle.sp_check.specs.Texts.{error_text};
 
 use crate::status::Status;
+use sp_check::TypeError;
 use sp_listing::ListError;
 use sp_netlist::{NetError, Port};
+use sp_reader::ReadError;
 use sp_setup::SetupError;
+use sp_source::SourceError;
 use std::alloc::{AllocError, Global};
 
 /// The line of a status, where it is a constant.
@@ -59,6 +63,37 @@ fn conflict_line(alloc: Global, cycle: u64, bank: u64, port: Port) -> Result<Str
     }
 }
 
+fn read_line(alloc: Global, error: ReadError) -> Result<String, AllocError>
+    ensures { IfOk result (λ line. string_bytes line ≡ codes "source: " ++ read_line error) }
+{
+    match error {
+        ReadError::NotText { at } => format!(in alloc; "source: not text at {at}\n"),
+        ReadError::NoParse { at } => format!(in alloc; "source: no parse at {at}\n"),
+        ReadError::TooDeep { at } => format!(in alloc; "source: too deep at {at}\n"),
+        ReadError::LiteralTooWide { at } => format!(in alloc; "source: literal too wide at {at}\n"),
+        ReadError::Memory => String::from_str(alloc, "source: out of memory\n"),
+    }
+}
+
+fn types_line(alloc: Global, error: TypeError) -> Result<String, AllocError>
+    ensures { IfOk result (λ line. string_bytes line ≡ types_head error ++ (error_text error ++ codes "\n")) }
+{
+    match error {
+        TypeError::Limit { which: _, count: _ } => format!(in alloc; "limit: {error}\n"),
+        _ => format!(in alloc; "types: {error}\n"),
+    }
+}
+
+fn source_line(alloc: Global, error: SourceError) -> Result<String, AllocError>
+    ensures { IfOk result (λ line. string_bytes line ≡ line_of (source_refused error)) }
+{
+    match error {
+        SourceError::Read(error) => read_line(alloc, error),
+        SourceError::Types(error) => types_line(alloc, error),
+        SourceError::Memory => String::from_str(alloc, "source: out of memory\n"),
+    }
+}
+
 /// The line of a status with a name or a number in it.
 pub fn built_line(alloc: Global, status: &Status) -> Result<String, AllocError>
     requires { HasParts (plain_status status.now) }
@@ -71,6 +106,7 @@ pub fn built_line(alloc: Global, status: &Status) -> Result<String, AllocError>
         Status::CyclesSpent { cycles } => format!(in alloc; "cycles spent: {cycles}\n"),
         Status::TooLong { name } => format!(in alloc; "too long: {name}\n"),
         Status::Unbuilt { line } => format!(in alloc; "unbuilt at line {line}\n"),
+        Status::Source(error) => source_line(alloc, *error),
         _ => Ok(String::new(alloc)),
     }
 }

@@ -1,8 +1,10 @@
 //! How a call ends.
 
+use sp_check::TypeError;
 use sp_listing::ListError;
 use sp_netlist::Port;
 use sp_setup::SetupError;
+use sp_source::SourceError;
 
 /// One of the two sinks.
 #[derive(Clone, Copy, Debug, PartialEq, Eq)]
@@ -37,6 +39,8 @@ pub enum Status {
     TooLong { name: String },
     /// The program is not of the straight form, first at this line, counted from 1.
     Unbuilt { line: u32 },
+    /// The text spells no program. The error is never want of memory.
+    Source(SourceError),
 }
 
 impl Status {
@@ -63,6 +67,10 @@ impl Status {
             Status::CyclesSpent { cycles: _ } => 13,
             Status::TooLong { name: _ } => 14,
             Status::Unbuilt { line: _ } => 15,
+            Status::Source(SourceError::Read(_)) => 1,
+            Status::Source(SourceError::Types(TypeError::Limit { which: _, count: _ })) => 4,
+            Status::Source(SourceError::Types(_)) => 3,
+            Status::Source(SourceError::Memory) => 10,
         }
     }
 }

@@ -7,12 +7,15 @@ ghost use Rattle.sp_top.specs.Form.{Line, IsStraight};
 ghost use Rattle.sp_top.specs.Commands.{IsCommand, DoneTexts, MayRefuse, MayEnd, NotRefused};
 ghost use Rattle.sp_netlist.specs.Cells.{PlainCell};
 ghost use Rattle.sp_setup.specs.Setup.{PlainSetup};
+ghost use Rattle.sp_source.specs.Texts.{Spells};
+ghost use Rattle.sp_tree.specs.PlainProgram.{PlainProgram};
 ghost use Rattle.sp_top.specs.Complete.{IsRunnable, IsDoneInTime};
 ghost use Rattle.sp_top.specs.Compile.{longest_program};
 ghost use Rattle.sp_top.specs.Commands as commands;
 ghost use Rattle.sp_top.specs.Said.{plain_command};
 ghost use Rattle.sp_top.specs.Record.{Records};
 
+use crate::check::check;
 use crate::compile::{compile, print_verilog};
 use crate::simulate::{View, simulate};
 use crate::sinks::{Texts, deliver, refuse};
@@ -22,6 +25,7 @@ use sp_edges::{Inputs, Sink};
 use sp_listing::{listing_breaks_nowhere, listing_has_one_reading};
 use sp_netlist::{one_ending, refusals_exact};
 use sp_setup::{setups_are_not_refused, setups_are_one};
+use sp_source::spelled_texts_are_not_refused;
 use std::alloc::Global;
 
 // The texts of a command, or why it refuses.
@@ -31,6 +35,7 @@ fn texts_of<I: Inputs>(alloc: Global, command: Command<'_>, inputs: &mut I) -> R
         (λ name. Rose (I.faults inputs.old) (I.faults inputs.new) × (I.sure inputs.old name → ⊥)) (λ calls. I.asked inputs.old calls inputs.new) (plain_command command.entry) (plain_status status)) }
 {
     match command {
+        Command::Check { program } => check(alloc, program, inputs),
         Command::Compile { program } => compile(alloc, program, inputs),
         Command::Verilog { program } => print_verilog(alloc, program, inputs),
         Command::Simulate { listing, setup } => {
@@ -98,6 +103,9 @@ pub fn spatialc<I: Inputs, K: Sink, A: Sink>(
     // A program of the form under a sure name isn't refused.
     ensures complete { (program bytes : List ℕ) (lines : List Line) → IsCommand (map string_bytes words.now) (commands.compile program) ⊎ IsCommand (map string_bytes words.now) (commands.verilog program) → I.sure inputs.old program
         → I.told inputs.old program ≡ Holds bytes → length bytes ≤ longest_program → IsStraight bytes lines → NotRefused (plain_status result) }
+    // Nor is the check of a text that spells a program.
+    ensures checks { (program bytes : List ℕ) (plain : PlainProgram) → IsCommand (map string_bytes words.now) (commands.check program) → I.sure inputs.old program
+        → I.told inputs.old program ≡ Holds bytes → length bytes ≤ longest_program → Spells bytes plain → NotRefused (plain_status result) }
     // Nor is the simulation of a listing that is done within its setup's cycles, nor the dump of any run.
     ensures simulates { (listing setup : List ℕ) (cells : List PlainCell) (plain : PlainSetup) → IsCommand (map string_bytes words.now) (commands.simulate listing setup)
         → IsRunnable (I.told inputs.old) (I.sure inputs.old) listing setup cells plain → IsDoneInTime cells plain → NotRefused (plain_status result) }
@@ -110,5 +118,6 @@ pub fn spatialc<I: Inputs, K: Sink, A: Sink>(
     one_ending();
     setups_are_not_refused();
     setups_are_one();
+    spelled_texts_are_not_refused();
     answer(alloc, words, inputs, out, aside)
 }

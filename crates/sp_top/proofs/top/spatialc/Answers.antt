@@ -1,6 +1,7 @@
 use Rattle.std.proofs.Common.{ℕ, List}
 use Rattle.sp_edges.specs.Calls.{Call}
 use Rattle.sp_edges.specs.Counts.{Rose}
+use Rattle.sp_top.proofs.CheckLemmas.{check_complete}
 use Rattle.sp_top.proofs.CompleteLemmas.{complete}
 use Rattle.sp_top.proofs.CompleteRuns.{HasLaws, simulation_complete, dump_complete}
 use Rattle.sp_top.proofs.top.spatialc.Goals as goal
@@ -13,6 +14,14 @@ returns-clause-complete g c = λ program bytes lines is sure holds small straigh
     let read : failed program → ⊥ = λ f. f.1 sure in
     let asked : List Call → Type 0 = λ calls. g.I.Inputs.asked c.args.inputs.now calls c.answer.new.inputs in
     complete _ failed asked program bytes lines _ _ _ _ c.answer.ensures is read holds small straight
+
+pub returns-clause-checks : goal.returns-clause-checks
+returns-clause-checks g c = λ program bytes plain is sure holds small spells.
+    let failed : List ℕ → Type 0 =
+    λ name. Rose (g.I.Inputs.faults c.args.inputs.now) (g.I.Inputs.faults c.answer.new.inputs) × (g.I.Inputs.sure c.args.inputs.now name → ⊥) in
+    let read : failed program → ⊥ = λ f. f.1 sure in
+    let asked : List Call → Type 0 = λ calls. g.I.Inputs.asked c.args.inputs.now calls c.answer.new.inputs in
+    check_complete c.spelled_texts_are_not_refused.ensures _ failed asked program bytes plain _ _ _ _ c.answer.ensures is read holds small spells
 
 pub returns-clause-simulates : goal.returns-clause-simulates
 returns-clause-simulates g c = λ listing setup cells plain is runnable in_time.
