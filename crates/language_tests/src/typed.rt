@@ -1,6 +1,6 @@
-use sp_typed::typed_block;
 use sp_reader::read;
 use sp_tree::{Ctl, Expr, ExprKind, Stmt, StmtKind};
+use sp_typed::typed_block;
 use sp_words::BinOp;
 use std::alloc::Global;
 use std::test::Fail;

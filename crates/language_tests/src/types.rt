@@ -1,5 +1,5 @@
-use sp_types::{Refusal, Rule, first_refusal};
 use sp_reader::read;
+use sp_types::{Refusal, Rule, first_refusal};
 use std::alloc::{AllocError, Global};
 use std::test::Fail;
 

@@ -1,5 +1,5 @@
 -- A text that spells a program spells no other, and has no cause to be refused.
-use Rattle.std.proofs.Common.{◌≡◌, ◌∙◌, ℕ, List, [], Option, Some, None, Ok, Err, refl, sym, ap, subst}
+use Rattle.std.proofs.Common.{◌≡◌, ◌∙◌, ℕ, List, [], Some, None, Ok, Err, refl, sym, ap, subst}
 use Rattle.sp_counts.proofs.OverLemmas.{limits_tell}
 use Rattle.sp_counts.specs.declared.over.Over.{Over}
 use Rattle.sp_counts.specs.Over.{first_over}
