@@ -1,5 +1,5 @@
-use sp_verilog::verilog;
 use sp_netlist::{Builder, Cell};
+use sp_verilog::verilog;
 use sp_words::{FixTy, Ty};
 use std::test::Fail;
 

@@ -1,6 +1,6 @@
-use sp_waves::waves;
 use sp_listing::read;
 use sp_sim::Sim;
+use sp_waves::waves;
 use sp_words::Input;
 use std::test::Fail;
 
