@@ -7,3 +7,6 @@ pub mod NamesLemmas
 pub mod Numbered
 pub mod Places
 pub mod Sizes
+pub mod Counting
+pub mod LeaderLaws
+pub mod FinestChains

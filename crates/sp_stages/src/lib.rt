@@ -1,4 +1,4 @@
-//! The finest slots of outer bodies.
+//! The finest slots of outer bodies, and laws of chains.
 #![tactic(auto)]
 
 mod dividing;
@@ -11,7 +11,10 @@ mod runs;
 #[cfg(test)]
 mod tests;
 
-pub use examples::{worked_places, worked_slots};
+pub use examples::{worked_chains, worked_places, worked_slots};
 pub use finest::slots;
-pub use laws::{divided_slots_are_finest, finest_slots_are_right};
+pub use laws::{
+    chains_by_leaders_are_finest, divided_slots_are_finest, finest_chains_are_right,
+    finest_slots_are_right,
+};
 pub use std::alloc::AllocError as NoMemory;
