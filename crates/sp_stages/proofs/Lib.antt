@@ -10,3 +10,5 @@ pub mod Sizes
 pub mod Counting
 pub mod LeaderLaws
 pub mod FinestChains
+pub mod Listed
+pub mod ChainsAt
