@@ -38,7 +38,8 @@ pub length-numbers : (n : ℕ) → length (numbers_below n) ≡ n
 length-numbers zero = refl
 length-numbers (suc n) = let h = length-numbers n in length_push (numbers_below n) n ∙ omega arith
 
-number_at : (n k d : ℕ) → k < n → get_or (numbers_below n) k d ≡ k
+-- and they are listed in order
+pub number_at : (n k d : ℕ) → k < n → get_or (numbers_below n) k d ≡ k
 number_at zero k d l = absurd (omega arith)
 number_at (suc n) k d l = ⊎_elim
     (λ b. get_or_append_left (numbers_below n) (n ∷ []) d k (omega (arith, length-numbers n)) ∙ number_at n k d b)

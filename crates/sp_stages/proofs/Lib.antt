@@ -7,3 +7,8 @@ pub mod NamesLemmas
 pub mod Numbered
 pub mod Places
 pub mod Sizes
+pub mod Counting
+pub mod LeaderLaws
+pub mod FinestChains
+pub mod Listed
+pub mod ChainsAt

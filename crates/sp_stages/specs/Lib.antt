@@ -1,3 +1,4 @@
+pub mod Chains
 pub mod Divided
 pub mod Finest
 pub mod Parts

@@ -18,7 +18,7 @@ use sp_core::{Core, CoreCounter, Meet};
 use sp_words::Style;
 use std::alloc::Global;
 
-fn is_once(counters: &[CoreCounter]) -> bool
+pub(crate) fn is_once(counters: &[CoreCounter]) -> bool
     ensures { result ≡ is_once (map plain_counter counters.now) }
 {
     counters.is_empty()

@@ -1,17 +1,22 @@
-//! The finest slots of outer bodies.
+//! The finest slots and chains of outer bodies.
 #![tactic(auto)]
 
+mod chaining;
 mod dividing;
 mod examples;
 mod finest;
 mod laws;
+mod leaders;
 mod names;
 mod pairs;
 mod runs;
 #[cfg(test)]
 mod tests;
 
-pub use examples::{worked_places, worked_slots};
-pub use finest::slots;
-pub use laws::{divided_slots_are_finest, finest_slots_are_right};
+pub use examples::{worked_chains, worked_places, worked_slots};
+pub use finest::{chains, slots};
+pub use laws::{
+    chains_by_leaders_are_finest, divided_slots_are_finest, finest_chains_are_right,
+    finest_slots_are_right,
+};
 pub use std::alloc::AllocError as NoMemory;

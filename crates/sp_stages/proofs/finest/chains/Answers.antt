@@ -1,0 +1,63 @@
+use Rattle.std.proofs.Common.{◌+◌, false, map, ap, sym, ◌∙◌, arith}
+use Rattle.sp_core.specs.CoreParts.{plain_core}
+use Rattle.sp_core.specs.Numbering.{counters_size, number_count, number_count_in, node_count, node_count_in}
+use Rattle.sp_core.specs.Plain.{plain_counter, plain_node, plain_stage_list}
+use Rattle.sp_plan.specs.Nodes.{site_at}
+use Rattle.sp_plan.specs.Sites.{plain_site}
+use Rattle.sp_plan.specs.Slots.{runs_of}
+use Rattle.sp_plan.proofs.Trees.{plain_outer}
+use Rattle.sp_stages.proofs.ChainsAt.{chains_of_body, chains_at}
+use Rattle.sp_stages.proofs.FinestAt.{ok_like}
+use Rattle.sp_stages.proofs.Sizes.{small, site_within}
+use Rattle.sp_stages.proofs.finest.chains.Goals as goal
+
+pub site_at-requires-clause-numbers : goal.site_at-requires-clause-numbers
+site_at-requires-clause-numbers c =
+    let s = small (plain_core c.args.core.now) c.root.ensures.core in
+    let root = ap (λ x. number_count (plain_node x)) c.root.ensures.root in
+    omega arith
+
+pub counters_size-requires : goal.counters_size-requires
+counters_size-requires c =
+    let at = ap (λ x. site_at c.args.node 0 false (plain_node x)) (sym c.root.ensures.root) ∙ sym c.site_at.ensures ∙ ap plain_site c.in-Some.is in
+    let within = site_within (plain_core c.args.core.now) c.args.node _ c.root.ensures.core at in
+    let numbers = ap number_count (ap plain_node c.in-Outer.is ∙ plain_outer c.in-Outer.counters c.in-Outer.style c.in-Outer.owned c.in-Outer.stages) in
+    let counters = ap (λ xs. counters_size (map plain_counter xs)) c.deref.ensures.value in
+    omega (arith, within.0, numbers, counters)
+
+pub overflow_add-number : goal.overflow_add-number
+overflow_add-number c =
+    let at = ap (λ x. site_at c.args.node 0 false (plain_node x)) (sym c.root.ensures.root) ∙ sym c.site_at.ensures ∙ ap plain_site c.in-Some.is in
+    let within = site_within (plain_core c.args.core.now) c.args.node _ c.root.ensures.core at in
+    let numbers = ap number_count (ap plain_node c.in-Outer.is ∙ plain_outer c.in-Outer.counters c.in-Outer.style c.in-Outer.owned c.in-Outer.stages) in
+    let counters = ap (λ xs. counters_size (map plain_counter xs)) c.deref.ensures.value in
+    omega (arith, within.0, numbers, counters)
+
+pub body_chains-requires-clause-numbers : goal.body_chains-requires-clause-numbers
+body_chains-requires-clause-numbers c =
+    let at = ap (λ x. site_at c.args.node 0 false (plain_node x)) (sym c.root.ensures.root) ∙ sym c.site_at.ensures ∙ ap plain_site c.in-Some.is in
+    let within = site_within (plain_core c.args.core.now) c.args.node _ c.root.ensures.core at in
+    let numbers = ap number_count (ap plain_node c.in-Outer.is ∙ plain_outer c.in-Outer.counters c.in-Outer.style c.in-Outer.owned c.in-Outer.stages) in
+    let counters = ap (λ xs. counters_size (map plain_counter xs)) c.deref.ensures.value in
+    let stages = ap (λ xs. number_count_in (plain_stage_list xs)) c.deref-in-Outer-2.ensures.value in
+    omega (arith, within.0, numbers, counters, stages)
+
+pub body_chains-requires-clause-nodes : goal.body_chains-requires-clause-nodes
+body_chains-requires-clause-nodes c =
+    let at = ap (λ x. site_at c.args.node 0 false (plain_node x)) (sym c.root.ensures.root) ∙ sym c.site_at.ensures ∙ ap plain_site c.in-Some.is in
+    let within = site_within (plain_core c.args.core.now) c.args.node _ c.root.ensures.core at in
+    let nodes = ap node_count (ap plain_node c.in-Outer.is ∙ plain_outer c.in-Outer.counters c.in-Outer.style c.in-Outer.owned c.in-Outer.stages) in
+    let stages = ap (λ xs. node_count_in (plain_stage_list xs)) c.deref-in-Outer-2.ensures.value in
+    omega (arith, within.1, nodes, stages)
+
+pub returns-in-Outer : goal.returns-in-Outer
+returns-in-Outer c =
+    let at = ap (λ x. site_at c.args.node 0 false (plain_node x)) (sym c.root.ensures.root) ∙ sym c.site_at.ensures ∙ ap plain_site c.in-Some.is in
+    let is = ap plain_node c.in-Outer.is ∙ plain_outer c.in-Outer.counters c.in-Outer.style c.in-Outer.owned c.in-Outer.stages in
+    let size = c.counters_size.ensures ∙ ap (λ xs. counters_size (map plain_counter xs)) c.deref.ensures.value in
+    let runs = ap (λ x. runs_of (c.in-Some.site.number + x) (plain_stage_list c.deref-in-Outer-2.result.now)) size
+    ∙ ap (λ xs. runs_of (c.in-Some.site.number + counters_size (map plain_counter c.in-Outer.counters.items)) (plain_stage_list xs)) c.deref-in-Outer-2.ensures.value in
+    ok_like _ _
+    (λ chains e. chains_at (plain_core c.args.core.now) c.args.meets.now.pairs.items c.args.slots.now c.args.node _ _ _ c.in-Outer.owned.items _ chains.items at is
+    (chains_of_body (plain_core c.args.core.now) c.args.slots.now c.in-Outer.style c.in-Outer.owned.items chains.items _ _ _ _ _ _ c.deref-in-Outer-3.ensures.value (ap (map plain_counter) c.deref-in-Outer.ensures.value) runs (e c.in-Outer.owned.items)))
+    c.body_chains.result c.body_chains.ensures
