@@ -1,5 +1,5 @@
 -- The chains by leaders are the finest.
-use Rattle.std.proofs.Common.{◌≡◌, ℕ, ◌<◌, ◌≤◌, ◌==◌, nat_le, nat_lt, not, ◌&&◌, ◌||◌, Bool, true, false, List, [], length, filter, slice_index, refl, ap, sym, subst, ◌∙◌, ⊎_elim, eq-eqb, eqb-true, leb-true, lt-ltb, arith}
+use Rattle.std.proofs.Common.{◌≡◌, ℕ, ◌<◌, ◌==◌, nat_le, nat_lt, not, ◌&&◌, ◌||◌, Bool, true, false, List, [], length, slice_index, refl, ap, sym, ◌∙◌, ⊎_elim, eq-eqb, eqb-true, leb-true, lt-ltb, arith}
 use Rattle.std.specs.List.{list_all}
 use Rattle.std.proofs.lemmas.Bool.{cases_lt, leb-false, le-ltb}
 use Rattle.std.proofs.lemmas.List.{length-map}

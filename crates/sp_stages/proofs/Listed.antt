@@ -1,5 +1,5 @@
 -- Lists of leaders as they change.
-use Rattle.std.proofs.Common.{◌≡◌, ℕ, zero, suc, ◌+◌, ◌<◌, ◌≤◌, ◌==◌, ◌&&◌, nat_le, Bool, true, false, cond, List, length, get_or, slice_index, set, filter, map, refl, ap, sym, subst, ◌∙◌, ⊎_elim, add-one, length-set, get_or-set_same, get_or-set_other, arith}
+use Rattle.std.proofs.Common.{◌≡◌, ℕ, ◌+◌, ◌<◌, ◌≤◌, ◌==◌, ◌&&◌, nat_le, Bool, true, false, cond, List, length, get_or, slice_index, set, ap, sym, subst, ◌∙◌, ⊎_elim, add-one, length-set, get_or-set_same, get_or-set_other, arith}
 use Rattle.std.proofs.lemmas.Bool.{cases_lt}
 use Rattle.sp_core.specs.Elements.{numbers_below}
 use Rattle.sp_stages.specs.Chains.{AreListed, instead, merged, after_links, leaders_before, leads_in}

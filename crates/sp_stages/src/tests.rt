@@ -1,4 +1,4 @@
-use crate::slots;
+use crate::{chains, slots};
 use sp_core::{Core, CoreCounter, CoreError, CoreMem, Meet, Meets, Node, Op, OpKind, Stage};
 use sp_words::{BinOp, Kind, Ports, Style, Ty};
 use std::alloc::{AllocError, Global};
@@ -113,5 +113,24 @@ fn a_register_joins_two_stages(rt: HostRuntime) -> Result<(), Fail> {
         pairs: vec![in alloc; meet(3, 5, 0), meet(5, 3, 2)]?,
     };
     assert_eq!(rt; slots(alloc, &core, 1, &far)?.as_slice(), [0, 1].as_slice());
+    Ok(())
+}
+
+#[test]
+fn stages_of_one_slot_and_lane_are_in_one_chain(rt: HostRuntime) -> Result<(), Fail> {
+    let alloc = rt.alloc();
+    let core = register_between(alloc)??;
+    let meets = Meets {
+        pairs: Vec::new(alloc),
+    };
+    assert_eq!(rt;
+        chains(alloc, &core, 1, &meets, &[0, 0])?.as_slice(),
+        [0, 0].as_slice()
+    );
+    assert_eq!(rt;
+        chains(alloc, &core, 0, &meets, &[0])?.as_slice(),
+        [0].as_slice()
+    );
+    assert_eq!(rt; chains(alloc, &core, 2, &meets, &[0])?.len(), 0);
     Ok(())
 }

@@ -1,4 +1,4 @@
-use Rattle.std.proofs.Common.{◌≡◌, ℕ, Bool, ◌<◌, ◌++◌, [], ◌∷◌, map, length, ap, ◌∙◌, arith}
+use Rattle.std.proofs.Common.{ℕ, Bool, ◌<◌, ◌++◌, [], ◌∷◌, map, length, ap, ◌∙◌, arith}
 use Rattle.sp_core.specs.CoreParts.{plain_core}
 use Rattle.sp_core.specs.Plain.{plain_counter}
 use Rattle.sp_plan.specs.Slots.{is_parallel_block}
