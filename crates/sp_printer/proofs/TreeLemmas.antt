@@ -10,7 +10,7 @@ use Rattle.sp_tree.specs.declared.statement.Stmt.{Stmt}
 use Rattle.sp_tree.specs.declared.statement.Ctl.{Ctl, Block, Block', Foreach, Foreach', Reduce, Reduce', MemReduce, MemReduce', Fsm, Fsm', Branch, Branch', Row_of-Stmt, end_of-Stmt, more_of-Stmt, items-the_row-Stmt, items_hidden-the_row-Stmt-0}
 use Rattle.sp_tree.specs.Plain.{plain_kind, plain_row, plain_expr, plain_exprs}
 use Rattle.sp_tree.specs.PlainExpression.{get_sram, more_expr, expr}
-use Rattle.sp_tree.specs.PlainStatement.{PlainStmts, stmt, block, foreach, reduce, mem_reduce, fsm, branch, more_stmt}
+use Rattle.sp_tree.specs.PlainStatement.{stmt, block, foreach, reduce, mem_reduce, fsm, branch, more_stmt}
 use Rattle.sp_tree.specs.PlainTree.{plain_counter, plain_ctl, plain_stmt_kind, plain_stmts, plain_row as stmts_row}
 
 abbrev row_of : ExprKind → (n : Count) × Row_of-Expr n

@@ -1,6 +1,6 @@
 -- How expressions are written: with one blank on each side of an operator of two operands, and with parentheses only
 -- where the text would be read as another expression without them.
-use Rattle.std.specs.Prelude.{ℕ, ◌+◌, ◌==◌, ◌&&◌, nat_lt, not, Bool, true, false, List, [], ◌++◌, codes, decimal, if◌then◌else◌}
+use Rattle.std.specs.Prelude.{ℕ, ◌+◌, nat_lt, not, Bool, true, false, List, [], ◌++◌, codes, decimal, if◌then◌else◌}
 use Rattle.sp_words.specs.declared.kind.BinOp.{BinOp}
 use Rattle.sp_words.specs.declared.kind.BinOp.TheVariants.{Add, Sub, Mul, Div, Rem, And, Or, Xor, Lt, Le, Gt, Ge, Eq, Ne, Min, Max}
 use Rattle.sp_words.specs.declared.kind.UnOp.{UnOp}

@@ -8,7 +8,7 @@ use Rattle.sp_words.specs.declared.types.Ty.{Ty}
 use Rattle.sp_words.specs.declared.types.Ty.TheVariants.{Fix, Bit}
 use Rattle.sp_tree.specs.declared.statement.Comb.{Comb}
 use Rattle.sp_tree.specs.declared.statement.Comb.TheVariants.{Add, Mul, And, Or, Xor, Min, Max}
-use Rattle.sp_tree.specs.PlainExpression.{PlainExpr, PlainExprKind, expr, literal}
+use Rattle.sp_tree.specs.PlainExpression.{PlainExpr, expr, literal}
 use Rattle.sp_tree.specs.PlainProgram.{PlainMem}
 use Rattle.sp_tree.specs.PlainStatement.{PlainSpan, single, range, PlainCounter}
 use Rattle.sp_printer.specs.Expressions.{parted, whole_text}

@@ -40,7 +40,13 @@ fn push_else(text: &mut String, margin: &str, empty: bool) -> Result<(), NoMemor
 
 /// Appends the lines of a body.
 #[cycle(push_body)]
-pub(crate) fn push_body(alloc: Global, text: &mut String, program: &Program, margin: &str, body: &[Stmt]) -> Result<(), NoMemory>
+pub(crate) fn push_body(
+    alloc: Global,
+    text: &mut String,
+    program: &Program,
+    margin: &str,
+    body: &[Stmt],
+) -> Result<(), NoMemory>
     ensures { OnOk result (string_bytes text.new ≡ string_bytes text.old ++ body_text (names_of program.now) margin.now (plain_stmts body.now)) }
 {
     for s in body {
@@ -52,7 +58,13 @@ pub(crate) fn push_body(alloc: Global, text: &mut String, program: &Program, mar
 }
 
 #[cycle(push_body)]
-fn push_stmt(alloc: Global, text: &mut String, program: &Program, margin: &str, kind: &StmtKind) -> Result<(), NoMemory>
+fn push_stmt(
+    alloc: Global,
+    text: &mut String,
+    program: &Program,
+    margin: &str,
+    kind: &StmtKind,
+) -> Result<(), NoMemory>
     ensures { OnOk result (string_bytes text.new ≡ string_bytes text.old ++ stmt_text (names_of program.now) margin.now (plain_stmt_kind kind.now)) }
 {
     match kind {
@@ -98,7 +110,13 @@ fn push_stmt(alloc: Global, text: &mut String, program: &Program, margin: &str, 
 }
 
 #[cycle(push_body)]
-fn push_ctl(alloc: Global, text: &mut String, program: &Program, margin: &str, ctl: &Ctl) -> Result<(), NoMemory>
+fn push_ctl(
+    alloc: Global,
+    text: &mut String,
+    program: &Program,
+    margin: &str,
+    ctl: &Ctl,
+) -> Result<(), NoMemory>
     ensures { OnOk result (string_bytes text.new ≡ string_bytes text.old ++ stmt_text (names_of program.now) margin.now (plain_ctl ctl.now)) }
 {
     let inner = deeper(alloc, margin)?;
@@ -155,7 +173,15 @@ fn push_ctl(alloc: Global, text: &mut String, program: &Program, margin: &str, c
             last,
             next,
         } => {
-            push_fsm_head(alloc, text, program, start, tested.number(), test, state.number())?;
+            push_fsm_head(
+                alloc,
+                text,
+                program,
+                start,
+                tested.number(),
+                test,
+                state.number(),
+            )?;
             push_body(alloc, text, program, &inner, body)?;
             text.push_str(margin)?;
             push_fsm_tail(alloc, text, program, last.number(), next)?;

@@ -183,7 +183,13 @@ pub(crate) fn push_comma(text: &mut String, first: bool) -> Result<(), NoMemory>
 
 /// Appends the expression, in parentheses where its level is below `least`.
 #[cycle(push_expr)]
-fn push_expr(alloc: Global, text: &mut String, program: &Program, least: u8, e: &Expr) -> Result<(), NoMemory>
+fn push_expr(
+    alloc: Global,
+    text: &mut String,
+    program: &Program,
+    least: u8,
+    e: &Expr,
+) -> Result<(), NoMemory>
     ensures { OnOk result (string_bytes text.new ≡ string_bytes text.old ++ expr_text (names_of program.now) least (plain_expr e.now)) }
 {
     if level(&e.kind) >= least {
@@ -196,7 +202,13 @@ fn push_expr(alloc: Global, text: &mut String, program: &Program, least: u8, e: 
 }
 
 #[cycle(push_expr)]
-fn push_kind(alloc: Global, text: &mut String, program: &Program, ty: Ty, kind: &ExprKind) -> Result<(), NoMemory>
+fn push_kind(
+    alloc: Global,
+    text: &mut String,
+    program: &Program,
+    ty: Ty,
+    kind: &ExprKind,
+) -> Result<(), NoMemory>
     ensures { OnOk result (string_bytes text.new ≡ string_bytes text.old ++ kind_text (names_of program.now) ty (plain_kind kind.now)) }
 {
     match kind {
@@ -228,7 +240,13 @@ fn push_kind(alloc: Global, text: &mut String, program: &Program, ty: Ty, kind: 
         }
         ExprKind::One(op, a) => {
             text.push_str(one_sign(*op, ty))?;
-            push_expr(alloc, text, program, operand_level(*op, starts_with_digit(a)), a)?;
+            push_expr(
+                alloc,
+                text,
+                program,
+                operand_level(*op, starts_with_digit(a)),
+                a,
+            )?;
             Ok(())
         }
         ExprKind::Two(op, a, b) => {
@@ -272,7 +290,12 @@ fn push_kind(alloc: Global, text: &mut String, program: &Program, ty: Ty, kind: 
 
 /// Appends the expressions, with commas between them.
 #[cycle(push_expr)]
-pub(crate) fn push_list(alloc: Global, text: &mut String, program: &Program, all: &[Expr]) -> Result<(), NoMemory>
+pub(crate) fn push_list(
+    alloc: Global,
+    text: &mut String,
+    program: &Program,
+    all: &[Expr],
+) -> Result<(), NoMemory>
     ensures { OnOk result (string_bytes text.new ≡ string_bytes text.old ++ list_text (names_of program.now) true (plain_exprs all.now)) }
 {
     let mut first = true;
@@ -285,7 +308,12 @@ pub(crate) fn push_list(alloc: Global, text: &mut String, program: &Program, all
 }
 
 /// Appends an expression that needs no parentheses.
-pub(crate) fn push_whole(alloc: Global, text: &mut String, program: &Program, e: &Expr) -> Result<(), NoMemory>
+pub(crate) fn push_whole(
+    alloc: Global,
+    text: &mut String,
+    program: &Program,
+    e: &Expr,
+) -> Result<(), NoMemory>
     ensures { OnOk result (string_bytes text.new ≡ string_bytes text.old ++ whole_text (names_of program.now) (plain_expr e.now)) }
 {
     push_expr(alloc, text, program, 0, e)

@@ -6,7 +6,6 @@ mod expressions;
 mod names;
 mod pieces;
 mod program;
-
 mod statements;
 mod types;
 mod words;

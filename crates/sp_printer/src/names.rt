@@ -26,21 +26,33 @@ fn push_name_of(text: &mut String, mems: &[MemDecl], number: u32) -> Result<(), 
 }
 
 /// Appends the name of a memory.
-pub(crate) fn push_mem_name(text: &mut String, program: &Program, number: u32) -> Result<(), NoMemory>
+pub(crate) fn push_mem_name(
+    text: &mut String,
+    program: &Program,
+    number: u32,
+) -> Result<(), NoMemory>
     ensures { OnOk result (string_bytes text.new ≡ string_bytes text.old ++ mem_name (names_of program.now) number) }
 {
     push_name_of(text, program.mems(), number)
 }
 
 /// Appends the name of a value.
-pub(crate) fn push_val_name(text: &mut String, program: &Program, number: u32) -> Result<(), NoMemory>
+pub(crate) fn push_val_name(
+    text: &mut String,
+    program: &Program,
+    number: u32,
+) -> Result<(), NoMemory>
     ensures { OnOk result (string_bytes text.new ≡ string_bytes text.old ++ val_name (names_of program.now) number) }
 {
     push_name(text, program.vals(), number)
 }
 
 /// Appends the name of a counter.
-pub(crate) fn push_counter_name(text: &mut String, program: &Program, number: u32) -> Result<(), NoMemory>
+pub(crate) fn push_counter_name(
+    text: &mut String,
+    program: &Program,
+    number: u32,
+) -> Result<(), NoMemory>
     ensures { OnOk result (string_bytes text.new ≡ string_bytes text.old ++ counter_name (names_of program.now) number) }
 {
     push_name(text, program.counters(), number)

@@ -78,7 +78,13 @@ fn push_mem_type(text: &mut String, kind: Kind, ty: Ty) -> Result<(), NoMemory>
 }
 
 #[tactic(auto, unfolding(crate::specs::Pieces::mem_shape))]
-fn push_mem_shape(alloc: Global, text: &mut String, ty: Ty, dims: &[u32], start: Option<u64>) -> Result<(), NoMemory>
+fn push_mem_shape(
+    alloc: Global,
+    text: &mut String,
+    ty: Ty,
+    dims: &[u32],
+    start: Option<u64>,
+) -> Result<(), NoMemory>
     ensures { OnOk result (string_bytes text.new ≡ string_bytes text.old ++ mem_shape ty dims.now start) }
 {
     push_dims(text, dims)?;
@@ -109,7 +115,12 @@ fn push_par(text: &mut String, par: u32) -> Result<(), NoMemory>
     Ok(())
 }
 
-fn push_span(alloc: Global, text: &mut String, program: &Program, span: &Span) -> Result<(), NoMemory>
+fn push_span(
+    alloc: Global,
+    text: &mut String,
+    program: &Program,
+    span: &Span,
+) -> Result<(), NoMemory>
     ensures { OnOk result (string_bytes text.new ≡ string_bytes text.old ++ span_text (names_of program.now) (plain_span span.now)) }
 {
     match span {
@@ -125,7 +136,13 @@ fn push_span(alloc: Global, text: &mut String, program: &Program, span: &Span) -
 }
 
 /// Appends the spans of a slice.
-pub(crate) fn push_spans(alloc: Global, text: &mut String, program: &Program, first: bool, all: &[Span]) -> Result<(), NoMemory>
+pub(crate) fn push_spans(
+    alloc: Global,
+    text: &mut String,
+    program: &Program,
+    first: bool,
+    all: &[Span],
+) -> Result<(), NoMemory>
     ensures { OnOk result (string_bytes text.new ≡ string_bytes text.old ++ spans_text (names_of program.now) first (map plain_span all.now)) }
 {
     let [span, rest @ ..] = all else {
@@ -168,7 +185,12 @@ fn is_zero(e: &Expr) -> bool
     }
 }
 
-fn push_from(alloc: Global, text: &mut String, program: &Program, from: &Expr) -> Result<(), NoMemory>
+fn push_from(
+    alloc: Global,
+    text: &mut String,
+    program: &Program,
+    from: &Expr,
+) -> Result<(), NoMemory>
     ensures { OnOk result (string_bytes text.new ≡ string_bytes text.old ++ from_text (names_of program.now) (plain_expr from.now)) }
 {
     if is_zero(from) {
@@ -179,7 +201,12 @@ fn push_from(alloc: Global, text: &mut String, program: &Program, from: &Expr) -
     Ok(())
 }
 
-fn push_counter(alloc: Global, text: &mut String, program: &Program, counter: &Counter) -> Result<(), NoMemory>
+fn push_counter(
+    alloc: Global,
+    text: &mut String,
+    program: &Program,
+    counter: &Counter,
+) -> Result<(), NoMemory>
     ensures { OnOk result (string_bytes text.new ≡ string_bytes text.old ++ counter_text (names_of program.now) (plain_counter counter.now)) }
 {
     let step = counter.by;
@@ -190,7 +217,13 @@ fn push_counter(alloc: Global, text: &mut String, program: &Program, counter: &C
     Ok(())
 }
 
-fn push_counters(alloc: Global, text: &mut String, program: &Program, first: bool, all: &[Counter]) -> Result<(), NoMemory>
+fn push_counters(
+    alloc: Global,
+    text: &mut String,
+    program: &Program,
+    first: bool,
+    all: &[Counter],
+) -> Result<(), NoMemory>
     ensures { OnOk result (string_bytes text.new ≡ string_bytes text.old ++ counters_text (names_of program.now) first (map plain_counter all.now)) }
 {
     let [counter, rest @ ..] = all else {
@@ -202,7 +235,12 @@ fn push_counters(alloc: Global, text: &mut String, program: &Program, first: boo
     Ok(())
 }
 
-fn push_bound_names(text: &mut String, program: &Program, first: bool, all: &[Counter]) -> Result<(), NoMemory>
+fn push_bound_names(
+    text: &mut String,
+    program: &Program,
+    first: bool,
+    all: &[Counter],
+) -> Result<(), NoMemory>
     ensures { OnOk result (string_bytes text.new ≡ string_bytes text.old ++ bound_names (names_of program.now) first (map plain_counter all.now)) }
 {
     let [counter, rest @ ..] = all else {
@@ -270,7 +308,12 @@ pub(crate) fn comb_text(comb: Comb) -> &'static str
 
 /// Appends the counters and the names of a loop, up to the end of the line.
 #[tactic(auto, unfolding(crate::specs::Pieces::loop_head))]
-pub(crate) fn push_loop_head(alloc: Global, text: &mut String, program: &Program, all: &[Counter]) -> Result<(), NoMemory>
+pub(crate) fn push_loop_head(
+    alloc: Global,
+    text: &mut String,
+    program: &Program,
+    all: &[Counter],
+) -> Result<(), NoMemory>
     ensures { OnOk result (string_bytes text.new ≡ string_bytes text.old ++ loop_head (names_of program.now) (map plain_counter all.now)) }
 {
     text.push_str("(")?;

@@ -23,7 +23,12 @@ pub(crate) fn deeper(alloc: Global, margin: &str) -> Result<String, NoMemory>
 }
 
 /// Appends the declaration of a number.
-pub(crate) fn push_declare(alloc: Global, text: &mut String, mems: &[MemDecl], number: u32) -> Result<(), NoMemory>
+pub(crate) fn push_declare(
+    alloc: Global,
+    text: &mut String,
+    mems: &[MemDecl],
+    number: u32,
+) -> Result<(), NoMemory>
     ensures { OnOk result (string_bytes text.new ≡ string_bytes text.old ++ declare_text (map plain_mem mems.now) number) }
 {
     match mems.get(number as usize) {
@@ -33,7 +38,13 @@ pub(crate) fn push_declare(alloc: Global, text: &mut String, mems: &[MemDecl], n
 }
 
 /// Appends a write of a register or an output.
-pub(crate) fn push_set(alloc: Global, text: &mut String, program: &Program, mem: u32, e: &Expr) -> Result<(), NoMemory>
+pub(crate) fn push_set(
+    alloc: Global,
+    text: &mut String,
+    program: &Program,
+    mem: u32,
+    e: &Expr,
+) -> Result<(), NoMemory>
     ensures { OnOk result (string_bytes text.new ≡ string_bytes text.old ++ set_text (names_of program.now) mem (plain_expr e.now)) }
 {
     push_mem_name(text, program, mem)?;
@@ -43,7 +54,13 @@ pub(crate) fn push_set(alloc: Global, text: &mut String, program: &Program, mem:
 }
 
 /// Appends what puts a word into a FIFO.
-pub(crate) fn push_enq(alloc: Global, text: &mut String, program: &Program, mem: u32, e: &Expr) -> Result<(), NoMemory>
+pub(crate) fn push_enq(
+    alloc: Global,
+    text: &mut String,
+    program: &Program,
+    mem: u32,
+    e: &Expr,
+) -> Result<(), NoMemory>
     ensures { OnOk result (string_bytes text.new ≡ string_bytes text.old ++ enq_text (names_of program.now) mem (plain_expr e.now)) }
 {
     push_mem_name(text, program, mem)?;
@@ -54,7 +71,13 @@ pub(crate) fn push_enq(alloc: Global, text: &mut String, program: &Program, mem:
 }
 
 /// Appends what names a value.
-pub(crate) fn push_let(alloc: Global, text: &mut String, program: &Program, value: u32, e: &Expr) -> Result<(), NoMemory>
+pub(crate) fn push_let(
+    alloc: Global,
+    text: &mut String,
+    program: &Program,
+    value: u32,
+    e: &Expr,
+) -> Result<(), NoMemory>
     ensures { OnOk result (string_bytes text.new ≡ string_bytes text.old ++ let_text (names_of program.now) value (plain_expr e.now)) }
 {
     text.push_str("val ")?;
@@ -65,7 +88,13 @@ pub(crate) fn push_let(alloc: Global, text: &mut String, program: &Program, valu
 }
 
 /// Appends a slice of a DRAM.
-pub(crate) fn push_slice(alloc: Global, text: &mut String, program: &Program, dram: u32, spans: &[Span]) -> Result<(), NoMemory>
+pub(crate) fn push_slice(
+    alloc: Global,
+    text: &mut String,
+    program: &Program,
+    dram: u32,
+    spans: &[Span],
+) -> Result<(), NoMemory>
     ensures { OnOk result (string_bytes text.new ≡ string_bytes text.old ++ slice_text (names_of program.now) dram (map plain_span spans.now)) }
 {
     push_mem_name(text, program, dram)?;
@@ -76,7 +105,14 @@ pub(crate) fn push_slice(alloc: Global, text: &mut String, program: &Program, dr
 }
 
 /// Appends the places of a DRAM that an SRAM holds.
-pub(crate) fn push_places(alloc: Global, text: &mut String, program: &Program, dram: u32, places: u32, count: &Expr) -> Result<(), NoMemory>
+pub(crate) fn push_places(
+    alloc: Global,
+    text: &mut String,
+    program: &Program,
+    dram: u32,
+    places: u32,
+    count: &Expr,
+) -> Result<(), NoMemory>
     ensures { OnOk result (string_bytes text.new ≡ string_bytes text.old ++ places_text (names_of program.now) dram places (plain_expr count.now)) }
 {
     push_mem_name(text, program, dram)?;
@@ -89,7 +125,14 @@ pub(crate) fn push_places(alloc: Global, text: &mut String, program: &Program, d
 }
 
 /// Appends a load.
-pub(crate) fn push_load(alloc: Global, text: &mut String, program: &Program, into: u32, dram: u32, spans: &[Span]) -> Result<(), NoMemory>
+pub(crate) fn push_load(
+    alloc: Global,
+    text: &mut String,
+    program: &Program,
+    into: u32,
+    dram: u32,
+    spans: &[Span],
+) -> Result<(), NoMemory>
     ensures { OnOk result (string_bytes text.new ≡ string_bytes text.old ++ load_text (names_of program.now) into dram (map plain_span spans.now)) }
 {
     push_mem_name(text, program, into)?;
@@ -129,7 +172,13 @@ pub(crate) fn push_block_head(text: &mut String, style: Style) -> Result<(), NoM
 
 /// Appends the first line of a loop.
 #[tactic(auto, unfolding(crate::specs::Body::foreach_head))]
-pub(crate) fn push_foreach_head(alloc: Global, text: &mut String, program: &Program, style: Style, counters: &[Counter]) -> Result<(), NoMemory>
+pub(crate) fn push_foreach_head(
+    alloc: Global,
+    text: &mut String,
+    program: &Program,
+    style: Style,
+    counters: &[Counter],
+) -> Result<(), NoMemory>
     ensures { OnOk result (string_bytes text.new ≡ string_bytes text.old ++ foreach_head (names_of program.now) style (map plain_counter counters.now)) }
 {
     text.push_str(style_prefix(style))?;
@@ -140,7 +189,15 @@ pub(crate) fn push_foreach_head(alloc: Global, text: &mut String, program: &Prog
 
 /// Appends the first line of a loop that combines words.
 #[tactic(auto, unfolding(crate::specs::Body::reduce_head))]
-pub(crate) fn push_reduce_head(alloc: Global, text: &mut String, program: &Program, style: Style, fold: bool, acc: u32, counters: &[Counter]) -> Result<(), NoMemory>
+pub(crate) fn push_reduce_head(
+    alloc: Global,
+    text: &mut String,
+    program: &Program,
+    style: Style,
+    fold: bool,
+    acc: u32,
+    counters: &[Counter],
+) -> Result<(), NoMemory>
     ensures { OnOk result (string_bytes text.new ≡ string_bytes text.old ++ reduce_head (names_of program.now) style fold acc (map plain_counter counters.now)) }
 {
     text.push_str(style_prefix(style))?;
@@ -152,7 +209,14 @@ pub(crate) fn push_reduce_head(alloc: Global, text: &mut String, program: &Progr
 
 /// Appends the first line of a loop that combines SRAMs.
 #[tactic(auto, unfolding(crate::specs::Body::mem_reduce_head))]
-pub(crate) fn push_mem_reduce_head(alloc: Global, text: &mut String, program: &Program, style: Style, acc: u32, counters: &[Counter]) -> Result<(), NoMemory>
+pub(crate) fn push_mem_reduce_head(
+    alloc: Global,
+    text: &mut String,
+    program: &Program,
+    style: Style,
+    acc: u32,
+    counters: &[Counter],
+) -> Result<(), NoMemory>
     ensures { OnOk result (string_bytes text.new ≡ string_bytes text.old ++ mem_reduce_head (names_of program.now) style acc (map plain_counter counters.now)) }
 {
     text.push_str(style_prefix(style))?;
@@ -184,7 +248,14 @@ fn push_comb_tail(text: &mut String, margin: &str, comb: Comb) -> Result<(), NoM
 
 /// Appends the value of a body, and what follows it.
 #[tactic(auto, unfolding(crate::specs::Body::reduce_tail))]
-pub(crate) fn push_reduce_tail(alloc: Global, text: &mut String, program: &Program, margin: &str, word: &Expr, comb: Comb) -> Result<(), NoMemory>
+pub(crate) fn push_reduce_tail(
+    alloc: Global,
+    text: &mut String,
+    program: &Program,
+    margin: &str,
+    word: &Expr,
+    comb: Comb,
+) -> Result<(), NoMemory>
     ensures { OnOk result (string_bytes text.new ≡ string_bytes text.old ++ reduce_tail (names_of program.now) margin.now (plain_expr word.now) comb) }
 {
     text.push_str(margin)?;
@@ -196,7 +267,13 @@ pub(crate) fn push_reduce_tail(alloc: Global, text: &mut String, program: &Progr
 
 /// Appends the SRAM that a body ends with, and what follows it.
 #[tactic(auto, unfolding(crate::specs::Body::mem_reduce_tail))]
-pub(crate) fn push_mem_reduce_tail(text: &mut String, program: &Program, margin: &str, part: u32, comb: Comb) -> Result<(), NoMemory>
+pub(crate) fn push_mem_reduce_tail(
+    text: &mut String,
+    program: &Program,
+    margin: &str,
+    part: u32,
+    comb: Comb,
+) -> Result<(), NoMemory>
     ensures { OnOk result (string_bytes text.new ≡ string_bytes text.old ++ mem_reduce_tail (names_of program.now) margin.now part comb) }
 {
     text.push_str(margin)?;
@@ -207,7 +284,13 @@ pub(crate) fn push_mem_reduce_tail(text: &mut String, program: &Program, margin:
 }
 
 #[tactic(auto, unfolding(crate::specs::Body::fsm_test))]
-fn push_fsm_test(alloc: Global, text: &mut String, program: &Program, tested: u32, test: &Expr) -> Result<(), NoMemory>
+fn push_fsm_test(
+    alloc: Global,
+    text: &mut String,
+    program: &Program,
+    tested: u32,
+    test: &Expr,
+) -> Result<(), NoMemory>
     ensures { OnOk result (string_bytes text.new ≡ string_bytes text.old ++ fsm_test (names_of program.now) tested (plain_expr test.now)) }
 {
     text.push_str("(")?;
@@ -220,7 +303,15 @@ fn push_fsm_test(alloc: Global, text: &mut String, program: &Program, tested: u3
 
 /// Appends the first line of a state machine.
 #[tactic(auto, unfolding(crate::specs::Body::fsm_head))]
-pub(crate) fn push_fsm_head(alloc: Global, text: &mut String, program: &Program, start: &Expr, tested: u32, test: &Expr, state: u32) -> Result<(), NoMemory>
+pub(crate) fn push_fsm_head(
+    alloc: Global,
+    text: &mut String,
+    program: &Program,
+    start: &Expr,
+    tested: u32,
+    test: &Expr,
+    state: u32,
+) -> Result<(), NoMemory>
     ensures { OnOk result (string_bytes text.new ≡ string_bytes text.old ++ fsm_head (names_of program.now) (plain_expr start.now) tested (plain_expr test.now) state) }
 {
     text.push_str("FSM(")?;
@@ -235,7 +326,13 @@ pub(crate) fn push_fsm_head(alloc: Global, text: &mut String, program: &Program,
 
 /// Appends what follows the body of a state machine.
 #[tactic(auto, unfolding(crate::specs::Body::fsm_tail))]
-pub(crate) fn push_fsm_tail(alloc: Global, text: &mut String, program: &Program, last: u32, next: &Expr) -> Result<(), NoMemory>
+pub(crate) fn push_fsm_tail(
+    alloc: Global,
+    text: &mut String,
+    program: &Program,
+    last: u32,
+    next: &Expr,
+) -> Result<(), NoMemory>
     ensures { OnOk result (string_bytes text.new ≡ string_bytes text.old ++ fsm_tail (names_of program.now) last (plain_expr next.now)) }
 {
     text.push_str("}{ ")?;
@@ -248,7 +345,12 @@ pub(crate) fn push_fsm_tail(alloc: Global, text: &mut String, program: &Program,
 
 /// Appends the first line of a branch.
 #[tactic(auto, unfolding(crate::specs::Body::if_head))]
-pub(crate) fn push_if_head(alloc: Global, text: &mut String, program: &Program, test: &Expr) -> Result<(), NoMemory>
+pub(crate) fn push_if_head(
+    alloc: Global,
+    text: &mut String,
+    program: &Program,
+    test: &Expr,
+) -> Result<(), NoMemory>
     ensures { OnOk result (string_bytes text.new ≡ string_bytes text.old ++ if_head (names_of program.now) (plain_expr test.now)) }
 {
     text.push_str("if (")?;

@@ -37,7 +37,12 @@ fn push_type_after(text: &mut String, ty: Ty) -> Result<(), NoMemory>
 }
 
 /// Appends the literal.
-pub(crate) fn push_literal(alloc: Global, text: &mut String, ty: Ty, number: u64) -> Result<(), NoMemory>
+pub(crate) fn push_literal(
+    alloc: Global,
+    text: &mut String,
+    ty: Ty,
+    number: u64,
+) -> Result<(), NoMemory>
     ensures { OnOk result (string_bytes text.new ≡ string_bytes text.old ++ literal_text ty number) }
 {
     match ty {
