@@ -11,12 +11,12 @@ use Rattle.sp_tree.specs.PlainStatement.{PlainSpan, single, range, PlainCounter,
 use Rattle.sp_core.specs.declared.operation.OpKind.TheVariants as kind
 use Rattle.sp_core.specs.PlainCore as core
 use Rattle.sp_core.specs.PlainCore.{PlainOp, PlainStages}
-use Rattle.sp_desugar.specs.Early.{bounds_of, parts_of, is_early, is_early_slice, is_early_part, after, stage_of, into_register, from_register, counters_of, spans_from, bound_stages, part_ops, slice_ops, early_stages}
-use Rattle.sp_desugar.specs.Numbers.{mem_number}
-use Rattle.sp_desugar.specs.Operations.{Code, Codes, computes, read_op, write_op, source_code, ending_in, more_codes, code, code_of, codes, word_list}
-use Rattle.sp_desugar.specs.Uses.{uses, kind_uses, some_use, counters_use, spans_use, are_using, is_using, names_after}
-use Rattle.sp_desugar.specs.Values.{Sources}
-use Rattle.sp_desugar.proofs.UseLemmas.{only}
+use Rattle.sp_sugar.specs.Early.{bounds_of, parts_of, is_early, is_early_slice, is_early_part, after, stage_of, into_register, from_register, counters_of, spans_from, bound_stages, part_ops, slice_ops, early_stages}
+use Rattle.sp_sugar.specs.Numbers.{mem_number}
+use Rattle.sp_sugar.specs.Operations.{Code, Codes, computes, read_op, write_op, source_code, ending_in, more_codes, code, code_of, codes, word_list}
+use Rattle.sp_sugar.specs.Uses.{uses, kind_uses, some_use, counters_use, spans_use, are_using, is_using, names_after}
+use Rattle.sp_sugar.specs.Values.{Sources}
+use Rattle.sp_sugar.proofs.UseLemmas.{only}
 
 module _ (mems : List PlainMem) (first second : Sources) where
   -- the same for the values that a test tells of

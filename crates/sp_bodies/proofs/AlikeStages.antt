@@ -15,17 +15,17 @@ use Rattle.sp_core.specs.PlainCore as core
 use Rattle.sp_core.specs.PlainCore.{PlainOp, PlainNode, PlainStages, inner, sparse, no_stage, more_stage}
 use Rattle.sp_core.specs.Sequential.{has_reset}
 use Rattle.sp_core.specs.Store.{changed}
-use Rattle.sp_desugar.specs.Combination.{element_loop}
-use Rattle.sp_desugar.specs.Early.{is_early, bounds_of, is_early_part, registers_for, counters_of, early_stages}
-use Rattle.sp_desugar.specs.Numbers.{mem_number, dram_number}
-use Rattle.sp_desugar.specs.Operations.{Code, Codes, accesses, read_op, write_op, alone, code, codes, word_list}
-use Rattle.sp_desugar.specs.Registers.{ending_of, beside, inside, registers_in}
-use Rattle.sp_desugar.specs.Runs.{Run, no_run, with_ops, next_code, with_computed, with_named, with_reset, with_word, with_stmt, inner_run}
-use Rattle.sp_desugar.specs.Stages.{run_stage, first_of, Combines, nothing, folds, reduces, reduces_elements, combines, combination, combination_stage, inner_node, last_stages, style_of, outer_node, body_node, stages, node}
-use Rattle.sp_desugar.specs.Uses.{uses, some_use, is_bare, counters_use, renamed, are_using, is_using, names_after, Ending, no_more, in_last_run, in_combination, ending_uses, is_used_later}
-use Rattle.sp_desugar.specs.Values.{Source, at_place, in_register, constant, count, Sources, with_value, with_state}
-use Rattle.sp_desugar.proofs.NodeSteps.{or_middle, ending_is}
-use Rattle.sp_desugar.proofs.UseLemmas.{used, used_more, used_next, used_here, renamed_keeps, only, renamed_names, later_more, later_used}
+use Rattle.sp_sugar.specs.Combination.{element_loop}
+use Rattle.sp_sugar.specs.Early.{is_early, bounds_of, is_early_part, registers_for, counters_of, early_stages}
+use Rattle.sp_sugar.specs.Numbers.{mem_number, dram_number}
+use Rattle.sp_sugar.specs.Operations.{Code, Codes, accesses, read_op, write_op, alone, code, codes, word_list}
+use Rattle.sp_sugar.specs.Registers.{ending_of, beside, inside, registers_in}
+use Rattle.sp_sugar.specs.Runs.{Run, no_run, with_ops, next_code, with_computed, with_named, with_reset, with_word, with_stmt, inner_run}
+use Rattle.sp_sugar.specs.Stages.{run_stage, first_of, Combines, nothing, folds, reduces, reduces_elements, combines, combination, combination_stage, inner_node, last_stages, style_of, outer_node, body_node, stages, node}
+use Rattle.sp_sugar.specs.Uses.{uses, some_use, is_bare, counters_use, renamed, are_using, is_using, names_after, Ending, no_more, in_last_run, in_combination, ending_uses, is_used_later}
+use Rattle.sp_sugar.specs.Values.{Source, at_place, in_register, constant, count, Sources, with_value, with_state}
+use Rattle.sp_sugar.proofs.NodeSteps.{or_middle, ending_is}
+use Rattle.sp_sugar.proofs.UseLemmas.{used, used_more, used_next, used_here, renamed_keeps, only, renamed_names, later_more, later_used}
 use Rattle.sp_bodies.proofs.Alike.{SameFor, code_alike, codes_alike, list_alike, from_alike, counters_alike, spans_alike, early_alike}
 
 -- the same number is given a source

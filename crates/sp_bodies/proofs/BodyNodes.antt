@@ -25,13 +25,13 @@ use Rattle.sp_core.specs.Sequential.{has_reset, renew, end_of_group, run_stages}
 use Rattle.sp_core.specs.Shape.{shape_of, group_shapes, stage_shapes}
 use Rattle.sp_core.specs.Step.{went, pure, in_order, ◌>>=◌, ◌>>◌}
 use Rattle.sp_core.specs.Store as store
-use Rattle.sp_desugar.specs.Agreement.{HasMemories, View, IsAdded, place_of, Finds, Apart, Agree}
-use Rattle.sp_desugar.specs.Registers.{registers}
-use Rattle.sp_desugar.specs.Runs.{no_run}
-use Rattle.sp_desugar.specs.Stages.{Combines, nothing, inner_node, outer_node, stages}
-use Rattle.sp_desugar.specs.Uses.{Ending, no_more}
-use Rattle.sp_desugar.proofs.RunKeeps.{in_back}
-use Rattle.sp_desugar.proofs.StepLemmas.{then_on}
+use Rattle.sp_sugar.specs.Agreement.{HasMemories, View, IsAdded, place_of, Finds, Apart, Agree}
+use Rattle.sp_sugar.specs.Registers.{registers}
+use Rattle.sp_sugar.specs.Runs.{no_run}
+use Rattle.sp_sugar.specs.Stages.{Combines, nothing, inner_node, outer_node, stages}
+use Rattle.sp_sugar.specs.Uses.{Ending, no_more}
+use Rattle.sp_sugar.proofs.RunKeeps.{in_back}
+use Rattle.sp_sugar.proofs.StepLemmas.{then_on}
 use Rattle.sp_same.specs.Contents.{HoldRightly}
 use Rattle.sp_same.specs.Counts.{counts_in_all, counts_of, group_counts, stage_counts}
 use Rattle.sp_same.specs.Following.{SourcesSeen, AreSpare, IsOwn, NodeGoes, BodyFollowedRightly, alone}

@@ -16,16 +16,16 @@ use Rattle.sp_core.specs.Scope.{plainly, loops_of, counts_of, group_values, is_l
 use Rattle.sp_core.specs.Sequential.{renew, end_of_group, bounds, run, run_stages}
 use Rattle.sp_core.specs.Step.{Step, went, pure, in_order, ◌>>=◌, ◌>>◌}
 use Rattle.sp_core.specs.Store as store
-use Rattle.sp_desugar.specs.Agreement.{HasMemories, View, IsAdded, Finds, Apart, Agree}
-use Rattle.sp_desugar.specs.Numbers.{mem_number}
-use Rattle.sp_desugar.specs.Registers.{registers, owned_registers}
-use Rattle.sp_desugar.specs.Runs.{no_run}
-use Rattle.sp_desugar.specs.Uses.{Ending}
-use Rattle.sp_desugar.specs.Values.{Source, at_place, in_register, constant, count, Sources}
-use Rattle.sp_desugar.proofs.Entering.{own_declared}
-use Rattle.sp_desugar.proofs.GoOnLemmas.{at_rest}
-use Rattle.sp_desugar.proofs.RunKeeps.{in_front, in_back}
-use Rattle.sp_desugar.proofs.StepLemmas.{then_on}
+use Rattle.sp_sugar.specs.Agreement.{HasMemories, View, IsAdded, Finds, Apart, Agree}
+use Rattle.sp_sugar.specs.Numbers.{mem_number}
+use Rattle.sp_sugar.specs.Registers.{registers, owned_registers}
+use Rattle.sp_sugar.specs.Runs.{no_run}
+use Rattle.sp_sugar.specs.Uses.{Ending}
+use Rattle.sp_sugar.specs.Values.{Source, at_place, in_register, constant, count, Sources}
+use Rattle.sp_sugar.proofs.Entering.{own_declared}
+use Rattle.sp_sugar.proofs.GoOnLemmas.{at_rest}
+use Rattle.sp_sugar.proofs.RunKeeps.{in_front, in_back}
+use Rattle.sp_sugar.proofs.StepLemmas.{then_on}
 use Rattle.sp_same.specs.Contents.{HoldRightly}
 use Rattle.sp_same.specs.Following.{SourceBefore, SourcesSeen, AreSpare, IsOwn}
 use Rattle.sp_same.proofs.Groups.{outer_group, single_goes}

@@ -13,14 +13,14 @@ use Rattle.sp_core.specs.Scope.{plainly}
 use Rattle.sp_core.specs.Sequential.{renew}
 use Rattle.sp_core.specs.Step.{Step, went, pure, change, in_order, ◌>>=◌}
 use Rattle.sp_core.specs.Store as store
-use Rattle.sp_desugar.specs.Agreement.{HasMemories, View, IsAdded, Agree}
-use Rattle.sp_desugar.specs.Numbers.{numbers_from}
-use Rattle.sp_desugar.specs.Registers.{beside, inside, at_end, registers, owned_registers}
-use Rattle.sp_desugar.specs.Uses.{Ending}
-use Rattle.sp_desugar.proofs.MemoryLemmas.{changed_here}
-use Rattle.sp_desugar.proofs.Registered.{are_registers}
-use Rattle.sp_desugar.proofs.RunKeeps.{in_front, in_back}
-use Rattle.sp_desugar.proofs.StepLemmas.{core_apart, then_on, same_core_answer, same_core_store}
+use Rattle.sp_sugar.specs.Agreement.{HasMemories, View, IsAdded, Agree}
+use Rattle.sp_sugar.specs.Numbers.{numbers_from}
+use Rattle.sp_sugar.specs.Registers.{beside, inside, at_end, registers, owned_registers}
+use Rattle.sp_sugar.specs.Uses.{Ending}
+use Rattle.sp_sugar.proofs.MemoryLemmas.{changed_here}
+use Rattle.sp_sugar.proofs.Registered.{are_registers}
+use Rattle.sp_sugar.proofs.RunKeeps.{in_front, in_back}
+use Rattle.sp_sugar.proofs.StepLemmas.{core_apart, then_on, same_core_answer, same_core_store}
 use Rattle.sp_same.specs.Following.{AreSpare}
 use Rattle.sp_same.proofs.EarlyStages.{further}
 use Rattle.sp_same.proofs.Registers.{agree_cell, agree_kept}

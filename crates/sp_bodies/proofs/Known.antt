@@ -10,10 +10,10 @@ use Rattle.sp_core.specs.PlainCore.{PlainOp, PlainCore}
 use Rattle.sp_core.specs.Scope as counters
 use Rattle.sp_core.specs.Step.{went, pure}
 use Rattle.sp_core.specs.Store as store
-use Rattle.sp_desugar.specs.Agreement.{View, IsAdded, Finds, GoOn}
-use Rattle.sp_desugar.specs.Values.{Source, at_place, in_register, constant, count}
-use Rattle.sp_desugar.proofs.GoOnLemmas.{Keeps, keeps_front, ops_append}
-use Rattle.sp_desugar.proofs.StepLemmas.{same_core_answer, core_apart}
+use Rattle.sp_sugar.specs.Agreement.{View, IsAdded, Finds, GoOn}
+use Rattle.sp_sugar.specs.Values.{Source, at_place, in_register, constant, count}
+use Rattle.sp_sugar.proofs.GoOnLemmas.{Keeps, keeps_front, ops_append}
+use Rattle.sp_sugar.proofs.StepLemmas.{same_core_answer, core_apart}
 
 -- by the counters around, and the registers that are kept
 abbrev pub Known : counters.Scope → List (ℕ × Option ℕ) → Source → (word : ℕ) → Type 0

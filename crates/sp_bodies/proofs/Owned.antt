@@ -6,14 +6,14 @@ use Rattle.sp_tree.specs.PlainStatement.{PlainStmtKind, PlainStmts, stmt, declar
 use Rattle.sp_tree.specs.Structure.{own_mems, mems_declared, mems_in}
 use Rattle.sp_core.specs.Declarations.{mem as core_mem}
 use Rattle.sp_core.specs.PlainCore.{PlainMem, PlainCore, no_mem}
-use Rattle.sp_desugar.specs.Agreement.{Apart}
-use Rattle.sp_desugar.specs.Early.{early_registers}
-use Rattle.sp_desugar.specs.Registers.{beside, inside, at_end, registers}
-use Rattle.sp_desugar.specs.Uses.{Ending}
-use Rattle.sp_desugar.specs.Values.{Source, at_place, in_register, constant, count}
-use Rattle.sp_desugar.proofs.Entering.{own_declared}
-use Rattle.sp_desugar.proofs.OwnerCounts.{IsStageKind}
-use Rattle.sp_desugar.proofs.RunKeeps.{in_front, in_back}
+use Rattle.sp_sugar.specs.Agreement.{Apart}
+use Rattle.sp_sugar.specs.Early.{early_registers}
+use Rattle.sp_sugar.specs.Registers.{beside, inside, at_end, registers}
+use Rattle.sp_sugar.specs.Uses.{Ending}
+use Rattle.sp_sugar.specs.Values.{Source, at_place, in_register, constant, count}
+use Rattle.sp_sugar.proofs.Entering.{own_declared}
+use Rattle.sp_sugar.proofs.OwnerCounts.{IsStageKind}
+use Rattle.sp_sugar.proofs.RunKeeps.{in_front, in_back}
 use Rattle.sp_same.specs.Following.{SourceBefore}
 use Rattle.sp_same.proofs.Renewed.{in_either}
 use Rattle.sp_bodies.specs.Bodies.{AreDeclared, beside_of}

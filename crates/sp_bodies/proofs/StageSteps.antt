@@ -23,16 +23,16 @@ use Rattle.sp_core.specs.Sequential.{run, run_stages}
 use Rattle.sp_core.specs.Shape.{stage_shapes}
 use Rattle.sp_core.specs.Step as core_step
 use Rattle.sp_core.specs.Store as core_store
-use Rattle.sp_desugar.specs.Agreement.{HasMemories, View, IsAdded, Apart, Agree}
-use Rattle.sp_desugar.specs.Early.{early_registers, registers_for, after as number_after, early_stages}
-use Rattle.sp_desugar.specs.Numbers.{begun_register, crossing_register}
-use Rattle.sp_desugar.specs.Registers.{inside}
-use Rattle.sp_desugar.specs.Runs.{Run, no_run}
-use Rattle.sp_desugar.specs.Stages.{run_stage, node}
-use Rattle.sp_desugar.specs.Values.{Sources}
-use Rattle.sp_desugar.proofs.GoOnLemmas.{at_rest}
-use Rattle.sp_desugar.proofs.RunKeeps.{in_front, in_back}
-use Rattle.sp_desugar.proofs.StepLemmas.{then_on, same_core_store}
+use Rattle.sp_sugar.specs.Agreement.{HasMemories, View, IsAdded, Apart, Agree}
+use Rattle.sp_sugar.specs.Early.{early_registers, registers_for, after as number_after, early_stages}
+use Rattle.sp_sugar.specs.Numbers.{begun_register, crossing_register}
+use Rattle.sp_sugar.specs.Registers.{inside}
+use Rattle.sp_sugar.specs.Runs.{Run, no_run}
+use Rattle.sp_sugar.specs.Stages.{run_stage, node}
+use Rattle.sp_sugar.specs.Values.{Sources}
+use Rattle.sp_sugar.proofs.GoOnLemmas.{at_rest}
+use Rattle.sp_sugar.proofs.RunKeeps.{in_front, in_back}
+use Rattle.sp_sugar.proofs.StepLemmas.{then_on, same_core_store}
 use Rattle.sp_same.specs.Counts.{Count, counts_in_all, stage_counts}
 use Rattle.sp_same.specs.Contents.{HoldRightly}
 use Rattle.sp_same.specs.Following.{SourcesSeen, SourceBefore, AreSpare, IsOwn, AreCells, EarlyGoes, NodeGoes}

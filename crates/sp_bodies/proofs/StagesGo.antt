@@ -17,21 +17,21 @@ use Rattle.sp_tree.specs.Typing.{Scope, with_mem, with_val, StmtTyped, BodyTyped
 use Rattle.sp_core.specs.PlainCore.{PlainMem, PlainStages, PlainCore, more_stage}
 use Rattle.sp_core.specs.Scope as counters
 use Rattle.sp_core.specs.Store as core_store
-use Rattle.sp_desugar.specs.Agreement.{HasMemories, View, Apart, Finds}
-use Rattle.sp_desugar.specs.Early.{early_registers, early_stages}
-use Rattle.sp_desugar.specs.Numbers.{crossing_register}
-use Rattle.sp_desugar.specs.Operations.{Code, write_op}
-use Rattle.sp_desugar.specs.Registers.{beside, inside, at_end, registers}
-use Rattle.sp_desugar.specs.Runs.{Run, no_run, next_code, with_computed, with_stmt}
-use Rattle.sp_desugar.specs.Stages.{run_stage, first_of, Combines, last_stages, stages, node}
-use Rattle.sp_desugar.specs.Uses.{Ending, does_cross, is_used_later}
-use Rattle.sp_desugar.specs.Values.{Source, at_place, in_register, constant, count, Sources, with_value}
-use Rattle.sp_desugar.proofs.Entering.{fresh_apart}
-use Rattle.sp_desugar.proofs.MemoryLemmas.{changed_elsewhere}
-use Rattle.sp_desugar.proofs.OwnerCounts.{IsStageKind}
-use Rattle.sp_desugar.proofs.RunKeeps.{in_front, in_back}
-use Rattle.sp_desugar.proofs.StepLemmas.{as_it_went, same_answer, same_left, same_store, taken_apart}
-use Rattle.sp_desugar.proofs.UseLemmas.{only}
+use Rattle.sp_sugar.specs.Agreement.{HasMemories, View, Apart, Finds}
+use Rattle.sp_sugar.specs.Early.{early_registers, early_stages}
+use Rattle.sp_sugar.specs.Numbers.{crossing_register}
+use Rattle.sp_sugar.specs.Operations.{Code, write_op}
+use Rattle.sp_sugar.specs.Registers.{beside, inside, at_end, registers}
+use Rattle.sp_sugar.specs.Runs.{Run, no_run, next_code, with_computed, with_stmt}
+use Rattle.sp_sugar.specs.Stages.{run_stage, first_of, Combines, last_stages, stages, node}
+use Rattle.sp_sugar.specs.Uses.{Ending, does_cross, is_used_later}
+use Rattle.sp_sugar.specs.Values.{Source, at_place, in_register, constant, count, Sources, with_value}
+use Rattle.sp_sugar.proofs.Entering.{fresh_apart}
+use Rattle.sp_sugar.proofs.MemoryLemmas.{changed_elsewhere}
+use Rattle.sp_sugar.proofs.OwnerCounts.{IsStageKind}
+use Rattle.sp_sugar.proofs.RunKeeps.{in_front, in_back}
+use Rattle.sp_sugar.proofs.StepLemmas.{as_it_went, same_answer, same_left, same_store, taken_apart}
+use Rattle.sp_sugar.proofs.UseLemmas.{only}
 use Rattle.sp_same.specs.Contents.{HoldRightly}
 use Rattle.sp_same.specs.Counts.{counts_in, counts_in_all}
 use Rattle.sp_same.specs.Following.{SourceSeen, SourcesSeen, SourceBefore, IsOwn}

@@ -23,17 +23,17 @@ use Rattle.sp_core.specs.PlainCore.{PlainOp, PlainCore}
 use Rattle.sp_core.specs.Sequential.{has_reset}
 use Rattle.sp_core.specs.Step as core_step
 use Rattle.sp_core.specs.Store as store
-use Rattle.sp_desugar.specs.Agreement.{HasMemories, View, at_run, IsAdded, Finds, Agree, GoOn}
-use Rattle.sp_desugar.specs.Numbers.{mem_number}
-use Rattle.sp_desugar.specs.Operations.{Code, Codes, accesses, write_op, codes}
-use Rattle.sp_desugar.specs.Runs.{Run, with_ops, next_code, with_computed, with_stmt}
-use Rattle.sp_desugar.specs.Values.{Source, at_place, in_register, constant, Sources, with_value}
-use Rattle.sp_desugar.proofs.GoOnLemmas.{agree_still, keeps_front, ops_append}
-use Rattle.sp_desugar.proofs.InnerRuns.{Goes, rescoped, agree_named, computed, stmt_follows}
-use Rattle.sp_desugar.proofs.MemoryLemmas.{changed_here, changed_elsewhere, core_writes, agree_declared}
-use Rattle.sp_desugar.proofs.NumberLemmas.{either}
-use Rattle.sp_desugar.proofs.RunKeeps.{in_back}
-use Rattle.sp_desugar.proofs.StepLemmas.{as_it_went, then_on}
+use Rattle.sp_sugar.specs.Agreement.{HasMemories, View, at_run, IsAdded, Finds, Agree, GoOn}
+use Rattle.sp_sugar.specs.Numbers.{mem_number}
+use Rattle.sp_sugar.specs.Operations.{Code, Codes, accesses, write_op, codes}
+use Rattle.sp_sugar.specs.Runs.{Run, with_ops, next_code, with_computed, with_stmt}
+use Rattle.sp_sugar.specs.Values.{Source, at_place, in_register, constant, Sources, with_value}
+use Rattle.sp_sugar.proofs.GoOnLemmas.{agree_still, keeps_front, ops_append}
+use Rattle.sp_sugar.proofs.InnerRuns.{Goes, rescoped, agree_named, computed, stmt_follows}
+use Rattle.sp_sugar.proofs.MemoryLemmas.{changed_here, changed_elsewhere, core_writes, agree_declared}
+use Rattle.sp_sugar.proofs.NumberLemmas.{either}
+use Rattle.sp_sugar.proofs.RunKeeps.{in_back}
+use Rattle.sp_sugar.proofs.StepLemmas.{as_it_went, then_on}
 use Rattle.sp_same.specs.Following.{SourceBefore, AreSpare}
 use Rattle.sp_same.proofs.Registers.{agree_written}
 use Rattle.sp_same.specs.Contents.{HoldRightly}

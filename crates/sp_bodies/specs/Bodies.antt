@@ -15,11 +15,11 @@ use Rattle.sp_tree.specs.Typing.{StmtTyped}
 use Rattle.sp_core.specs.Declarations.{mem as core_mem, room as core_room}
 use Rattle.sp_core.specs.PlainCore.{PlainMem, PlainCore, no_mem}
 use Rattle.sp_core.specs.Store as store
-use Rattle.sp_desugar.specs.Agreement.{View, Apart, Agree}
-use Rattle.sp_desugar.specs.Early.{is_early, bounds_of, early_registers, registers_for}
-use Rattle.sp_desugar.specs.Numbers.{begun_register, mem_number, written_mems}
-use Rattle.sp_desugar.specs.Registers.{inside}
-use Rattle.sp_desugar.specs.Stages.{node}
+use Rattle.sp_sugar.specs.Agreement.{View, Apart, Agree}
+use Rattle.sp_sugar.specs.Early.{is_early, bounds_of, early_registers, registers_for}
+use Rattle.sp_sugar.specs.Numbers.{begun_register, mem_number, written_mems}
+use Rattle.sp_sugar.specs.Registers.{inside}
+use Rattle.sp_sugar.specs.Stages.{node}
 use Rattle.sp_same.specs.Contents.{HoldRightly}
 use Rattle.sp_same.specs.Following.{SourcesSeen, AreSpare, IsOwn, HoldsWord, AreReady, NodeGoes}
 use Rattle.sp_same.specs.Laws.{crosses_in, words_in}

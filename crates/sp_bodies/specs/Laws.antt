@@ -7,9 +7,9 @@ use Rattle.sp_tree.specs.Structure.{mems_declared, is_inner}
 use Rattle.sp_tree.specs.Typing.{BodyTyped}
 use Rattle.sp_core.specs.Declarations.{is_stream}
 use Rattle.sp_core.specs.PlainCore.{PlainCore}
-use Rattle.sp_desugar.specs.Agreement.{HasMemories, View, Apart}
-use Rattle.sp_desugar.specs.Registers.{registers}
-use Rattle.sp_desugar.specs.Uses.{no_more}
+use Rattle.sp_sugar.specs.Agreement.{HasMemories, View, Apart}
+use Rattle.sp_sugar.specs.Registers.{registers}
+use Rattle.sp_sugar.specs.Uses.{no_more}
 use Rattle.sp_same.specs.Following.{SourcesSeen, AreSpare, IsOwn, BodyFollowedRightly, alone}
 use Rattle.sp_bodies.specs.Bodies.{HaveRoomsAlike, AreDeclared, AreStagesFollowed}
 

@@ -20,10 +20,10 @@ use Rattle.sp_core.specs.Operations.{done_by}
 use Rattle.sp_core.specs.PlainCore.{PlainCore}
 use Rattle.sp_core.specs.Step.{went}
 use Rattle.sp_core.specs.Store as store
-use Rattle.sp_desugar.specs.Agreement.{HasMemories, View, Agree}
-use Rattle.sp_desugar.specs.Numbers.{is_off_dram, mem_number}
-use Rattle.sp_desugar.proofs.MemoryLemmas.{chip_kind, chip_dims, chip_holds, agree_held, core_reads, core_writes, sram_word}
-use Rattle.sp_desugar.proofs.TwinLemmas.{same_cells, same_inside, same_place}
+use Rattle.sp_sugar.specs.Agreement.{HasMemories, View, Agree}
+use Rattle.sp_sugar.specs.Numbers.{is_off_dram, mem_number}
+use Rattle.sp_sugar.proofs.MemoryLemmas.{chip_kind, chip_dims, chip_holds, agree_held, core_reads, core_writes, sram_word}
+use Rattle.sp_sugar.proofs.TwinLemmas.{same_cells, same_inside, same_place}
 use Rattle.sp_outcomes.proofs.ElementLoops.{first_count, other_counts}
 use Rattle.sp_outcomes.proofs.ElementOrder.{AreBelow}
 use Rattle.sp_outcomes.proofs.ElementWords.{index_is, are_in}

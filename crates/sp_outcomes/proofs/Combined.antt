@@ -19,10 +19,10 @@ use Rattle.sp_core.specs.Operations.{done_by, operations_after}
 use Rattle.sp_core.specs.PlainCore.{PlainOp, PlainCore}
 use Rattle.sp_core.specs.Step as core_step
 use Rattle.sp_core.specs.Store as store
-use Rattle.sp_desugar.specs.Agreement.{HasMemories, View, IsAdded, Agree, GoOn}
-use Rattle.sp_desugar.specs.Combination.{reduce_ops}
-use Rattle.sp_desugar.specs.Numbers.{mem_number}
-use Rattle.sp_desugar.proofs.StepLemmas.{same_store, taken_apart}
+use Rattle.sp_sugar.specs.Agreement.{HasMemories, View, IsAdded, Agree, GoOn}
+use Rattle.sp_sugar.specs.Combination.{reduce_ops}
+use Rattle.sp_sugar.specs.Numbers.{mem_number}
+use Rattle.sp_sugar.proofs.StepLemmas.{same_store, taken_apart}
 use Rattle.sp_same.proofs.Combining.{same_combined, reads, reduce_goes}
 use Rattle.sp_same.proofs.Picks.{read_found}
 

@@ -19,9 +19,9 @@ use Rattle.sp_core.specs.Sequential.{bounds, run}
 use Rattle.sp_core.specs.Shape.{shape_of, group_shapes, stage_shapes}
 use Rattle.sp_core.specs.Step as core_step
 use Rattle.sp_core.specs.Store as store
-use Rattle.sp_desugar.specs.Agreement.{HasMemories, View, Agree}
-use Rattle.sp_desugar.specs.Early.{is_early, counters_of, bounds_of}
-use Rattle.sp_desugar.proofs.StepLemmas.{same_answer, same_left, same_store, taken_apart, then_on}
+use Rattle.sp_sugar.specs.Agreement.{HasMemories, View, Agree}
+use Rattle.sp_sugar.specs.Early.{is_early, counters_of, bounds_of}
+use Rattle.sp_sugar.proofs.StepLemmas.{same_answer, same_left, same_store, taken_apart, then_on}
 use Rattle.sp_same.specs.Counts.{loop, counts_in, counts_in_all, counts_of as node_counts, group_counts, stage_counts}
 use Rattle.sp_same.specs.Following.{AreReady, NodeGoes}
 use Rattle.sp_same.proofs.BoundsTaken.{IsLoop, core_loops, AreLoops, are_loops, SameValues, iterations, bounds_taken}

@@ -24,10 +24,10 @@ use Rattle.sp_core.specs.PlainCore.{PlainCore}
 use Rattle.sp_core.specs.Scope as counters
 use Rattle.sp_core.specs.Step as core_step
 use Rattle.sp_core.specs.Store as store
-use Rattle.sp_desugar.specs.Agreement.{HasMemories, IsAdded, Agree}
-use Rattle.sp_desugar.specs.Combination.{operator_of, element_indices, is_last_element}
-use Rattle.sp_desugar.specs.Numbers.{mem_number}
-use Rattle.sp_desugar.proofs.StepLemmas.{same_store, taken_apart}
+use Rattle.sp_sugar.specs.Agreement.{HasMemories, IsAdded, Agree}
+use Rattle.sp_sugar.specs.Combination.{operator_of, element_indices, is_last_element}
+use Rattle.sp_sugar.specs.Numbers.{mem_number}
+use Rattle.sp_sugar.proofs.StepLemmas.{same_store, taken_apart}
 use Rattle.sp_same.proofs.Combining.{same_combined}
 use Rattle.sp_same.proofs.Picks.{read_found}
 use Rattle.sp_outcomes.proofs.AccElements.{places, element_reads, element_writes}

@@ -16,10 +16,10 @@ use Rattle.sp_tree.specs.Sequential.{counter_range}
 use Rattle.sp_tree.specs.Step as step
 use Rattle.sp_tree.specs.Store as store
 use Rattle.sp_tree.specs.Typing.{Scope, BoundsTyped}
-use Rattle.sp_desugar.specs.Combination.{element_counters}
-use Rattle.sp_desugar.specs.Early.{counters_of}
-use Rattle.sp_desugar.specs.Operations.{literal_op, code}
-use Rattle.sp_desugar.specs.Values.{Sources}
+use Rattle.sp_sugar.specs.Combination.{element_counters}
+use Rattle.sp_sugar.specs.Early.{counters_of}
+use Rattle.sp_sugar.specs.Operations.{literal_op, code}
+use Rattle.sp_sugar.specs.Values.{Sources}
 
 abbrev pub element_loops : (first : ℕ) → (dims : List ℕ) → List PlainCounter
 element_loops c [] = []

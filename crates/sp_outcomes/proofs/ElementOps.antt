@@ -29,14 +29,14 @@ use Rattle.sp_core.specs.Scope as counters
 use Rattle.sp_core.specs.Step as core_step
 use Rattle.sp_core.specs.Step.{went, pure}
 use Rattle.sp_core.specs.Store as store
-use Rattle.sp_desugar.specs.Agreement.{HasMemories, View, IsAdded, Finds, Agree}
-use Rattle.sp_desugar.specs.Combination.{operator_of, element_indices, is_last_element, element_value, element_ops}
-use Rattle.sp_desugar.specs.Numbers.{mem_number}
-use Rattle.sp_desugar.specs.Operations.{Code, Codes, code, code_of, codes, computes, read_op, write_op, literal_op, under}
-use Rattle.sp_desugar.specs.Values.{no_sources, in_register}
-use Rattle.sp_desugar.proofs.Follows.{follows, row_follow}
-use Rattle.sp_desugar.proofs.MemoryLemmas.{core_reads, core_writes, reg_word}
-use Rattle.sp_desugar.proofs.StepLemmas.{then_on}
+use Rattle.sp_sugar.specs.Agreement.{HasMemories, View, IsAdded, Finds, Agree}
+use Rattle.sp_sugar.specs.Combination.{operator_of, element_indices, is_last_element, element_value, element_ops}
+use Rattle.sp_sugar.specs.Numbers.{mem_number}
+use Rattle.sp_sugar.specs.Operations.{Code, Codes, code, code_of, codes, computes, read_op, write_op, literal_op, under}
+use Rattle.sp_sugar.specs.Values.{no_sources, in_register}
+use Rattle.sp_sugar.proofs.Follows.{follows, row_follow}
+use Rattle.sp_sugar.proofs.MemoryLemmas.{core_reads, core_writes, reg_word}
+use Rattle.sp_sugar.proofs.StepLemmas.{then_on}
 use Rattle.sp_outcomes.proofs.ElementOrder.{AreBelow}
 use Rattle.sp_outcomes.proofs.ElementWords.{HaveCounts, are_last, element_word, indices_words, last_word}
 use Rattle.sp_outcomes.proofs.SoFar.{words_given, and_word, SoFar, one_op, some_ops, noted}

@@ -5,7 +5,7 @@ use Rattle.std.proofs.Math.Nat.{mul-le-mul_right}
 use Rattle.std.specs.Prelude.{map, flat_map}
 use Rattle.sp_words.specs.Interface.{word_count}
 use Rattle.sp_tree.specs.Elements.{numbers_below, tuples, row_major}
-use Rattle.sp_desugar.proofs.NumberLemmas.{either}
+use Rattle.sp_sugar.proofs.NumberLemmas.{either}
 
 map_joined : {A B : Type 0} (f : A → B) (xs ys : List A) → map f (xs ++ ys) ≡ map f xs ++ map f ys
 map_joined f [] ys = refl

@@ -16,7 +16,7 @@ use Rattle.sp_tree.specs.PlainExpression.{PlainExpr, expr, get_sram, two, type_o
 use Rattle.sp_tree.specs.PlainProgram.{PlainProgram}
 use Rattle.sp_tree.specs.Step as step
 use Rattle.sp_tree.specs.Store as store
-use Rattle.sp_desugar.specs.Combination.{element_indices, is_last_at, conjunction, is_last_element}
+use Rattle.sp_sugar.specs.Combination.{element_indices, is_last_at, conjunction, is_last_element}
 use Rattle.sp_outcomes.proofs.ElementOrder.{AreBelow}
 use Rattle.sp_outcomes.proofs.ElementLoops.{small_value, first_count, other_counts}
 

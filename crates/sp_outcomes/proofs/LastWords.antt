@@ -13,16 +13,16 @@ use Rattle.sp_core.specs.Elements.{are_inside}
 use Rattle.sp_core.specs.History.{touched}
 use Rattle.sp_core.specs.PlainCore.{PlainOp, PlainCore}
 use Rattle.sp_core.specs.Store as store
-use Rattle.sp_desugar.specs.Agreement.{HasMemories, View, at_run, Agree, GoOn}
-use Rattle.sp_desugar.specs.Operations.{Code, read_op, write_op, alone, code}
-use Rattle.sp_desugar.specs.Registers.{ending_of, at_end, registers}
-use Rattle.sp_desugar.specs.Runs.{Run, next_code}
-use Rattle.sp_desugar.specs.Stages.{run_stage, Combines, nothing, folds, reduces, reduces_elements, combination_stage, last_stages}
-use Rattle.sp_desugar.specs.Uses.{Ending, in_last_run, in_combination}
-use Rattle.sp_desugar.proofs.Follows.{follows}
-use Rattle.sp_desugar.proofs.GoOnLemmas.{alone_on}
-use Rattle.sp_desugar.proofs.MemoryLemmas.{core_reads, reg_word}
-use Rattle.sp_desugar.proofs.NodeSteps.{ending_is}
+use Rattle.sp_sugar.specs.Agreement.{HasMemories, View, at_run, Agree, GoOn}
+use Rattle.sp_sugar.specs.Operations.{Code, read_op, write_op, alone, code}
+use Rattle.sp_sugar.specs.Registers.{ending_of, at_end, registers}
+use Rattle.sp_sugar.specs.Runs.{Run, next_code}
+use Rattle.sp_sugar.specs.Stages.{run_stage, Combines, nothing, folds, reduces, reduces_elements, combination_stage, last_stages}
+use Rattle.sp_sugar.specs.Uses.{Ending, in_last_run, in_combination}
+use Rattle.sp_sugar.proofs.Follows.{follows}
+use Rattle.sp_sugar.proofs.GoOnLemmas.{alone_on}
+use Rattle.sp_sugar.proofs.MemoryLemmas.{core_reads, reg_word}
+use Rattle.sp_sugar.proofs.NodeSteps.{ending_is}
 use Rattle.sp_same.specs.Contents.{HoldRightly}
 use Rattle.sp_bodies.specs.Bodies.{HaveRoomsAlike}
 use Rattle.sp_bodies.proofs.Known.{known_found, known_more}

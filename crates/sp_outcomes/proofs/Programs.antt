@@ -30,18 +30,18 @@ use Rattle.sp_core.specs.Meaning.{meaning, run_core}
 use Rattle.sp_core.specs.PlainCore as core_tree
 use Rattle.sp_core.specs.Scope.{plainly}
 use Rattle.sp_core.specs.Shape.{shape_of}
-use Rattle.sp_desugar.specs.Agreement.{HasMemories, Apart}
-use Rattle.sp_desugar.specs.Core.{core_of}
-use Rattle.sp_desugar.specs.Numbers.{mem_number, written_mems}
-use Rattle.sp_desugar.specs.Registers.{registers_in}
-use Rattle.sp_desugar.specs.Runs.{no_run}
-use Rattle.sp_desugar.specs.Stages.{nothing, stages}
-use Rattle.sp_desugar.specs.Uses.{no_more}
-use Rattle.sp_desugar.specs.Values.{no_sources}
-use Rattle.sp_desugar.proofs.MemoryLemmas.{chip_mem}
-use Rattle.sp_desugar.proofs.OwnerCounts.{count_of}
-use Rattle.sp_desugar.proofs.Owners.{declared_is, off_dram, self_count, later_count}
-use Rattle.sp_desugar.proofs.StepLemmas.{taken_apart}
+use Rattle.sp_sugar.specs.Agreement.{HasMemories, Apart}
+use Rattle.sp_sugar.specs.Core.{core_of}
+use Rattle.sp_sugar.specs.Numbers.{mem_number, written_mems}
+use Rattle.sp_sugar.specs.Registers.{registers_in}
+use Rattle.sp_sugar.specs.Runs.{no_run}
+use Rattle.sp_sugar.specs.Stages.{nothing, stages}
+use Rattle.sp_sugar.specs.Uses.{no_more}
+use Rattle.sp_sugar.specs.Values.{no_sources}
+use Rattle.sp_sugar.proofs.MemoryLemmas.{chip_mem}
+use Rattle.sp_sugar.proofs.OwnerCounts.{count_of}
+use Rattle.sp_sugar.proofs.Owners.{declared_is, off_dram, self_count, later_count}
+use Rattle.sp_sugar.proofs.StepLemmas.{taken_apart}
 use Rattle.sp_same.specs.Contents.{IsContents, HoldRightly}
 use Rattle.sp_same.specs.Counts.{counts_in, counts_of}
 use Rattle.sp_same.specs.Following.{IsOwn, NodeGoes, first_view}

@@ -24,17 +24,17 @@ use Rattle.sp_core.specs.Declarations.{is_stream}
 use Rattle.sp_core.specs.PlainCore.{PlainMem, PlainCore}
 use Rattle.sp_core.specs.Scope as counters
 use Rattle.sp_core.specs.Store as core_store
-use Rattle.sp_desugar.specs.Agreement.{HasMemories, View, IsAdded, Apart, Agree}
-use Rattle.sp_desugar.specs.Early.{is_early, bounds_of, registers_for}
-use Rattle.sp_desugar.specs.Numbers.{begun_register, state_register}
-use Rattle.sp_desugar.specs.Registers.{ending_of, inside, registers, registers_in}
-use Rattle.sp_desugar.specs.Stages.{style_of, node}
-use Rattle.sp_desugar.specs.Uses.{Ending, no_more}
-use Rattle.sp_desugar.specs.Values.{Source, in_register, Sources, with_state}
-use Rattle.sp_desugar.proofs.Entering.{own_declared, same_mems, same_vals}
-use Rattle.sp_desugar.proofs.NumberLemmas.{either}
-use Rattle.sp_desugar.proofs.OwnerCounts.{IsStageKind}
-use Rattle.sp_desugar.proofs.RunKeeps.{in_front, in_back}
+use Rattle.sp_sugar.specs.Agreement.{HasMemories, View, IsAdded, Apart, Agree}
+use Rattle.sp_sugar.specs.Early.{is_early, bounds_of, registers_for}
+use Rattle.sp_sugar.specs.Numbers.{begun_register, state_register}
+use Rattle.sp_sugar.specs.Registers.{ending_of, inside, registers, registers_in}
+use Rattle.sp_sugar.specs.Stages.{style_of, node}
+use Rattle.sp_sugar.specs.Uses.{Ending, no_more}
+use Rattle.sp_sugar.specs.Values.{Source, in_register, Sources, with_state}
+use Rattle.sp_sugar.proofs.Entering.{own_declared, same_mems, same_vals}
+use Rattle.sp_sugar.proofs.NumberLemmas.{either}
+use Rattle.sp_sugar.proofs.OwnerCounts.{IsStageKind}
+use Rattle.sp_sugar.proofs.RunKeeps.{in_front, in_back}
 use Rattle.sp_same.specs.Contents.{IsContents, HoldRightly}
 use Rattle.sp_same.specs.Following.{SourceSeen, SourcesSeen, SourceBefore, AreSpare, IsOwn, HoldsWord, AreReady, NodeGoes, BodyFollowedRightly, alone}
 use Rattle.sp_same.proofs.Controllers as controllers

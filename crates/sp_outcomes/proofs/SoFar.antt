@@ -8,9 +8,9 @@ use Rattle.sp_core.specs.Operations.{operation, operations_after}
 use Rattle.sp_core.specs.PlainCore.{PlainOp, PlainCore}
 use Rattle.sp_core.specs.Step.{went}
 use Rattle.sp_core.specs.Store as store
-use Rattle.sp_desugar.specs.Agreement.{View, Agree, GiveAt, GoOn}
-use Rattle.sp_desugar.proofs.GoOnLemmas.{keeps_front, at_end, agree_still, give_still, ops_append}
-use Rattle.sp_desugar.proofs.StepLemmas.{then_on}
+use Rattle.sp_sugar.specs.Agreement.{View, Agree, GiveAt, GoOn}
+use Rattle.sp_sugar.proofs.GoOnLemmas.{keeps_front, at_end, agree_still, give_still, ops_append}
+use Rattle.sp_sugar.proofs.StepLemmas.{then_on}
 
 pub words_given : (all : List Entry) (places words : List ℕ) → GiveAt all places words → map (word_at all) places ≡ words
 words_given all [] [] g = refl

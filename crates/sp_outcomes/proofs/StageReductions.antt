@@ -30,21 +30,21 @@ use Rattle.sp_core.specs.Sequential.{renew, renew_in_body, end_of_group, run, ru
 use Rattle.sp_core.specs.Shape.{stage_shapes}
 use Rattle.sp_core.specs.Step as core_step
 use Rattle.sp_core.specs.Store as store
-use Rattle.sp_desugar.specs.Agreement.{HasMemories, View, IsAdded, Finds, Apart, Agree}
-use Rattle.sp_desugar.specs.Combination.{fold_ops, reduce_ops}
-use Rattle.sp_desugar.specs.Early.{is_early, bounds_of, counters_of}
-use Rattle.sp_desugar.specs.Numbers.{mem_number}
-use Rattle.sp_desugar.specs.Operations.{Code}
-use Rattle.sp_desugar.specs.Registers.{ending_of, registers, owned_registers}
-use Rattle.sp_desugar.specs.Runs.{no_run}
-use Rattle.sp_desugar.specs.Stages.{Combines, combines, combining as combining_ops, combination, combination_stage, last_stages, inner_node, outer_node, body_node, stages}
-use Rattle.sp_desugar.specs.Uses.{Ending}
-use Rattle.sp_desugar.specs.Values.{Source, at_place, in_register, constant, count, Sources}
-use Rattle.sp_desugar.proofs.Entering.{same_mems, same_vals}
-use Rattle.sp_desugar.proofs.MemoryLemmas.{changed_here, word_found}
-use Rattle.sp_desugar.proofs.NumberLemmas.{either}
-use Rattle.sp_desugar.proofs.RunKeeps.{in_back}
-use Rattle.sp_desugar.proofs.StepLemmas.{same_answer, same_left, same_store, taken_apart, then_on}
+use Rattle.sp_sugar.specs.Agreement.{HasMemories, View, IsAdded, Finds, Apart, Agree}
+use Rattle.sp_sugar.specs.Combination.{fold_ops, reduce_ops}
+use Rattle.sp_sugar.specs.Early.{is_early, bounds_of, counters_of}
+use Rattle.sp_sugar.specs.Numbers.{mem_number}
+use Rattle.sp_sugar.specs.Operations.{Code}
+use Rattle.sp_sugar.specs.Registers.{ending_of, registers, owned_registers}
+use Rattle.sp_sugar.specs.Runs.{no_run}
+use Rattle.sp_sugar.specs.Stages.{Combines, combines, combining as combining_ops, combination, combination_stage, last_stages, inner_node, outer_node, body_node, stages}
+use Rattle.sp_sugar.specs.Uses.{Ending}
+use Rattle.sp_sugar.specs.Values.{Source, at_place, in_register, constant, count, Sources}
+use Rattle.sp_sugar.proofs.Entering.{same_mems, same_vals}
+use Rattle.sp_sugar.proofs.MemoryLemmas.{changed_here, word_found}
+use Rattle.sp_sugar.proofs.NumberLemmas.{either}
+use Rattle.sp_sugar.proofs.RunKeeps.{in_back}
+use Rattle.sp_sugar.proofs.StepLemmas.{same_answer, same_left, same_store, taken_apart, then_on}
 use Rattle.sp_same.specs.Contents.{HoldRightly}
 use Rattle.sp_same.specs.Counts.{counts_in, counts_in_all, stage_counts}
 use Rattle.sp_same.specs.Following.{SourceSeen, SourcesSeen, AreSpare, IsOwn, AreReady, NodeGoes}

@@ -14,15 +14,15 @@ use Rattle.sp_core.specs.declared.node.SparseKind.{SparseKind}
 use Rattle.sp_core.specs.declared.node.SparseKind.TheVariants.{WideLoad, WideStore}
 use Rattle.sp_core.specs.PlainCore as core
 use Rattle.sp_core.specs.PlainCore.{PlainCounter, PlainOp, PlainNode, PlainStages, sparse, no_stage, more_stage}
-use Rattle.sp_desugar.specs.Combination.{element_loop}
-use Rattle.sp_desugar.specs.Early.{is_early, is_early_slice, is_early_part, bounds_of, parts_of, registers_for, counters_of, spans_of, stage_of, into_register, bound_stages, slice_ops, early_stages}
-use Rattle.sp_desugar.specs.Numbers.{mem_number, dram_number}
-use Rattle.sp_desugar.specs.Operations.{read_op, write_op, alone, code}
-use Rattle.sp_desugar.specs.Registers.{ending_of, beside, inside, registers_in, owned_registers}
-use Rattle.sp_desugar.specs.Runs.{Run, no_run, next_code}
-use Rattle.sp_desugar.specs.Stages.{run_stage, Combines, nothing, folds, reduces, reduces_elements, combines, combination_stage, last_stages, style_of, body_node, inner_node, outer_node, stages, node}
-use Rattle.sp_desugar.specs.Uses.{Ending, no_more, in_last_run, in_combination}
-use Rattle.sp_desugar.specs.Values.{Sources, with_state}
+use Rattle.sp_sugar.specs.Combination.{element_loop}
+use Rattle.sp_sugar.specs.Early.{is_early, is_early_slice, is_early_part, bounds_of, parts_of, registers_for, counters_of, spans_of, stage_of, into_register, bound_stages, slice_ops, early_stages}
+use Rattle.sp_sugar.specs.Numbers.{mem_number, dram_number}
+use Rattle.sp_sugar.specs.Operations.{read_op, write_op, alone, code}
+use Rattle.sp_sugar.specs.Registers.{ending_of, beside, inside, registers_in, owned_registers}
+use Rattle.sp_sugar.specs.Runs.{Run, no_run, next_code}
+use Rattle.sp_sugar.specs.Stages.{run_stage, Combines, nothing, folds, reduces, reduces_elements, combines, combination_stage, last_stages, style_of, body_node, inner_node, outer_node, stages, node}
+use Rattle.sp_sugar.specs.Uses.{Ending, no_more, in_last_run, in_combination}
+use Rattle.sp_sugar.specs.Values.{Sources, with_state}
 use Rattle.sp_outcomes.specs.Covered.{IsCovered, AreCovered}
 use Rattle.sp_outcomes.proofs.Recursion.{no_rooms, loop_quiet}
 use Rattle.sp_tree.specs.Typing.{Scope, StmtTyped, BodyTyped, with_counters, with_val}

@@ -3,7 +3,7 @@ use Rattle.std.specs.Prelude.{◌≡◌, ℕ, false, List}
 use Rattle.sp_tree.specs.PlainProgram.{PlainMem}
 use Rattle.sp_tree.specs.PlainStatement.{PlainStmtKind, PlainStmts, stmt, block, foreach, reduce, mem_reduce, fsm, branch, no_stmt, more_stmt}
 use Rattle.sp_core.specs.Declarations.{is_stream}
-use Rattle.sp_desugar.specs.Stages.{style_of}
+use Rattle.sp_sugar.specs.Stages.{style_of}
 
 -- by the declarations of the program's memories and the number of its counters
 abbrev mutual

@@ -10,7 +10,7 @@ use Rattle.sp_core.specs.Meaning as core
 use Rattle.sp_core.specs.Meaning.{meaning}
 use Rattle.sp_core.specs.Scope.{plainly}
 use Rattle.sp_core.specs.Shape.{shape_of}
-use Rattle.sp_desugar.specs.Core.{core_of}
+use Rattle.sp_sugar.specs.Core.{core_of}
 use Rattle.sp_same.specs.Counts.{counts_in, counts_of}
 
 -- where a program ends, so does its core, read plainly: with the same words of outputs and DRAMs, and what is counted in its

@@ -19,10 +19,10 @@ use Rattle.sp_core.specs.Scope.{Loop, plainly, loops_of, counts_of, group_values
 use Rattle.sp_core.specs.Sequential.{bounds}
 use Rattle.sp_core.specs.Step as core_step
 use Rattle.sp_core.specs.Store as store
-use Rattle.sp_desugar.specs.Agreement.{HasMemories, View, Agree}
-use Rattle.sp_desugar.specs.Early.{is_early, after, from_register, counters_of, bounds_of}
-use Rattle.sp_desugar.specs.Values.{Sources}
-use Rattle.sp_desugar.proofs.StepLemmas.{same_answer, taken_apart, then_on}
+use Rattle.sp_sugar.specs.Agreement.{HasMemories, View, Agree}
+use Rattle.sp_sugar.specs.Early.{is_early, after, from_register, counters_of, bounds_of}
+use Rattle.sp_sugar.specs.Values.{Sources}
+use Rattle.sp_sugar.proofs.StepLemmas.{same_answer, taken_apart, then_on}
 use Rattle.sp_same.specs.Following.{AreReady}
 use Rattle.sp_same.proofs.Quietly.{Pairs, Triples, Quietly, quiet_order}
 use Rattle.sp_same.proofs.StillWords.{unchanged}

@@ -26,15 +26,15 @@ use Rattle.sp_core.specs.Operators.{two_word, chosen}
 use Rattle.sp_core.specs.PlainCore.{PlainOp, PlainCore}
 use Rattle.sp_core.specs.Step.{went, pure}
 use Rattle.sp_core.specs.Store as store
-use Rattle.sp_desugar.specs.Agreement.{HasMemories, View, IsAdded, Finds, Agree, GoOn}
-use Rattle.sp_desugar.specs.Combination.{operator_of, fold_ops, reduce_ops}
-use Rattle.sp_desugar.specs.Numbers.{is_off_dram, mem_number}
-use Rattle.sp_desugar.specs.Operations.{computes, read_op, write_op, literal_op, under}
-use Rattle.sp_desugar.specs.Values.{in_register}
-use Rattle.sp_desugar.proofs.GoOnLemmas.{keeps_front, at_end, agree_still, give_still, ops_append}
-use Rattle.sp_desugar.proofs.MemoryLemmas.{dimensionless, chip_kind, chip_dims, chip_holds, agree_held, core_reads, core_writes, reg_word}
-use Rattle.sp_desugar.proofs.StepLemmas.{same_store, taken_apart, then_on}
-use Rattle.sp_desugar.proofs.TwinLemmas.{same_cells}
+use Rattle.sp_sugar.specs.Agreement.{HasMemories, View, IsAdded, Finds, Agree, GoOn}
+use Rattle.sp_sugar.specs.Combination.{operator_of, fold_ops, reduce_ops}
+use Rattle.sp_sugar.specs.Numbers.{is_off_dram, mem_number}
+use Rattle.sp_sugar.specs.Operations.{computes, read_op, write_op, literal_op, under}
+use Rattle.sp_sugar.specs.Values.{in_register}
+use Rattle.sp_sugar.proofs.GoOnLemmas.{keeps_front, at_end, agree_still, give_still, ops_append}
+use Rattle.sp_sugar.proofs.MemoryLemmas.{dimensionless, chip_kind, chip_dims, chip_holds, agree_held, core_reads, core_writes, reg_word}
+use Rattle.sp_sugar.proofs.StepLemmas.{same_store, taken_apart, then_on}
+use Rattle.sp_sugar.proofs.TwinLemmas.{same_cells}
 use Rattle.sp_same.proofs.Picks.{read_found}
 
 snoc : (xs : List PlainOp) (y : PlainOp) (zs : List PlainOp) → (xs ++ y ∷ []) ++ zs ≡ xs ++ y ∷ zs

@@ -26,16 +26,16 @@ use Rattle.sp_core.specs.Sequential.{run}
 use Rattle.sp_core.specs.Shape.{shape_of}
 use Rattle.sp_core.specs.Step as core_step
 use Rattle.sp_core.specs.Store as store
-use Rattle.sp_desugar.specs.Agreement.{HasMemories, View, Agree}
-use Rattle.sp_desugar.specs.Early.{is_early, bounds_of, counters_of}
-use Rattle.sp_desugar.specs.Numbers.{mem_number}
-use Rattle.sp_desugar.specs.Operations.{word_list}
-use Rattle.sp_desugar.specs.Registers.{registers_in, owned_registers}
-use Rattle.sp_desugar.specs.Runs.{no_run, inner_run}
-use Rattle.sp_desugar.specs.Stages.{nothing, style_of, stages, node}
-use Rattle.sp_desugar.specs.Uses.{no_more}
-use Rattle.sp_desugar.proofs.NumberLemmas.{either}
-use Rattle.sp_desugar.proofs.StepLemmas.{same_answer, same_store, taken_apart, then_on}
+use Rattle.sp_sugar.specs.Agreement.{HasMemories, View, Agree}
+use Rattle.sp_sugar.specs.Early.{is_early, bounds_of, counters_of}
+use Rattle.sp_sugar.specs.Numbers.{mem_number}
+use Rattle.sp_sugar.specs.Operations.{word_list}
+use Rattle.sp_sugar.specs.Registers.{registers_in, owned_registers}
+use Rattle.sp_sugar.specs.Runs.{no_run, inner_run}
+use Rattle.sp_sugar.specs.Stages.{nothing, style_of, stages, node}
+use Rattle.sp_sugar.specs.Uses.{no_more}
+use Rattle.sp_sugar.proofs.NumberLemmas.{either}
+use Rattle.sp_sugar.proofs.StepLemmas.{same_answer, same_store, taken_apart, then_on}
 use Rattle.sp_same.specs.Contents.{HoldRightly}
 use Rattle.sp_same.specs.Counts.{Count, taken, counts_in, counts_in_all, counts_of}
 use Rattle.sp_same.specs.Following.{SourcesSeen, AreReady, NodeGoes, BodyFollowedRightly, alone}

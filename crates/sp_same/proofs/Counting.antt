@@ -17,13 +17,13 @@ use Rattle.sp_core.specs.Scope as counters
 use Rattle.sp_core.specs.Scope.{Loop, InGroup, lane_step, is_live, in_group, count_word}
 use Rattle.sp_core.specs.Store as store
 use Rattle.sp_core.specs.Store.{changed}
-use Rattle.sp_desugar.specs.Agreement.{View, Finds, IsWaiting, Agree}
-use Rattle.sp_desugar.specs.Values.{Source, at_place, in_register, constant, count}
-use Rattle.sp_desugar.proofs.Entering.{same_mems, same_vals}
-use Rattle.sp_desugar.proofs.MemoryLemmas.{changed_here, changed_elsewhere}
-use Rattle.sp_desugar.proofs.NumberLemmas.{either}
-use Rattle.sp_desugar.proofs.RunKeeps.{in_back, in_map}
-use Rattle.sp_desugar.proofs.StepLemmas.{as_it_went}
+use Rattle.sp_sugar.specs.Agreement.{View, Finds, IsWaiting, Agree}
+use Rattle.sp_sugar.specs.Values.{Source, at_place, in_register, constant, count}
+use Rattle.sp_sugar.proofs.Entering.{same_mems, same_vals}
+use Rattle.sp_sugar.proofs.MemoryLemmas.{changed_here, changed_elsewhere}
+use Rattle.sp_sugar.proofs.NumberLemmas.{either}
+use Rattle.sp_sugar.proofs.RunKeeps.{in_back, in_map}
+use Rattle.sp_sugar.proofs.StepLemmas.{as_it_went}
 use Rattle.sp_same.specs.Following.{SourceSeen, SourcesSeen}
 use Rattle.sp_same.proofs.BoundsTaken.{IsLoop, IsLive}
 use Rattle.sp_same.proofs.Quietly.{Pairs}

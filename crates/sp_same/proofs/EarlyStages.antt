@@ -25,16 +25,16 @@ use Rattle.sp_core.specs.Shape.{shape_of, stage_shapes}
 use Rattle.sp_core.specs.Step as core_step
 use Rattle.sp_core.specs.Step.{went, pure}
 use Rattle.sp_core.specs.Store as store
-use Rattle.sp_desugar.specs.Agreement.{HasMemories, View, IsAdded, Agree, GoOn}
-use Rattle.sp_desugar.specs.Early.{is_early, is_early_slice, is_early_part, parts_of, registers_for, after, into_register, stage_of, bound_stages, slice_ops, slice_stage}
-use Rattle.sp_desugar.specs.Numbers.{crossing_register}
-use Rattle.sp_desugar.specs.Operations.{Code, write_op, code}
-use Rattle.sp_desugar.specs.Values.{Source, at_place, in_register, constant, count}
-use Rattle.sp_desugar.proofs.Follows.{follows}
-use Rattle.sp_desugar.proofs.GoOnLemmas.{agree_still, keeps_front, ops_append}
-use Rattle.sp_desugar.proofs.MemoryLemmas.{changed_here, changed_elsewhere, core_writes}
-use Rattle.sp_desugar.proofs.NumberLemmas.{either}
-use Rattle.sp_desugar.proofs.StepLemmas.{same_answer, then_on}
+use Rattle.sp_sugar.specs.Agreement.{HasMemories, View, IsAdded, Agree, GoOn}
+use Rattle.sp_sugar.specs.Early.{is_early, is_early_slice, is_early_part, parts_of, registers_for, after, into_register, stage_of, bound_stages, slice_ops, slice_stage}
+use Rattle.sp_sugar.specs.Numbers.{crossing_register}
+use Rattle.sp_sugar.specs.Operations.{Code, write_op, code}
+use Rattle.sp_sugar.specs.Values.{Source, at_place, in_register, constant, count}
+use Rattle.sp_sugar.proofs.Follows.{follows}
+use Rattle.sp_sugar.proofs.GoOnLemmas.{agree_still, keeps_front, ops_append}
+use Rattle.sp_sugar.proofs.MemoryLemmas.{changed_here, changed_elsewhere, core_writes}
+use Rattle.sp_sugar.proofs.NumberLemmas.{either}
+use Rattle.sp_sugar.proofs.StepLemmas.{same_answer, then_on}
 use Rattle.sp_same.specs.Counts.{counts_of, stage_counts}
 use Rattle.sp_same.specs.Following.{SourceBefore, AreSpare, AreReady, AreCells, EarlyGoes}
 use Rattle.sp_same.proofs.Groups.{inner_alone}

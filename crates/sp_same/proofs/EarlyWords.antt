@@ -15,9 +15,9 @@ use Rattle.sp_tree.specs.Transfers as slice
 use Rattle.sp_tree.specs.Typing.{HasTypeStill, BoundsTyped, SpansTyped, StmtTyped}
 use Rattle.sp_core.specs.PlainCore.{PlainCore}
 use Rattle.sp_core.specs.Store as store_of
-use Rattle.sp_desugar.specs.Agreement.{HasMemories, View, Agree}
-use Rattle.sp_desugar.specs.Early.{bounds_of, parts_of, is_early, registers_for, early_stages}
-use Rattle.sp_desugar.proofs.StepLemmas.{taken_apart}
+use Rattle.sp_sugar.specs.Agreement.{HasMemories, View, Agree}
+use Rattle.sp_sugar.specs.Early.{bounds_of, parts_of, is_early, registers_for, early_stages}
+use Rattle.sp_sugar.proofs.StepLemmas.{taken_apart}
 use Rattle.sp_same.specs.Following.{AreSpare, AreCells, EarlyGoes}
 use Rattle.sp_same.specs.Laws.{crosses_in, words_in}
 use Rattle.sp_same.proofs.EarlyStages.{HaveWords, AreStill, bounds_early, slice_early}

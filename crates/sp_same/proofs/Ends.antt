@@ -18,12 +18,12 @@ use Rattle.sp_core.specs.Meaning as core_meaning
 use Rattle.sp_core.specs.PlainCore as plain
 use Rattle.sp_core.specs.PlainCore.{PlainCore}
 use Rattle.sp_core.specs.Store as store
-use Rattle.sp_desugar.specs.Agreement.{HasMemories, place_of}
-use Rattle.sp_desugar.specs.Numbers.{is_off_dram, mem_number, dram_number, written_mems, numbers_from}
-use Rattle.sp_desugar.proofs.MemoryLemmas.{changed_here, changed_elsewhere, chip_place}
-use Rattle.sp_desugar.proofs.NodeParts.{dram_ports}
-use Rattle.sp_desugar.proofs.NumberLemmas.{either, number_kept, number_skipped, written_kept, written_skipped}
-use Rattle.sp_desugar.proofs.TwinLemmas.{same_words}
+use Rattle.sp_sugar.specs.Agreement.{HasMemories, place_of}
+use Rattle.sp_sugar.specs.Numbers.{is_off_dram, mem_number, dram_number, written_mems, numbers_from}
+use Rattle.sp_sugar.proofs.MemoryLemmas.{changed_here, changed_elsewhere, chip_place}
+use Rattle.sp_sugar.proofs.NodeParts.{dram_ports}
+use Rattle.sp_sugar.proofs.NumberLemmas.{either, number_kept, number_skipped, written_kept, written_skipped}
+use Rattle.sp_sugar.proofs.TwinLemmas.{same_words}
 use Rattle.sp_same.proofs.Lines.{below_from}
 use Rattle.sp_same.proofs.Places.{dram_kept, dram_skipped, place_of_dram, places_apart}
 use Rattle.sp_same.proofs.SliceTwins.{same_numbers_below}

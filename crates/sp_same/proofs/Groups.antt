@@ -9,8 +9,8 @@ use Rattle.sp_core.specs.Scope.{Loop, Scope, plainly, loops_of, counts_of, group
 use Rattle.sp_core.specs.Sequential.{renew, renew_in_body, end_of_group, bounds, run, run_stages}
 use Rattle.sp_core.specs.Step.{Step, went, pure, ◌>>=◌, ◌>>◌, in_order}
 use Rattle.sp_core.specs.Store.{Store}
-use Rattle.sp_desugar.proofs.NodeParts.{InLaneZero}
-use Rattle.sp_desugar.proofs.StepLemmas.{core_apart, then_on, same_core_answer, same_core_store}
+use Rattle.sp_sugar.proofs.NodeParts.{InLaneZero}
+use Rattle.sp_sugar.proofs.StepLemmas.{core_apart, then_on, same_core_answer, same_core_store}
 use Rattle.sp_same.proofs.BoundsTaken.{IsLive}
 use Rattle.sp_same.proofs.Values.{Fit}
 

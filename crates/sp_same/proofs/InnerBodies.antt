@@ -25,22 +25,22 @@ use Rattle.sp_core.specs.Sequential.{has_reset, renew_in_body, run}
 use Rattle.sp_core.specs.Shape.{shape_of}
 use Rattle.sp_core.specs.Step as core_step
 use Rattle.sp_core.specs.Store as store
-use Rattle.sp_desugar.specs.Agreement.{HasMemories, View, at_run, HaveRooms, Apart, Finds, Agree, GoOn}
-use Rattle.sp_desugar.specs.Numbers.{mem_number}
+use Rattle.sp_sugar.specs.Agreement.{HasMemories, View, at_run, HaveRooms, Apart, Finds, Agree, GoOn}
+use Rattle.sp_sugar.specs.Numbers.{mem_number}
 use Rattle.sp_core.specs.declared.operation.OpKind.TheVariants as kind
-use Rattle.sp_desugar.specs.Operations.{accesses}
-use Rattle.sp_desugar.specs.Registers.{owned_registers}
-use Rattle.sp_desugar.specs.Runs.{Run, no_run, with_named, with_computed, with_reset, with_stmt, inner_run, with_ops, source_or}
-use Rattle.sp_desugar.specs.Stages.{nothing, stages}
-use Rattle.sp_desugar.specs.Uses.{no_more}
-use Rattle.sp_desugar.specs.Values.{Source, at_place, in_register, constant, count, stands_for, with_value}
-use Rattle.sp_desugar.proofs.Entering.{fresh_apart}
-use Rattle.sp_desugar.proofs.GoOnLemmas.{at_rest}
-use Rattle.sp_desugar.proofs.InnerRuns.{runs_follow}
-use Rattle.sp_desugar.proofs.MemoryLemmas.{changed_elsewhere}
-use Rattle.sp_desugar.proofs.NumberLemmas.{either}
-use Rattle.sp_desugar.proofs.RunKeeps.{in_back}
-use Rattle.sp_desugar.proofs.StepLemmas.{then_on}
+use Rattle.sp_sugar.specs.Operations.{accesses}
+use Rattle.sp_sugar.specs.Registers.{owned_registers}
+use Rattle.sp_sugar.specs.Runs.{Run, no_run, with_named, with_computed, with_reset, with_stmt, inner_run, with_ops, source_or}
+use Rattle.sp_sugar.specs.Stages.{nothing, stages}
+use Rattle.sp_sugar.specs.Uses.{no_more}
+use Rattle.sp_sugar.specs.Values.{Source, at_place, in_register, constant, count, stands_for, with_value}
+use Rattle.sp_sugar.proofs.Entering.{fresh_apart}
+use Rattle.sp_sugar.proofs.GoOnLemmas.{at_rest}
+use Rattle.sp_sugar.proofs.InnerRuns.{runs_follow}
+use Rattle.sp_sugar.proofs.MemoryLemmas.{changed_elsewhere}
+use Rattle.sp_sugar.proofs.NumberLemmas.{either}
+use Rattle.sp_sugar.proofs.RunKeeps.{in_back}
+use Rattle.sp_sugar.proofs.StepLemmas.{then_on}
 use Rattle.sp_same.specs.Counts.{counts_in_all, counts_of}
 use Rattle.sp_same.specs.Following.{IsOwn, NodeGoes, BodyFollowed, alone}
 use Rattle.sp_same.proofs.Groups.{inner_alone}

@@ -7,7 +7,7 @@ use Rattle.sp_tree.specs.Elements as program
 use Rattle.sp_tree.specs.Transfers as program_slice
 use Rattle.sp_core.specs.Elements as core
 use Rattle.sp_core.specs.Shape.{ceil_div, lane_words, last_length, row_count}
-use Rattle.sp_desugar.proofs.NumberLemmas.{either}
+use Rattle.sp_sugar.proofs.NumberLemmas.{either}
 use Rattle.sp_same.proofs.SliceTwins.{same_numbers_below}
 
 length_map : {A B : Type 0} (f : A → B) (xs : List A) → length (map f xs) ≡ length xs

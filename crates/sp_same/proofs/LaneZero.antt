@@ -5,16 +5,16 @@ use Rattle.sp_tree.specs.PlainExpression.{PlainExpr, type_of}
 use Rattle.sp_tree.specs.PlainProgram.{PlainMem}
 use Rattle.sp_tree.specs.PlainStatement.{PlainSpan, PlainStmtKind, PlainStmts, stmt, declare, name, set_reg, set_out, set_sram, enq, load_sram, load_line, store, gather, scatter, foreach, reduce, mem_reduce, no_stmt, more_stmt}
 use Rattle.sp_core.specs.PlainCore.{PlainOp, PlainNode, PlainStages, no_stage, more_stage}
-use Rattle.sp_desugar.specs.Early.{bounds_of, is_early, is_early_slice, bound_stages, slice_stage, early_stages}
-use Rattle.sp_desugar.specs.Combination.{element_loop}
-use Rattle.sp_desugar.specs.Operations.{Code, alone, code, read_op, write_op}
+use Rattle.sp_sugar.specs.Early.{bounds_of, is_early, is_early_slice, bound_stages, slice_stage, early_stages}
+use Rattle.sp_sugar.specs.Combination.{element_loop}
+use Rattle.sp_sugar.specs.Operations.{Code, alone, code, read_op, write_op}
 use Rattle.sp_tree.specs.Expressions.{mem, dims}
-use Rattle.sp_desugar.specs.Registers.{beside, inside}
-use Rattle.sp_desugar.specs.Runs.{Run, no_run, next_code}
-use Rattle.sp_desugar.specs.Stages.{Combines, nothing, folds, reduces, reduces_elements, combination_stage, run_stage, last_stages, stages, node}
-use Rattle.sp_desugar.specs.Uses.{Ending, no_more, in_last_run, in_combination}
-use Rattle.sp_desugar.specs.Values.{Sources}
-use Rattle.sp_desugar.proofs.NodeParts.{InLaneZero}
+use Rattle.sp_sugar.specs.Registers.{beside, inside}
+use Rattle.sp_sugar.specs.Runs.{Run, no_run, next_code}
+use Rattle.sp_sugar.specs.Stages.{Combines, nothing, folds, reduces, reduces_elements, combination_stage, run_stage, last_stages, stages, node}
+use Rattle.sp_sugar.specs.Uses.{Ending, no_more, in_last_run, in_combination}
+use Rattle.sp_sugar.specs.Values.{Sources}
+use Rattle.sp_sugar.proofs.NodeParts.{InLaneZero}
 
 of_run : (ops : List PlainOp) (rest : PlainStages) → InLaneZero rest → InLaneZero (run_stage ops rest)
 of_run [] rest z = z

@@ -23,11 +23,11 @@ use Rattle.sp_core.specs.PlainCore.{PlainCore}
 use Rattle.sp_core.specs.Step as core_step
 use Rattle.sp_core.specs.Store as store
 use Rattle.sp_core.specs.Transfers as core_slice
-use Rattle.sp_desugar.specs.Agreement.{HasMemories, View, Agree}
-use Rattle.sp_desugar.specs.Numbers.{is_off_dram, mem_number, dram_number, numbers_from}
-use Rattle.sp_desugar.proofs.MemoryLemmas.{changed_here, changed_elsewhere, chip_exists, chip_kind, chip_dims, chip_holds, chip_place}
-use Rattle.sp_desugar.proofs.StepLemmas.{as_it_went, same_answer, same_store, taken_apart, then_on, turn_taken}
-use Rattle.sp_desugar.proofs.TwinLemmas.{same_rows}
+use Rattle.sp_sugar.specs.Agreement.{HasMemories, View, Agree}
+use Rattle.sp_sugar.specs.Numbers.{is_off_dram, mem_number, dram_number, numbers_from}
+use Rattle.sp_sugar.proofs.MemoryLemmas.{changed_here, changed_elsewhere, chip_exists, chip_kind, chip_dims, chip_holds, chip_place}
+use Rattle.sp_sugar.proofs.StepLemmas.{as_it_went, same_answer, same_store, taken_apart, then_on, turn_taken}
+use Rattle.sp_sugar.proofs.TwinLemmas.{same_rows}
 use Rattle.sp_same.proofs.MoveLemmas.{reads_in, writes_in, dram_word}
 use Rattle.sp_same.proofs.Places.{place_of_dram, dram_is, dram_dims, agree_changed}
 use Rattle.sp_same.proofs.SliceTwins.{as_core, same_places_of, same_offsets}

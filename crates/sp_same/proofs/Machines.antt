@@ -26,14 +26,14 @@ use Rattle.sp_core.specs.Shape.{shape_of, body_shapes}
 use Rattle.sp_core.specs.Step as core_step
 use Rattle.sp_core.specs.Store as store
 use Rattle.sp_core.specs.Store.{changed}
-use Rattle.sp_desugar.specs.Agreement.{HasMemories, View, IsAdded, Finds, Agree}
-use Rattle.sp_desugar.specs.Operations.{word_list}
-use Rattle.sp_desugar.specs.Stages.{node}
-use Rattle.sp_desugar.specs.Values.{in_register, Sources, with_state}
-use Rattle.sp_desugar.proofs.Entering.{fresh_apart}
-use Rattle.sp_desugar.proofs.MemoryLemmas.{changed_here, changed_elsewhere}
-use Rattle.sp_desugar.proofs.NumberLemmas.{either}
-use Rattle.sp_desugar.proofs.StepLemmas.{as_it_went, not_more, same_answer, same_store, taken_apart, then_on}
+use Rattle.sp_sugar.specs.Agreement.{HasMemories, View, IsAdded, Finds, Agree}
+use Rattle.sp_sugar.specs.Operations.{word_list}
+use Rattle.sp_sugar.specs.Stages.{node}
+use Rattle.sp_sugar.specs.Values.{in_register, Sources, with_state}
+use Rattle.sp_sugar.proofs.Entering.{fresh_apart}
+use Rattle.sp_sugar.proofs.MemoryLemmas.{changed_here, changed_elsewhere}
+use Rattle.sp_sugar.proofs.NumberLemmas.{either}
+use Rattle.sp_sugar.proofs.StepLemmas.{as_it_went, not_more, same_answer, same_store, taken_apart, then_on}
 use Rattle.sp_same.specs.Contents.{HoldRightly}
 use Rattle.sp_same.specs.Counts.{turns, counts_in, counts_in_all, counts_of, body_counts, turn_count}
 use Rattle.sp_same.specs.Following.{AreSpare, NodeGoes, BodyFollowedRightly, alone}

@@ -12,8 +12,8 @@ use Rattle.sp_core.specs.Elements.{row_major}
 use Rattle.sp_core.specs.PlainCore.{PlainCore}
 use Rattle.sp_core.specs.Step as core_step
 use Rattle.sp_core.specs.Store as store
-use Rattle.sp_desugar.proofs.StepLemmas.{same_store, taken_apart, then_on}
-use Rattle.sp_desugar.proofs.TwinLemmas.{same_cells, same_words, same_place}
+use Rattle.sp_sugar.proofs.StepLemmas.{same_store, taken_apart, then_on}
+use Rattle.sp_sugar.proofs.TwinLemmas.{same_cells, same_words, same_place}
 
 -- steps for each element, where each goes on and keeps what holds of both stores
 module _ {X A B : Type 0} (f : X → program.Step A) (g : X → core_step.Step B) (I : program_store.Store → store.Store → Type 0)

@@ -18,11 +18,11 @@ use Rattle.sp_core.specs.PlainCore.{PlainCore}
 use Rattle.sp_core.specs.Step as core_step
 use Rattle.sp_core.specs.Store as store
 use Rattle.sp_core.specs.Transfers as core_slice
-use Rattle.sp_desugar.specs.Agreement.{HasMemories, View, place_of, Agree}
-use Rattle.sp_desugar.specs.Numbers.{is_off_dram, mem_number, dram_number}
-use Rattle.sp_desugar.proofs.MemoryLemmas.{chip_kind, chip_dims, chip_holds, chip_place, sram_word, word_found}
-use Rattle.sp_desugar.proofs.StepLemmas.{same_answer, same_store, taken_apart, then_on, turn_taken}
-use Rattle.sp_desugar.proofs.TwinLemmas.{same_place}
+use Rattle.sp_sugar.specs.Agreement.{HasMemories, View, place_of, Agree}
+use Rattle.sp_sugar.specs.Numbers.{is_off_dram, mem_number, dram_number}
+use Rattle.sp_sugar.proofs.MemoryLemmas.{chip_kind, chip_dims, chip_holds, chip_place, sram_word, word_found}
+use Rattle.sp_sugar.proofs.StepLemmas.{same_answer, same_store, taken_apart, then_on, turn_taken}
+use Rattle.sp_sugar.proofs.TwinLemmas.{same_place}
 use Rattle.sp_same.proofs.MoveLemmas.{each_follows, reads_in, writes_in, dram_word, dram_with, sram_with}
 use Rattle.sp_same.proofs.Places.{place_of_dram, dram_is, dram_dims, agree_at}
 use Rattle.sp_same.proofs.SliceTwins.{as_core, same_places_of, same_offsets}

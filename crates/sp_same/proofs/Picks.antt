@@ -21,11 +21,11 @@ use Rattle.sp_core.specs.PlainCore.{PlainCore}
 use Rattle.sp_core.specs.Step as core_step
 use Rattle.sp_core.specs.Store as store
 use Rattle.sp_core.specs.Transfers as core_slice
-use Rattle.sp_desugar.specs.Agreement.{HasMemories, View}
-use Rattle.sp_desugar.specs.Numbers.{mem_number, dram_number}
-use Rattle.sp_desugar.proofs.MemoryLemmas.{sram_word, word_found, passed}
-use Rattle.sp_desugar.proofs.StepLemmas.{same_answer, same_store, taken_apart, then_on, turn_taken}
-use Rattle.sp_desugar.proofs.TwinLemmas.{same_natural, same_place}
+use Rattle.sp_sugar.specs.Agreement.{HasMemories, View}
+use Rattle.sp_sugar.specs.Numbers.{mem_number, dram_number}
+use Rattle.sp_sugar.proofs.MemoryLemmas.{sram_word, word_found, passed}
+use Rattle.sp_sugar.proofs.StepLemmas.{same_answer, same_store, taken_apart, then_on, turn_taken}
+use Rattle.sp_sugar.proofs.TwinLemmas.{same_natural, same_place}
 use Rattle.sp_same.proofs.MoveLemmas.{reads_in, writes_in, dram_word, dram_with, sram_with}
 use Rattle.sp_same.proofs.Moves.{Moving, sram_kind, sram_dims, sram_held, dram_has, dram_held, moved_in, moved_out}
 use Rattle.sp_same.proofs.Places.{dram_is}

@@ -16,12 +16,12 @@ use Rattle.sp_core.specs.History.{Entry}
 use Rattle.sp_core.specs.PlainCore as plain
 use Rattle.sp_core.specs.PlainCore.{PlainCore}
 use Rattle.sp_core.specs.Store as store
-use Rattle.sp_desugar.specs.Agreement.{HasMemories, View, place_of, IsAdded, Finds, IsWaiting, Agree}
-use Rattle.sp_desugar.specs.Numbers.{is_on_dram, mem_number, dram_number}
-use Rattle.sp_desugar.specs.Values.{Source, at_place, in_register, constant, count}
-use Rattle.sp_desugar.proofs.MemoryLemmas.{changed_here, changed_elsewhere, chip_exists, chip_place, place_apart}
-use Rattle.sp_desugar.proofs.NodeParts.{dram_at}
-use Rattle.sp_desugar.proofs.NumberLemmas.{either, number_below}
+use Rattle.sp_sugar.specs.Agreement.{HasMemories, View, place_of, IsAdded, Finds, IsWaiting, Agree}
+use Rattle.sp_sugar.specs.Numbers.{is_on_dram, mem_number, dram_number}
+use Rattle.sp_sugar.specs.Values.{Source, at_place, in_register, constant, count}
+use Rattle.sp_sugar.proofs.MemoryLemmas.{changed_here, changed_elsewhere, chip_exists, chip_place, place_apart}
+use Rattle.sp_sugar.proofs.NodeParts.{dram_at}
+use Rattle.sp_sugar.proofs.NumberLemmas.{either, number_below}
 
 dram_cons : (x : PlainMem) (xs : List PlainMem) (m : ℕ) → dram_number (x ∷ xs) (suc m) ≡ cond (is_on_dram x) 1 0 + dram_number xs m
 dram_cons x xs m = sum_by-cons (λ y. cond (is_on_dram y) 1 0) x (take m xs)

@@ -4,7 +4,7 @@ use Rattle.sp_tree.specs.Step as program
 use Rattle.sp_tree.specs.Store as program_store
 use Rattle.sp_core.specs.Step as core
 use Rattle.sp_core.specs.Store as core_store
-use Rattle.sp_desugar.proofs.StepLemmas.{same_answer, taken_apart, then_on}
+use Rattle.sp_sugar.proofs.StepLemmas.{same_answer, taken_apart, then_on}
 use Rattle.sp_same.proofs.StillWords.{unchanged}
 
 -- pairs of elements of two lists that belong together

@@ -33,21 +33,21 @@ use Rattle.sp_core.specs.Sequential.{bounds, renew_in_body, run}
 use Rattle.sp_core.specs.Shape.{shape_of}
 use Rattle.sp_core.specs.Step as core_step
 use Rattle.sp_core.specs.Store as store
-use Rattle.sp_desugar.specs.Agreement.{HasMemories, View, HaveRooms, Apart, IsAdded, Finds, Agree, GoOn}
-use Rattle.sp_desugar.specs.Combination.{operator_of, fold_ops, reduce_ops}
-use Rattle.sp_desugar.specs.Early.{is_early, registers_for, counters_of, bounds_of}
-use Rattle.sp_desugar.specs.Numbers.{mem_number}
-use Rattle.sp_desugar.specs.Operations.{Code, read_op, under}
-use Rattle.sp_desugar.specs.Runs.{Run, no_run, next_code, inner_run}
-use Rattle.sp_desugar.specs.Registers.{ending_of}
-use Rattle.sp_desugar.specs.Stages.{Combines, folds, reduces, combines, outer_node, body_node, stages, node}
-use Rattle.sp_desugar.specs.Values.{in_register, Sources}
-use Rattle.sp_desugar.proofs.Entering.{same_mems, same_vals}
-use Rattle.sp_desugar.proofs.Follows.{follows}
-use Rattle.sp_desugar.proofs.GoOnLemmas.{then_others}
-use Rattle.sp_desugar.proofs.MemoryLemmas.{changed_here}
-use Rattle.sp_desugar.proofs.NumberLemmas.{either}
-use Rattle.sp_desugar.proofs.StepLemmas.{same_answer, same_store, taken_apart, then_on}
+use Rattle.sp_sugar.specs.Agreement.{HasMemories, View, HaveRooms, Apart, IsAdded, Finds, Agree, GoOn}
+use Rattle.sp_sugar.specs.Combination.{operator_of, fold_ops, reduce_ops}
+use Rattle.sp_sugar.specs.Early.{is_early, registers_for, counters_of, bounds_of}
+use Rattle.sp_sugar.specs.Numbers.{mem_number}
+use Rattle.sp_sugar.specs.Operations.{Code, read_op, under}
+use Rattle.sp_sugar.specs.Runs.{Run, no_run, next_code, inner_run}
+use Rattle.sp_sugar.specs.Registers.{ending_of}
+use Rattle.sp_sugar.specs.Stages.{Combines, folds, reduces, combines, outer_node, body_node, stages, node}
+use Rattle.sp_sugar.specs.Values.{in_register, Sources}
+use Rattle.sp_sugar.proofs.Entering.{same_mems, same_vals}
+use Rattle.sp_sugar.proofs.Follows.{follows}
+use Rattle.sp_sugar.proofs.GoOnLemmas.{then_others}
+use Rattle.sp_sugar.proofs.MemoryLemmas.{changed_here}
+use Rattle.sp_sugar.proofs.NumberLemmas.{either}
+use Rattle.sp_sugar.proofs.StepLemmas.{same_answer, same_store, taken_apart, then_on}
 use Rattle.sp_same.specs.Counts.{loop, counts_in, counts_in_all, counts_of as node_counts}
 use Rattle.sp_same.specs.Following.{SourcesSeen, AreSpare, IsOwn, AreReady, NodeGoes}
 use Rattle.sp_same.proofs.BoundsTaken.{IsLoop, core_loops, AreLoops, are_loops, SameValues, iterations, bounds_taken}

@@ -9,12 +9,12 @@ use Rattle.sp_tree.specs.Typing.{IsFreshVal, with_val}
 use Rattle.sp_core.specs.History.{Entry}
 use Rattle.sp_core.specs.PlainCore.{PlainCore}
 use Rattle.sp_core.specs.Store as store
-use Rattle.sp_desugar.specs.Agreement.{HasMemories, View, IsAdded, Finds, IsWaiting, Agree}
-use Rattle.sp_desugar.specs.Numbers.{mem_number}
-use Rattle.sp_desugar.specs.Values.{Source, at_place, in_register, constant, count, Sources}
-use Rattle.sp_desugar.proofs.Entering.{fresh_apart}
-use Rattle.sp_desugar.proofs.MemoryLemmas.{changed_here, changed_elsewhere}
-use Rattle.sp_desugar.proofs.NumberLemmas.{number_below}
+use Rattle.sp_sugar.specs.Agreement.{HasMemories, View, IsAdded, Finds, IsWaiting, Agree}
+use Rattle.sp_sugar.specs.Numbers.{mem_number}
+use Rattle.sp_sugar.specs.Values.{Source, at_place, in_register, constant, count, Sources}
+use Rattle.sp_sugar.proofs.Entering.{fresh_apart}
+use Rattle.sp_sugar.proofs.MemoryLemmas.{changed_here, changed_elsewhere}
+use Rattle.sp_sugar.proofs.NumberLemmas.{number_below}
 use Rattle.sp_same.specs.Following.{SourceBefore, AreSpare}
 use Rattle.sp_same.proofs.Places.{register_apart}
 

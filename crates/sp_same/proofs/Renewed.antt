@@ -13,13 +13,13 @@ use Rattle.sp_core.specs.Scope.{plainly}
 use Rattle.sp_core.specs.Sequential.{has_reset, renew, renew_in_body}
 use Rattle.sp_core.specs.Step.{Step, went, pure, change, in_order, ◌>>=◌}
 use Rattle.sp_core.specs.Store as store
-use Rattle.sp_desugar.specs.Agreement.{HasMemories, View, place_of, Finds, IsWaiting, Apart, Agree}
-use Rattle.sp_desugar.specs.Numbers.{mem_number}
-use Rattle.sp_desugar.specs.Values.{Source, at_place, in_register, constant, count}
-use Rattle.sp_desugar.proofs.MemoryLemmas.{changed_here, changed_elsewhere, chip_mem, place_apart}
-use Rattle.sp_desugar.proofs.NumberLemmas.{either, number_below, numbers_apart}
-use Rattle.sp_desugar.proofs.RunKeeps.{in_front, in_back}
-use Rattle.sp_desugar.proofs.StepLemmas.{then_on}
+use Rattle.sp_sugar.specs.Agreement.{HasMemories, View, place_of, Finds, IsWaiting, Apart, Agree}
+use Rattle.sp_sugar.specs.Numbers.{mem_number}
+use Rattle.sp_sugar.specs.Values.{Source, at_place, in_register, constant, count}
+use Rattle.sp_sugar.proofs.MemoryLemmas.{changed_here, changed_elsewhere, chip_mem, place_apart}
+use Rattle.sp_sugar.proofs.NumberLemmas.{either, number_below, numbers_apart}
+use Rattle.sp_sugar.proofs.RunKeeps.{in_front, in_back}
+use Rattle.sp_sugar.proofs.StepLemmas.{then_on}
 use Rattle.sp_same.specs.Following.{IsOwn}
 
 pub in_either : {X P : Type 0} (xs ys : List X) (x : X) → Contains (xs ++ ys) x → (Contains xs x → P) → (Contains ys x → P) → P

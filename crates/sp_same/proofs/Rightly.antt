@@ -24,10 +24,10 @@ use Rattle.sp_tree.specs.Store.{Store, hold, rows_of}
 use Rattle.sp_tree.specs.Streams.{fifos_with_room}
 use Rattle.sp_tree.specs.Transfers.{Part, lengths, has_none, row_of, places_of, all_offsets, load_row, transfer, place_held}
 use Rattle.sp_tree.specs.Typing.{Scope, with_val, with_counters, Typed, KindTyped, IndicesTyped, SpansTyped, BoundsTyped, StmtTyped, BodyTyped, after as scope_after, after_all}
-use Rattle.sp_desugar.proofs.Entering.{same_mems}
-use Rattle.sp_desugar.proofs.MemoryLemmas.{changed_here, changed_elsewhere}
-use Rattle.sp_desugar.proofs.NumberLemmas.{either}
-use Rattle.sp_desugar.proofs.StepLemmas.{not_faulted, not_more, taken_apart, same_answer, same_store, turn_taken}
+use Rattle.sp_sugar.proofs.Entering.{same_mems}
+use Rattle.sp_sugar.proofs.MemoryLemmas.{changed_here, changed_elsewhere}
+use Rattle.sp_sugar.proofs.NumberLemmas.{either}
+use Rattle.sp_sugar.proofs.StepLemmas.{not_faulted, not_more, taken_apart, same_answer, same_store, turn_taken}
 use Rattle.sp_same.specs.Contents.{IsContents, HoldRightly}
 use Rattle.sp_same.proofs.InnerBodies.{after_mems}
 

@@ -29,11 +29,11 @@ use Rattle.sp_core.specs.Step as core_step
 use Rattle.sp_core.specs.Store as store
 use Rattle.sp_core.specs.Transfers as core_slice
 use Rattle.sp_core.specs.Transfers.{part_of}
-use Rattle.sp_desugar.specs.Agreement.{HasMemories, View, Agree}
-use Rattle.sp_desugar.specs.Early.{is_early_part, spans_of, parts_of}
-use Rattle.sp_desugar.specs.Numbers.{mem_number, dram_number}
-use Rattle.sp_desugar.specs.Stages.{node}
-use Rattle.sp_desugar.proofs.StepLemmas.{same_answer, same_store, taken_apart, then_on}
+use Rattle.sp_sugar.specs.Agreement.{HasMemories, View, Agree}
+use Rattle.sp_sugar.specs.Early.{is_early_part, spans_of, parts_of}
+use Rattle.sp_sugar.specs.Numbers.{mem_number, dram_number}
+use Rattle.sp_sugar.specs.Stages.{node}
+use Rattle.sp_sugar.proofs.StepLemmas.{same_answer, same_store, taken_apart, then_on}
 use Rattle.sp_same.specs.Counts.{Count, words, counts_in, counts_in_all, counts_of}
 use Rattle.sp_same.specs.Following.{AreReady, NodeGoes}
 use Rattle.sp_same.proofs.LaneCounts.{lanes_same}

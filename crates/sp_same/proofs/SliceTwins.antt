@@ -5,7 +5,7 @@ use Rattle.sp_tree.specs.Elements as program_elements
 use Rattle.sp_tree.specs.Transfers as program
 use Rattle.sp_core.specs.Elements as core_elements
 use Rattle.sp_core.specs.Transfers as core
-use Rattle.sp_desugar.proofs.TwinLemmas.{same_natural}
+use Rattle.sp_sugar.proofs.TwinLemmas.{same_natural}
 
 abbrev pub as_core : program.Part → core.Part
 as_core (program.index i) = core.index i

@@ -21,11 +21,11 @@ use Rattle.sp_core.specs.Step as core_step
 use Rattle.sp_core.specs.Store as store
 use Rattle.sp_core.specs.Transfers as core_slice
 use Rattle.sp_core.specs.Transfers.{part_of}
-use Rattle.sp_desugar.specs.Agreement.{HasMemories, View, Agree}
-use Rattle.sp_desugar.specs.Numbers.{dram_number}
-use Rattle.sp_desugar.proofs.MemoryLemmas.{passed}
-use Rattle.sp_desugar.proofs.NumberLemmas.{either}
-use Rattle.sp_desugar.proofs.StepLemmas.{same_answer, same_store, taken_apart, then_on}
+use Rattle.sp_sugar.specs.Agreement.{HasMemories, View, Agree}
+use Rattle.sp_sugar.specs.Numbers.{dram_number}
+use Rattle.sp_sugar.proofs.MemoryLemmas.{passed}
+use Rattle.sp_sugar.proofs.NumberLemmas.{either}
+use Rattle.sp_sugar.proofs.StepLemmas.{same_answer, same_store, taken_apart, then_on}
 use Rattle.sp_same.proofs.LaneCounts.{one_lane, no_words}
 use Rattle.sp_same.proofs.Moves.{Moving}
 use Rattle.sp_same.proofs.SliceTwins.{as_core, same_lengths, same_none, same_parts_inside, same_fit}

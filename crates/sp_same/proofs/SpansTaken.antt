@@ -22,9 +22,9 @@ use Rattle.sp_core.specs.Step as core_step
 use Rattle.sp_core.specs.Store as store
 use Rattle.sp_core.specs.Transfers as slice
 use Rattle.sp_core.specs.Transfers.{part_of}
-use Rattle.sp_desugar.specs.Agreement.{HasMemories, View, Agree}
-use Rattle.sp_desugar.specs.Early.{after, from_register, spans_from, parts_of}
-use Rattle.sp_desugar.proofs.StepLemmas.{same_answer, taken_apart, then_on}
+use Rattle.sp_sugar.specs.Agreement.{HasMemories, View, Agree}
+use Rattle.sp_sugar.specs.Early.{after, from_register, spans_from, parts_of}
+use Rattle.sp_sugar.proofs.StepLemmas.{same_answer, taken_apart, then_on}
 use Rattle.sp_same.specs.Following.{AreReady}
 use Rattle.sp_same.proofs.Quietly.{Pairs, Triples, Quietly, quiet_order}
 use Rattle.sp_same.proofs.SliceTwins.{as_core}

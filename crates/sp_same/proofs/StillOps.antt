@@ -19,9 +19,9 @@ use Rattle.sp_core.specs.PlainCore.{PlainOp, PlainCore}
 use Rattle.sp_core.specs.Scope as counters
 use Rattle.sp_core.specs.Step.{Step, went, pure, ◌>>=◌, ensure, stop, look}
 use Rattle.sp_core.specs.Store.{Store}
-use Rattle.sp_desugar.specs.Operations.{Code, source_code, code, code_of, codes}
-use Rattle.sp_desugar.specs.Values.{Source, at_place, in_register, constant, count, Sources}
-use Rattle.sp_desugar.proofs.StepLemmas.{core_apart, same_core_store, not_stopped}
+use Rattle.sp_sugar.specs.Operations.{Code, source_code, code, code_of, codes}
+use Rattle.sp_sugar.specs.Values.{Source, at_place, in_register, constant, count, Sources}
+use Rattle.sp_sugar.proofs.StepLemmas.{core_apart, same_core_store, not_stopped}
 use Rattle.sp_same.proofs.StillWords.{is_no_fifo}
 
 abbrev pub ChangesNothing : OpKind → Type 0

@@ -16,8 +16,8 @@ use Rattle.sp_tree.specs.Step.{went, ◌>>=◌, ◌>>◌, pure, ensure, read}
 use Rattle.sp_tree.specs.Store.{Store, cells_of, rows_of, words_of}
 use Rattle.sp_tree.specs.Streams.{is_fifo}
 use Rattle.sp_tree.specs.Typing.{Scope, mem_at, Typed, KindTyped, IndicesTyped}
-use Rattle.sp_desugar.proofs.MemoryLemmas.{word_found, passed, element_found}
-use Rattle.sp_desugar.proofs.StepLemmas.{same_left, same_store, taken_apart}
+use Rattle.sp_sugar.proofs.MemoryLemmas.{word_found, passed, element_found}
+use Rattle.sp_sugar.proofs.StepLemmas.{same_left, same_store, taken_apart}
 
 abbrev Same : (left rest : ℕ) (s after : Store) → Type 0
 Same left rest s after = (rest ≡ left) × (after ≡ s)

@@ -11,7 +11,7 @@ use Rattle.sp_core.specs.Store as store
 use Rattle.sp_tree.proofs.Closure.{run_kind_Q, run_all_Q}
 use Rattle.sp_tree.proofs.Everything.{any_stmt_kind, any_body}
 use Rattle.sp_tree.proofs.Timed.{TimedAt, IsTimed, timed_closed, timed_loops}
-use Rattle.sp_desugar.proofs.StepLemmas.{as_it_went, not_more, taken_apart, then_on}
+use Rattle.sp_sugar.proofs.StepLemmas.{as_it_went, not_more, taken_apart, then_on}
 use Rattle.sp_same.proofs.Quietly.{Pairs}
 
 fall : {A : Type 0} (step : program.Step A) → IsTimed A step → (left rest : ℕ) (s after : program_store.Store) (a : A) → step left s ≡ program.went a rest after → rest ≤ left

@@ -8,8 +8,8 @@ use Rattle.sp_words.specs.Types.{int_type}
 use Rattle.sp_words.specs.Words.{wrap}
 use Rattle.sp_tree.specs.Elements as program
 use Rattle.sp_core.specs.Elements as core
-use Rattle.sp_desugar.proofs.NumberLemmas.{either}
-use Rattle.sp_desugar.proofs.TwinLemmas.{same_natural}
+use Rattle.sp_sugar.proofs.NumberLemmas.{either}
+use Rattle.sp_sugar.proofs.TwinLemmas.{same_natural}
 use Rattle.sp_same.proofs.SliceTwins.{same_numbers_below}
 
 -- each element of a list

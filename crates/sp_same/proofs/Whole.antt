@@ -12,12 +12,12 @@ use Rattle.sp_core.specs.History.{Entry}
 use Rattle.sp_core.specs.Meaning as core_meaning
 use Rattle.sp_core.specs.PlainCore as plain
 use Rattle.sp_core.specs.Store as store
-use Rattle.sp_desugar.specs.Agreement.{HasMemories, View, Agree}
-use Rattle.sp_desugar.specs.Core.{core_of}
-use Rattle.sp_desugar.specs.Registers.{registers_in}
-use Rattle.sp_desugar.specs.Uses.{no_more}
-use Rattle.sp_desugar.proofs.Registered.{are_registers_in}
-use Rattle.sp_desugar.proofs.RunKeeps.{in_front, in_back}
+use Rattle.sp_sugar.specs.Agreement.{HasMemories, View, Agree}
+use Rattle.sp_sugar.specs.Core.{core_of}
+use Rattle.sp_sugar.specs.Registers.{registers_in}
+use Rattle.sp_sugar.specs.Uses.{no_more}
+use Rattle.sp_sugar.proofs.Registered.{are_registers_in}
+use Rattle.sp_sugar.proofs.RunKeeps.{in_front, in_back}
 use Rattle.sp_same.specs.Following.{first_view}
 use Rattle.sp_same.proofs.Ends.{numbers_bound, first_alike, outs_same, drams_same}
 

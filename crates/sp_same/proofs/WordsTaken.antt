@@ -17,15 +17,15 @@ use Rattle.sp_core.specs.Operations.{operations}
 use Rattle.sp_core.specs.PlainCore.{PlainOp, PlainCore}
 use Rattle.sp_core.specs.Step.{went}
 use Rattle.sp_core.specs.Store as store
-use Rattle.sp_desugar.specs.Agreement.{HasMemories, View, Finds, Agree, GoOn}
-use Rattle.sp_desugar.specs.Early.{from_register}
-use Rattle.sp_desugar.specs.Numbers.{mem_number}
-use Rattle.sp_desugar.specs.Operations.{Code, Codes, computes, read_op, source_code, code, code_of, codes, word_list}
-use Rattle.sp_desugar.specs.Values.{Source, at_place, in_register, constant, count}
-use Rattle.sp_desugar.proofs.Follows.{follows}
-use Rattle.sp_desugar.proofs.GoOnLemmas.{alone_on}
-use Rattle.sp_desugar.proofs.MemoryLemmas.{core_reads, reg_word}
-use Rattle.sp_desugar.proofs.NumberLemmas.{either}
+use Rattle.sp_sugar.specs.Agreement.{HasMemories, View, Finds, Agree, GoOn}
+use Rattle.sp_sugar.specs.Early.{from_register}
+use Rattle.sp_sugar.specs.Numbers.{mem_number}
+use Rattle.sp_sugar.specs.Operations.{Code, Codes, computes, read_op, source_code, code, code_of, codes, word_list}
+use Rattle.sp_sugar.specs.Values.{Source, at_place, in_register, constant, count}
+use Rattle.sp_sugar.proofs.Follows.{follows}
+use Rattle.sp_sugar.proofs.GoOnLemmas.{alone_on}
+use Rattle.sp_sugar.proofs.MemoryLemmas.{core_reads, reg_word}
+use Rattle.sp_sugar.proofs.NumberLemmas.{either}
 use Rattle.sp_same.specs.Following.{HoldsWord}
 use Rattle.sp_same.proofs.StillWords.{is_no_fifo, word_still}
 use Rattle.sp_same.proofs.StillOps.{AllStill, ops_still, code_still}

@@ -21,13 +21,13 @@ use Rattle.sp_core.specs.Sequential.{run, run_stages}
 use Rattle.sp_core.specs.Shape.{shape_of, stage_shapes}
 use Rattle.sp_core.specs.Step.{went}
 use Rattle.sp_core.specs.Store as store
-use Rattle.sp_desugar.specs.Agreement.{View, IsAdded, Agree}
-use Rattle.sp_desugar.specs.Early.{after}
-use Rattle.sp_desugar.specs.Numbers.{is_off_dram}
-use Rattle.sp_desugar.specs.Runs.{no_run}
-use Rattle.sp_desugar.specs.Stages.{nothing, body_node, stages}
-use Rattle.sp_desugar.specs.Uses.{no_more}
-use Rattle.sp_desugar.specs.Values.{Source, in_register, count, Sources, no_sources}
+use Rattle.sp_sugar.specs.Agreement.{View, IsAdded, Agree}
+use Rattle.sp_sugar.specs.Early.{after}
+use Rattle.sp_sugar.specs.Numbers.{is_off_dram}
+use Rattle.sp_sugar.specs.Runs.{no_run}
+use Rattle.sp_sugar.specs.Stages.{nothing, body_node, stages}
+use Rattle.sp_sugar.specs.Uses.{no_more}
+use Rattle.sp_sugar.specs.Values.{Source, in_register, count, Sources, no_sources}
 use Rattle.sp_same.specs.Contents.{HoldRightly}
 use Rattle.sp_same.specs.Counts.{counts_in_all, counts_of, stage_counts}
 

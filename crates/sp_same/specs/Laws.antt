@@ -24,13 +24,13 @@ use Rattle.sp_core.specs.Meaning as core_meaning
 use Rattle.sp_core.specs.PlainCore.{PlainCore}
 use Rattle.sp_core.specs.Scope as counters
 use Rattle.sp_core.specs.Store as store
-use Rattle.sp_desugar.specs.Agreement.{HasMemories, View, HaveRooms, Apart, IsAdded, Agree}
-use Rattle.sp_desugar.specs.Core.{core_of}
-use Rattle.sp_desugar.specs.Early.{is_early, is_early_part, registers_for, bounds_of, parts_of, early_stages}
-use Rattle.sp_desugar.specs.Registers.{registers_in}
-use Rattle.sp_desugar.specs.Stages.{style_of, node}
-use Rattle.sp_desugar.specs.Uses.{no_more}
-use Rattle.sp_desugar.specs.Values.{Sources, with_state}
+use Rattle.sp_sugar.specs.Agreement.{HasMemories, View, HaveRooms, Apart, IsAdded, Agree}
+use Rattle.sp_sugar.specs.Core.{core_of}
+use Rattle.sp_sugar.specs.Early.{is_early, is_early_part, registers_for, bounds_of, parts_of, early_stages}
+use Rattle.sp_sugar.specs.Registers.{registers_in}
+use Rattle.sp_sugar.specs.Stages.{style_of, node}
+use Rattle.sp_sugar.specs.Uses.{no_more}
+use Rattle.sp_sugar.specs.Values.{Sources, with_state}
 use Rattle.sp_same.specs.Contents.{HoldRightly}
 use Rattle.sp_same.specs.Following.{SourcesSeen, AreSpare, HoldsWord, AreReady, AreCells, EarlyGoes, NodeGoes, IsOwn, BodyFollowed, BodyFollowedRightly, alone, first_view}
 

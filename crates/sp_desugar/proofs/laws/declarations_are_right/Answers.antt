@@ -1,6 +1,0 @@
-use Rattle.sp_desugar.proofs.laws.declarations_are_right.Goals as goal
-use Rattle.sp_desugar.proofs.Declared.{memories_right}
-use Rattle.sp_desugar.proofs.PortNames.{ports_right}
-
-pub returns : goal.returns
-returns c p h = (memories_right p h, ports_right p h)
