@@ -12,3 +12,9 @@ pub mod SoFar
 pub mod ElementOps
 pub mod AccElements
 pub mod ElementGoes
+pub mod ElementView
+pub mod ElementSteps
+pub mod ElementPairs
+pub mod ElementGroups
+pub mod ElementNode
+pub mod ElementStages

@@ -21,9 +21,9 @@ use Rattle.sp_tree.specs.Store as program_store
 use Rattle.sp_tree.specs.Structure.{own_mems, mems_declared, is_inner}
 use Rattle.sp_tree.specs.Typing.{Scope, with_counter, with_counters, IsMem, Typed, CountersTyped, BodyTyped, after_all}
 use Rattle.sp_core.specs.Declarations.{is_stream}
-use Rattle.sp_core.specs.History.{Entry, Runs, inner_ran, masked_run, more_run, no_run as none_ran}
+use Rattle.sp_core.specs.History.{Entry, History, Runs, inner_ran, masked_run, more_run, no_run as none_ran}
 use Rattle.sp_core.specs.Operations.{operations_after, operations}
-use Rattle.sp_core.specs.PlainCore.{PlainOp, PlainStages, PlainNode, PlainCore, no_stage}
+use Rattle.sp_core.specs.PlainCore.{PlainOp, PlainStages, PlainNode, PlainCore, no_stage, more_stage}
 use Rattle.sp_core.specs.Scope as counters
 use Rattle.sp_core.specs.Scope.{Loop, plainly, is_live, in_group}
 use Rattle.sp_core.specs.Sequential.{renew, renew_in_body, end_of_group, run, run_stages}
@@ -93,22 +93,25 @@ assign_left p comb acc true w place left rest s after x e =
 
 -- the stage of a combination
 module _ (p : PlainProgram) (core : PlainCore) (most : ℕ) (around : counters.Scope) where
+  pub combined_onward : (x : PlainNode) (h : History) (t u : store.Store) → run core plainly most x around t ≡ core_step.went h u → Onward p core most around (more_stage 0 0 true x no_stage) no_stage t u []
+  unfolding run_stages stage_shapes stage_counts core_step.pure
+  combined_onward x h t u alone live runs end l e = (
+    more_run h runs,
+    ap (λ b. (elim b as (λ _. core_step.Step Runs) [
+      | true ↦ core_step.◌>>=◌ (run core plainly most x around) (λ h. core_step.◌>>=◌ (run_stages core plainly most no_stage live around) (λ others. core_step.pure (more_run h others)))
+      | false ↦ core_step.◌>>=◌ (run_stages core plainly most no_stage live around) (λ others. core_step.pure (masked_run others))
+    ]) t) l
+        ∙ then_on (run core plainly most x around) (λ h. core_step.◌>>=◌ (run_stages core plainly most no_stage live around) (λ others. core_step.pure (more_run h others))) t h u alone
+        ∙ then_on (run_stages core plainly most no_stage live around) (λ others. core_step.pure (more_run h others)) u runs end e,
+    refl,
+  )
+
   pub combination_onward : (x : Code) (c : Combines) (t u : store.Store) (es : List Entry) → operations_after core around [] (x.ops ++ combining_ops p.mems (length p.counters) (0 + length x.ops) x.word c) t ≡ core_step.went es u → Onward p core most around (combination_stage p.mems (length p.counters) x c) no_stage t u []
-  unfolding run_stages stage_shapes stage_counts core_step.in_order core_step.pure
-  combination_onward x c t u es goes live runs end l e =
+  unfolding core_step.in_order core_step.pure
+  combination_onward x c t u es goes =
       let ops : List PlainOp = x.ops ++ combining_ops p.mems (length p.counters) (0 + length x.ops) x.word c in
-      let y : PlainNode = combination p.mems (length p.counters) [] x c [] [] in
-      let alone : run core plainly most y around t ≡ core_step.went (inner_ran [] [] (es ∷ [])) u =
-      inner_alone core most [] ops (Some (0 + length x.ops)) around es t u (then_on (core_step.in_order (renew_in_body core plainly most) []) (λ _. operations core around ops) t [] t refl ∙ goes) in (
-        more_run (inner_ran [] [] (es ∷ [])) runs,
-        ap (λ b. (elim b as (λ _. core_step.Step Runs) [
-          | true ↦ core_step.◌>>=◌ (run core plainly most y around) (λ h. core_step.◌>>=◌ (run_stages core plainly most no_stage live around) (λ others. core_step.pure (more_run h others)))
-          | false ↦ core_step.◌>>=◌ (run_stages core plainly most no_stage live around) (λ others. core_step.pure (masked_run others))
-        ]) t) l
-            ∙ then_on (run core plainly most y around) (λ h. core_step.◌>>=◌ (run_stages core plainly most no_stage live around) (λ others. core_step.pure (more_run h others))) t (inner_ran [] [] (es ∷ [])) u alone
-            ∙ then_on (run_stages core plainly most no_stage live around) (λ others. core_step.pure (more_run (inner_ran [] [] (es ∷ [])) others)) u runs end e,
-        refl,
-      )
+      combined_onward (combination p.mems (length p.counters) [] x c [] []) (inner_ran [] [] (es ∷ [])) t u
+      (inner_alone core most [] ops (Some (0 + length x.ops)) around es t u (then_on (core_step.in_order (renew_in_body core plainly most) []) (λ _. operations core around ops) t [] t refl ∙ goes))
 
 -- a value that stands outside of a list is found without it
 known_moves : (p : PlainProgram) (core : PlainCore) (around : counters.Scope) (kept : List (ℕ × Option ℕ)) (all : List Entry) (u : store.Store) (source : Source) (w x : ℕ) → Known around kept source w → Finds p core around all u source x → Finds p core around [] u source x

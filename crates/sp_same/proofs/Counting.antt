@@ -30,7 +30,7 @@ use Rattle.sp_same.proofs.Quietly.{Pairs}
 use Rattle.sp_same.proofs.Values.{Fit, word_of_value}
 
 -- the first lane
-first_lane : (v : ℤ) (l : ℕ) → wrap int_type (v +ℤ pos (0 * l)) ≡ wrap int_type v
+pub first_lane : (v : ℤ) (l : ℕ) → wrap int_type (v +ℤ pos (0 * l)) ≡ wrap int_type v
 first_lane v l = ap (λ n. wrap int_type (v +ℤ pos n)) {x = 0 * l} {y = 0} (omega arith) ∙ ap (wrap int_type) (+ℤ_idr v)
 
 module _ (p : PlainProgram) where

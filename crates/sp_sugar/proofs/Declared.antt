@@ -47,7 +47,7 @@ start_is m Dram start h = subst (λ s. has_start Dram m.ty s ≡ true) (sym h) r
 start_is m ArgIn start h = subst (λ s. has_start ArgIn m.ty s ≡ true) (sym h) refl
 start_is m ArgOut start h = subst (λ s. has_start ArgOut m.ty s ≡ true) (sym h) refl
 
-some_words : (dims : List ℕ) → All IsCount dims → 1 ≤ word_count dims
+pub some_words : (dims : List ℕ) → All IsCount dims → 1 ≤ word_count dims
 some_words [] h = omega arith
 some_words (d ∷ dims) h = mul-le 1 1 d (word_count dims) (h 0 0 (omega arith)).0 (some_words dims (λ k e lt. h (suc k) e (omega arith)))
 

@@ -70,7 +70,7 @@ elements_length : (c : ℕ) (ds : List ℕ) → length (element_counters c ds) �
 elements_length c [] = refl
 elements_length c (d ∷ ds) = ap suc (elements_length (suc c) ds)
 
-indices_count : (c : ℕ) (ds : List ℕ) → expr_count (element_indices c ds) ≡ length ds
+pub indices_count : (c : ℕ) (ds : List ℕ) → expr_count (element_indices c ds) ≡ length ds
 indices_count c [] = refl
 indices_count c (d ∷ ds) = ap (λ n. 1 + n) (indices_count (suc c) ds) ∙ omega arith
 
@@ -92,7 +92,7 @@ module _ (mems : List PlainMem) where
 abbrev element_scope : (part c count : ℕ) → Scope
 element_scope part c count = record { mems = part ∷ []; vals = []; counters = numbers_from c count }
 
-numbers_have : (first count k : ℕ) → first ≤ k → k < first + count → Contains (numbers_from first count) k
+pub numbers_have : (first count k : ℕ) → first ≤ k → k < first + count → Contains (numbers_from first count) k
 numbers_have first zero k le lt = absurd (omega arith)
 numbers_have first (suc count) k le lt = either (first == k)
     (λ e. (0, omega arith, eqb-true first k e))
@@ -102,7 +102,7 @@ numbers_have first (suc count) k le lt = either (first == k)
     above n k le ne = omega (arith, ne)
 
 module _ (p : PlainProgram) (scope : Scope) where
-  indices_typed : (c : ℕ) (ds : List ℕ) → ((k : ℕ) → c ≤ k → k < c + length ds → Contains scope.counters k) → IndicesTyped p scope (element_indices c ds)
+  pub indices_typed : (c : ℕ) (ds : List ℕ) → ((k : ℕ) → c ≤ k → k < c + length ds → Contains scope.counters k) → IndicesTyped p scope (element_indices c ds)
   indices_typed c [] f = tt
   indices_typed c (d ∷ ds) f = ((f c (omega arith) (omega arith), refl), refl, indices_typed (suc c) ds (λ k le lt. f k (omega arith) (omega arith)))
 
@@ -114,7 +114,7 @@ module _ (p : PlainProgram) (scope : Scope) where
   conjunction_typed test c (d ∷ ds) t b f h =
       conjunction_typed (expr 0 Bit (two binary.And test (is_last_at c d))) (suc c) ds (t, last_at_typed c d (f c (omega arith) (omega arith)) (omega (arith, (h 0 0 (omega arith)).1)), b, b) refl (λ k le lt. f k (omega arith) (omega arith)) (λ k e lt. h (suc k) e (omega arith))
 
-  last_typed : (c : ℕ) (ds : List ℕ) → ((k : ℕ) → c ≤ k → k < c + length ds → Contains scope.counters k) → All IsCount ds → Typed p scope (is_last_element c ds) × (type_of (is_last_element c ds) ≡ Bit)
+  pub last_typed : (c : ℕ) (ds : List ℕ) → ((k : ℕ) → c ≤ k → k < c + length ds → Contains scope.counters k) → All IsCount ds → Typed p scope (is_last_element c ds) × (type_of (is_last_element c ds) ≡ Bit)
   last_typed c [] f h = (omega arith, refl)
   last_typed c (d ∷ ds) f h = conjunction_typed (is_last_at c d) (suc c) ds (last_at_typed c d (f c (omega arith) (omega arith)) (omega (arith, (h 0 0 (omega arith)).1))) refl (λ k le lt. f k (omega arith) (omega arith)) (λ k e lt. h (suc k) e (omega arith))
 
