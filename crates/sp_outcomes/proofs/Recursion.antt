@@ -50,6 +50,7 @@ use Rattle.sp_outcomes.specs.Covered.{IsCovered, AreCovered}
 use Rattle.sp_bodies.proofs.BodyNodes.{body_goes}
 use Rattle.sp_bodies.proofs.Fresh.{added_at}
 use Rattle.sp_bodies.proofs.Owned.{before_more, apart_own, apart_left, apart_after, declared_left, declared_right}
+use Rattle.sp_outcomes.proofs.ElementStages.{mem_reduction_goes}
 use Rattle.sp_outcomes.proofs.StageReductions as stage_reductions
 use Rattle.sp_outcomes.proofs.StageReductions.{seen_within}
 
@@ -169,6 +170,35 @@ module _ (p : PlainProgram) (core : PlainCore) (h : HasMemories p core) (ports :
         (λ i. stage_reductions.reduction_goes p core h roomy rooms most view seen loops body n acc e comb number place style (loop_quiet style typed.0) typed.2 typed.3 typed.5 (its_spare i) (its_declared i)
         (λ m d. own_within view.scope loops m (own m d)) apart resets followed fold (λ f. ((begun f).0, begun_spare f, below f)) typed.1 b s after t left rest did enough right a ready (now_at_first i fold begun) i goes)
 
+  -- a MemReduce
+  module _ (style : Style) (acc : ℕ) (loops : List PlainCounter) (body : PlainStmts) (part : ℕ) (comb : Comb) (followed : AreStagesFollowed p roomy core body) (most : ℕ) (view : View) (b n place : ℕ) (s after : program_store.Store) (t : core_store.Store) (left rest : ℕ) (did : List program_shape.Shape)
+      (typed : StmtTyped p view.scope (mem_reduce style acc loops body part comb)) (seen : SourcesSeen view.scope view.sources) (right : HoldRightly p view.scope.mems s) (same : n ≡ b + length (beside_of (mem_reduce style acc loops body part comb))) (spare : AreSpare b (n + length (inside (mem_reduce style acc loops body part comb))) view)
+      (declared : AreDeclared p core b (beside_of (mem_reduce style acc loops body part comb) ++ inside (mem_reduce style acc loops body part comb))) (own : (m : ℕ) → Contains (mems_declared body) m → IsOwn p view.scope m) (apart : Apart (mems_declared body ++ view.waiting)) (resets : (m : ℕ) → view.resets m ≡ false) (enough : left ≤ most)
+      (a : Agree p core view [] s t) (ready : AreReady p core is_early left s t b (bounds_of loops)) (begun : HoldsWord p core t (b + length (registers_for is_early (bounds_of loops))) 0) (goes : run_kind p.mems roomy (mem_reduce style acc loops body part comb) place left s ≡ step.went did rest after) where
+    abbrev elements : PlainStmtKind
+    elements = mem_reduce style acc loops body part comb
+
+    abbrev its_begun : ℕ
+    its_begun = b + length (registers_for is_early (bounds_of loops))
+
+    its_begun_below : its_begun < n
+    its_begun_below = omega (arith, same, length-append (registers_for is_early (bounds_of loops)) (begun_register ∷ []))
+
+    elements_spare : AreSpare n (n + length (registers body no_more)) view
+    unfolding inside
+    elements_spare = spare_inner view b n elements same spare declared
+
+    elements_declared : AreDeclared p core n (registers body no_more)
+    unfolding inside
+    elements_declared = declared_inner view b n elements same spare declared
+
+    mem_reduce_follows : NodeGoes p core most view (node p.mems (length p.counters) view.sources b n elements) t after did
+    unfolding node
+    mem_reduce_follows =
+        let lt = its_begun_below in
+        mem_reduction_goes p core h roomy rooms most view seen loops body n part acc comb its_begun place style (loop_quiet style typed.0) typed.2 typed.3 typed.6 typed.7 typed.8 typed.9 elements_spare elements_declared (λ m d. own_within view.scope loops m (own m d)) apart resets followed begun.0
+        (further b its_begun (suc its_begun) (n + length (inside elements)) view (omega arith) (omega (arith, lt)) spare) lt typed.1 b s after t left rest did enough right a ready begun.1 goes
+
   mutual
     unfolding inside
 
@@ -233,7 +263,8 @@ module _ (p : PlainProgram) (core : PlainCore) (h : HasMemories p core) (ports :
         not_state n w xs x (suc d, lt, e) j le i f = f (d, omega arith, e)
     kind_followed (reduce style fold acc loops body e comb) stage c most view b n place s after t left rest did typed seen right same spare declared own apart resets enough a ready begun goes =
         reduce_follows style fold acc loops body e comb (stages_followed body c) most view b n place s after t left rest did typed seen right same spare declared own apart resets enough a ready begun goes
-    kind_followed (mem_reduce style acc loops body part comb) stage c most view b n place s after t left rest did typed seen right same spare declared own apart resets enough a ready begun goes = absurd c
+    kind_followed (mem_reduce style acc loops body part comb) stage c most view b n place s after t left rest did typed seen right same spare declared own apart resets enough a ready begun goes =
+        mem_reduce_follows style acc loops body part comb (stages_followed body c) most view b n place s after t left rest did typed seen right same spare declared own apart resets enough a ready begun goes
     kind_followed (declare m) stage c most view b n place s after t left rest did typed seen right same spare declared own apart resets enough a ready begun goes = absurd stage
     kind_followed (name v e) stage c most view b n place s after t left rest did typed seen right same spare declared own apart resets enough a ready begun goes = absurd stage
     kind_followed (set_reg m e) stage c most view b n place s after t left rest did typed seen right same spare declared own apart resets enough a ready begun goes = absurd stage

@@ -129,7 +129,9 @@ module _ (p : PlainProgram) where
     node_streamed (reduce style fold acc loops body e comb) scope typed cover sources b n =
         let c : Combines = combines mems fold acc (b + length (registers_for is_early (bounds_of loops))) comb e in
         body_streamed mems number sources n (counters_of mems sources b loops) style body (ending_of loops e) c _ (loop_quiet style typed.0) (stages_streamed body (with_counters scope loops) typed.2 cover (no_run sources) n (ending_of loops e) c)
-    node_streamed (mem_reduce style acc loops body part comb) scope typed cover sources b n = absurd cover
+    node_streamed (mem_reduce style acc loops body part comb) scope typed cover sources b n =
+        let c : Combines = reduces_elements part (mem_number mems acc) (b + length (registers_for is_early (bounds_of loops))) comb in
+        outer_streamed mems number n (counters_of mems sources b loops) style body no_more (stages mems number (no_run sources) n body no_more c) (loop_quiet style typed.0) (stages_streamed body (with_counters scope loops) typed.2 cover (no_run sources) n no_more c)
     node_streamed (fsm start tested test state body last next) scope typed cover sources b n =
         let kept : Sources = with_state sources tested state last n in
         body_streamed mems number kept (suc n) [] Pipe body no_more nothing _ refl (stages_streamed body (with_val scope state (type_of start)) typed.4 cover (no_run kept) (suc n) no_more nothing)
@@ -154,7 +156,7 @@ module _ (p : PlainProgram) where
     kind_none_roomy (block style body) cover = ap (λ l. l ++ roomy_in mems body) (no_rooms mems number style body cover.0) ∙ none_roomy body cover.1
     kind_none_roomy (foreach style loops body) cover = none_roomy body cover
     kind_none_roomy (reduce style fold acc loops body e comb) cover = none_roomy body cover
-    kind_none_roomy (mem_reduce style acc loops body part comb) cover = absurd cover
+    kind_none_roomy (mem_reduce style acc loops body part comb) cover = none_roomy body cover
     kind_none_roomy (fsm start tested test state body last next) cover = none_roomy body cover
     kind_none_roomy (branch test first second) cover = ap (λ l. l ++ roomy_in mems second) (none_roomy first cover.0) ∙ none_roomy second cover.1
     kind_none_roomy (declare m) cover = refl

@@ -1,4 +1,4 @@
--- Programs without MemReduce and without proper stream blocks.
+-- Programs without proper stream blocks.
 use Rattle.std.specs.Prelude.{◌≡◌, ℕ, false, List}
 use Rattle.sp_tree.specs.PlainProgram.{PlainMem}
 use Rattle.sp_tree.specs.PlainStatement.{PlainStmtKind, PlainStmts, stmt, block, foreach, reduce, mem_reduce, fsm, branch, no_stmt, more_stmt}
@@ -15,7 +15,7 @@ abbrev mutual
   IsCovered mems counters (block style body) = (is_stream (style_of mems counters style body) ≡ false) × AreCovered mems counters body
   IsCovered mems counters (foreach style loops body) = AreCovered mems counters body
   IsCovered mems counters (reduce style fold acc loops body e comb) = AreCovered mems counters body
-  IsCovered mems counters (mem_reduce style acc loops body part comb) = ⊥
+  IsCovered mems counters (mem_reduce style acc loops body part comb) = AreCovered mems counters body
   IsCovered mems counters (fsm start tested test state body last next) = AreCovered mems counters body
   IsCovered mems counters (branch test first second) = AreCovered mems counters first × AreCovered mems counters second
   IsCovered mems counters _ = Unit {0}

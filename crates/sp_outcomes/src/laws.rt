@@ -6,8 +6,7 @@ ghost use Rattle.sp_tree.specs.PlainProgram.{PlainProgram};
 ghost use Rattle.sp_outcomes.specs.Covered.{AreCovered};
 ghost use Rattle.sp_outcomes.specs.Laws.{IsProgramFollowed};
 
-/// Where a program without MemReduce and without proper stream blocks ends, its core, read plainly, ends with the same words,
-/// and counts as much.
+/// Where a program without proper stream blocks ends, its core, read plainly, ends with the same words, and counts as much.
 pub fn programs_are_followed()
     ensures { (p : PlainProgram) → IsProgram p → AreCovered p.mems (length p.counters) p.body → IsProgramFollowed p }
 {}
