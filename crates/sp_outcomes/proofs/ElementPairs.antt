@@ -9,7 +9,7 @@ use Rattle.sp_sugar.proofs.Declared.{some_words}
 use Rattle.sp_sugar.proofs.NumberLemmas.{either}
 use Rattle.sp_same.proofs.BoundsTaken.{IsLive}
 use Rattle.sp_same.proofs.Quietly.{Pairs}
-use Rattle.sp_same.proofs.Values.{Each, Fit, word_of_value}
+use Rattle.sp_same.proofs.Values.{Each, each_both, Fit, word_of_value}
 use Rattle.sp_outcomes.proofs.ElementLoops.{other_counts}
 use Rattle.sp_outcomes.proofs.ElementOrder.{AreBelow, AreLast, elements_in_order, last_is_last, ends_last}
 use Rattle.sp_outcomes.proofs.ElementWords.{are_last}
@@ -48,13 +48,9 @@ only_last count [] k each e = e
 only_last count (j ∷ []) k each e = (each.0, e)
 only_last count (j ∷ l ∷ ks) k each e = (each.0, only_last count (l ∷ ks) k each.1 e)
 
-each_more : {A : Type 0} (P : A → Type 0) (xs ys : List A) → Each P xs → Each P ys → Each P (xs ++ ys)
-each_more P [] ys a b = b
-each_more P (x ∷ xs) ys a b = (a.0, each_more P xs ys a.1 b)
-
 each_number : (P : ℕ → Type 0) (n : ℕ) → ((k : ℕ) → k < n → P k) → Each P (numbers_below n)
 each_number P zero f = tt
-each_number P (suc n) f = each_more P (numbers_below n) (n ∷ []) (each_number P n (λ k lt. f k (omega (arith, lt)))) (f n (omega arith), tt)
+each_number P (suc n) f = each_both P (numbers_below n) (n ∷ []) (each_number P n (λ k lt. f k (omega (arith, lt)))) (f n (omega arith), tt)
 
 numbers_end : (n : ℕ) → 1 ≤ n → OnlyLast n (numbers_below n)
 numbers_end zero le = absurd (omega (arith, le))
@@ -70,7 +66,7 @@ one_below d ds j lt (t ∷ ts) e = ((lt, e.0), one_below d ds j lt ts e.1)
 
 all_below : (d : ℕ) (ds : List ℕ) (ts : List (List ℕ)) → Each (AreBelow ds) ts → (js : List ℕ) → Each (λ j. j < d) js → Each (AreBelow (d ∷ ds)) (flat_map (λ j. map (λ others. j ∷ others) ts) js)
 all_below d ds ts h [] e = tt
-all_below d ds ts h (j ∷ js) e = each_more (AreBelow (d ∷ ds)) (map (λ others. j ∷ others) ts) (flat_map (λ j. map (λ others. j ∷ others) ts) js) (one_below d ds j e.0 ts h) (all_below d ds ts h js e.1)
+all_below d ds ts h (j ∷ js) e = each_both (AreBelow (d ∷ ds)) (map (λ others. j ∷ others) ts) (flat_map (λ j. map (λ others. j ∷ others) ts) js) (one_below d ds j e.0 ts h) (all_below d ds ts h js e.1)
 
 tuples_below : (ds : List ℕ) → Each (AreBelow ds) (tuples (map numbers_below ds))
 tuples_below [] = (tt, tt)

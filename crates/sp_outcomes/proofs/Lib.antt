@@ -18,3 +18,5 @@ pub mod ElementPairs
 pub mod ElementGroups
 pub mod ElementNode
 pub mod ElementStages
+pub mod Empties
+pub mod PutsRight
