@@ -62,7 +62,7 @@ use Rattle.sp_outcomes.proofs.ElementView.{scope_with, between}
 use Rattle.sp_outcomes.proofs.StageReductions.{seen_within, combined_onward}
 
 -- what a body declares itself is visible at its end
-own_seen : (S : Scope) (body : PlainStmts) (m : ℕ) → Contains (own_mems body) m → Contains (after_all S body).mems m
+pub own_seen : (S : Scope) (body : PlainStmts) (m : ℕ) → Contains (own_mems body) m → Contains (after_all S body).mems m
 own_seen S no_stmt m c = absurd (omega (arith, c.1))
 own_seen S (more_stmt (stmt place (declare k)) rest) m (zero, lt, e) = after_mems (scope_after S (declare k)) rest m (0, omega arith, e)
 own_seen S (more_stmt (stmt place (declare k)) rest) m (suc j, lt, e) = own_seen (scope_after S (declare k)) rest m (j, omega (arith, lt), e)

@@ -20,3 +20,4 @@ pub mod ElementNode
 pub mod ElementStages
 pub mod Empties
 pub mod PutsRight
+pub mod StreamBlocks

@@ -175,7 +175,7 @@ module _ (p : PlainProgram) (h : IsProgram p) (covered : AreCovered p.mems (leng
       → NodeGoes p (core_of p) n (first_view p) (core_of p).root (core_meaning.first_store (core_of p) input) after did
   unfolding core_of
   whole_goes n input left rest did after enough goes =
-      body_by p (core_of p) memories h.ports roomy rooms p.body (stages_followed p (core_of p) memories h.ports roomy rooms p.body covered) n (first_view p) first Pipe refl h.typed (λ v c. none v c) (λ v c. none v c, λ x c k le lt e. none x c) declared own apart (λ m. refl)
+      body_by p (core_of p) memories h.ports roomy rooms p.body (stages_followed p (core_of p) memories h.ports roomy rooms p.body) n (first_view p) first Pipe refl h.typed (λ v c. none v c) (λ v c. none v c, λ x c k le lt e. none x c) declared own apart (λ m. refl)
       (program.first_store p input) after (core_meaning.first_store (core_of p) input) left rest did enough (right (program.first_store p input)) (begin_alike p h input) goes
 
   -- what stands at the end is put out

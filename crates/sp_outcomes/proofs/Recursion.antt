@@ -46,13 +46,13 @@ use Rattle.sp_same.proofs.PickNodes.{gather_goes, scatter_goes}
 use Rattle.sp_same.proofs.Reductions as reductions
 use Rattle.sp_same.proofs.SliceNodes.{load_goes, store_goes}
 use Rattle.sp_bodies.specs.Bodies.{HaveRoomsAlike, beside_of, AreDeclared, IsStageFollowed, AreStagesFollowed}
-use Rattle.sp_outcomes.specs.Covered.{IsCovered, AreCovered}
 use Rattle.sp_bodies.proofs.BodyNodes.{body_goes}
 use Rattle.sp_bodies.proofs.Fresh.{added_at}
 use Rattle.sp_bodies.proofs.Owned.{before_more, apart_own, apart_left, apart_after, declared_left, declared_right}
 use Rattle.sp_outcomes.proofs.ElementStages.{mem_reduction_goes}
 use Rattle.sp_outcomes.proofs.StageReductions as stage_reductions
 use Rattle.sp_outcomes.proofs.StageReductions.{seen_within}
+use Rattle.sp_outcomes.proofs.StreamBlocks as streams
 
 pub loop_quiet : (style : Style) → IsLoopStyle style → is_stream style ≡ false
 loop_quiet Pipe t = refl
@@ -202,38 +202,42 @@ module _ (p : PlainProgram) (core : PlainCore) (h : HasMemories p core) (ports :
   mutual
     unfolding inside
 
-    pub stages_followed : (body : PlainStmts) → AreCovered p.mems (length p.counters) body → AreStagesFollowed p roomy core body
-    stages_followed no_stmt c = tt
-    stages_followed (more_stmt (stmt place (declare m)) rest) c = stages_followed rest c.1
-    stages_followed (more_stmt (stmt place (name v e)) rest) c = stages_followed rest c.1
-    stages_followed (more_stmt (stmt place (set_reg m e)) rest) c = stages_followed rest c.1
-    stages_followed (more_stmt (stmt place (set_out m e)) rest) c = stages_followed rest c.1
-    stages_followed (more_stmt (stmt place (set_sram m xs e)) rest) c = stages_followed rest c.1
-    stages_followed (more_stmt (stmt place (enq m e)) rest) c = stages_followed rest c.1
-    stages_followed (more_stmt (stmt place one) rest) c = (kind_followed one tt c.0, stages_followed rest c.1)
+    pub stages_followed : (body : PlainStmts) → AreStagesFollowed p roomy core body
+    stages_followed no_stmt = tt
+    stages_followed (more_stmt (stmt place (declare m)) rest) = stages_followed rest
+    stages_followed (more_stmt (stmt place (name v e)) rest) = stages_followed rest
+    stages_followed (more_stmt (stmt place (set_reg m e)) rest) = stages_followed rest
+    stages_followed (more_stmt (stmt place (set_out m e)) rest) = stages_followed rest
+    stages_followed (more_stmt (stmt place (set_sram m xs e)) rest) = stages_followed rest
+    stages_followed (more_stmt (stmt place (enq m e)) rest) = stages_followed rest
+    stages_followed (more_stmt (stmt place one) rest) = (kind_followed one tt, stages_followed rest)
 
-    kind_followed : (k : PlainStmtKind) → IsStageKind k → IsCovered p.mems (length p.counters) k → IsStageFollowed p roomy core k
-    kind_followed (load_sram sram dram spans) stage c most view b n place s after t left rest did typed seen right same spare declared own apart resets enough a ready begun goes =
+    kind_followed : (k : PlainStmtKind) → IsStageKind k → IsStageFollowed p roomy core k
+    kind_followed (load_sram sram dram spans) stage most view b n place s after t left rest did typed seen right same spare declared own apart resets enough a ready begun goes =
         load_goes p core h ports roomy most view b s t left a spans place rest after did n ready sram dram typed goes
-    kind_followed (load_line line dram spans) stage c most view b n place s after t left rest did typed seen right same spare declared own apart resets enough a ready begun goes =
+    kind_followed (load_line line dram spans) stage most view b n place s after t left rest did typed seen right same spare declared own apart resets enough a ready begun goes =
         line_goes p core h ports roomy most view b s t left a spans place rest after did n ready line dram typed
         (held_rows (expressions.dims p.mems line) (s.held line) (subst (λ K. IsContents K (expressions.dims p.mems line) (s.held line)) typed.0.is_kind (right line typed.0.seen))) goes
-    kind_followed (store dram spans sram) stage c most view b n place s after t left rest did typed seen right same spare declared own apart resets enough a ready begun goes =
+    kind_followed (store dram spans sram) stage most view b n place s after t left rest did typed seen right same spare declared own apart resets enough a ready begun goes =
         store_goes p core h ports roomy most view b s t left a spans place rest after did n ready dram sram typed goes
-    kind_followed (gather sram dram places e) stage c most view b n place s after t left rest did typed seen right same spare declared own apart resets enough a ready begun goes =
+    kind_followed (gather sram dram places e) stage most view b n place s after t left rest did typed seen right same spare declared own apart resets enough a ready begun goes =
         gather_goes p core h ports roomy most view b s t left a e place rest after did n ready sram dram places typed goes
-    kind_followed (scatter dram places e sram) stage c most view b n place s after t left rest did typed seen right same spare declared own apart resets enough a ready begun goes =
+    kind_followed (scatter dram places e sram) stage most view b n place s after t left rest did typed seen right same spare declared own apart resets enough a ready begun goes =
         scatter_goes p core h ports roomy most view b s t left a e place rest after did n ready dram places sram typed goes
-    kind_followed (block style body) stage c most view b n place s after t left rest did typed seen right same spare declared own apart resets enough a ready begun goes =
+    kind_followed (block style body) stage most view b n place s after t left rest did typed seen right same spare declared own apart resets enough a ready begun goes =
         let k : PlainStmtKind = block style body in
-        controllers.block_goes p core roomy most view b n place s after t left rest did enough right a style body (no_rooms p.mems (length p.counters) style body c.0)
-        (body_by body (stages_followed body c.1) most view n (style_of p.mems (length p.counters) style body) c.0 typed seen (spare_inner view b n k same spare declared) (declared_inner view b n k same spare declared) own apart resets) goes
-    kind_followed (foreach style loops body) stage c most view b n place s after t left rest did typed seen right same spare declared own apart resets enough a ready begun goes =
+        let sp = spare_inner view b n k same spare declared in
+        let de = declared_inner view b n k same spare declared in
+        either (is_stream (style_of p.mems (length p.counters) style body))
+        (λ i. streams.block_goes p core h roomy rooms most view body n typed seen sp de own apart resets (stages_followed body) style i b place s after t left rest did enough right a goes)
+        (λ i. controllers.block_goes p core roomy most view b n place s after t left rest did enough right a style body (no_rooms p.mems (length p.counters) style body i)
+        (body_by body (stages_followed body) most view n (style_of p.mems (length p.counters) style body) i typed seen sp de own apart resets) goes)
+    kind_followed (foreach style loops body) stage most view b n place s after t left rest did typed seen right same spare declared own apart resets enough a ready begun goes =
         let k : PlainStmtKind = foreach style loops body in
         controllers.loop_goes p core roomy most view b n place s after t left rest did enough right a h style loops body typed.1 typed.2 seen ready
-        (λ around. body_by body (stages_followed body c) most (record view { scope = with_counters view.scope loops; around = around }) n style (loop_quiet style typed.0) typed.2 (seen_within view.scope view.sources loops seen)
+        (λ around. body_by body (stages_followed body) most (record view { scope = with_counters view.scope loops; around = around }) n style (loop_quiet style typed.0) typed.2 (seen_within view.scope view.sources loops seen)
         (spare_within view loops around n (n + length (inside k)) (spare_inner view b n k same spare declared)) (declared_inner view b n k same spare declared) (λ m d. own_within view.scope loops m (own m d)) apart resets) goes
-    kind_followed (branch test first second) stage c most view b n place s after t left rest did typed seen right same spare declared own apart resets enough a ready begun goes =
+    kind_followed (branch test first second) stage most view b n place s after t left rest did typed seen right same spare declared own apart resets enough a ready begun goes =
         let k : PlainStmtKind = branch test first second in
         let one : List PlainMem = registers_in first no_more in
         let two : List PlainMem = registers_in second no_more in
@@ -241,18 +245,18 @@ module _ (p : PlainProgram) (core : PlainCore) (h : HasMemories p core) (ports :
         let sp = spare_inner view b n k same spare declared in
         let de = declared_inner view b n k same spare declared in
         controllers.branch_goes p core roomy most view b n place s after t left rest did enough right a h test first second typed.0
-        (body_by first (stages_followed first c.0) most view n Pipe refl typed.1 seen (further n n (n + length one) (n + length (one ++ two)) view (omega arith) (omega (arith, long)) sp) (declared_left p core n one two de)
+        (body_by first (stages_followed first) most view n Pipe refl typed.1 seen (further n n (n + length one) (n + length (one ++ two)) view (omega arith) (omega (arith, long)) sp) (declared_left p core n one two de)
         (λ m d. own m (in_front (mems_declared first) (mems_declared second) m d)) (apart_left (mems_declared first) (mems_declared second) view.waiting apart) resets)
-        (body_by second (stages_followed second c.1) most view (n + length one) Pipe refl typed.2 seen (further n (n + length one) (n + length one + length two) (n + length (one ++ two)) view (omega arith) (omega (arith, long)) sp) (declared_right p core n (n + length one) one two refl de)
+        (body_by second (stages_followed second) most view (n + length one) Pipe refl typed.2 seen (further n (n + length one) (n + length one + length two) (n + length (one ++ two)) view (omega arith) (omega (arith, long)) sp) (declared_right p core n (n + length one) one two refl de)
         (λ m d. own m (in_back (mems_declared first) (mems_declared second) m d)) (apart_after (mems_declared first) (mems_declared second) view.waiting apart) resets) goes
-    kind_followed (fsm start tested test state body last next) stage c most view b n place s after t left rest did typed seen right same spare declared own apart resets enough a ready begun goes =
+    kind_followed (fsm start tested test state body last next) stage most view b n place s after t left rest did typed seen right same spare declared own apart resets enough a ready begun goes =
         let k : PlainStmtKind = fsm start tested test state body last next in
         let sp = spare_inner view b n k same spare declared in
         let de = declared_inner view b n k same spare declared in
         let added : IsAdded p core n = subst (IsAdded p core) {x = n + 0} {y = n} (omega arith) (added_at p core h most n (inside k) 0 de (omega arith) (refl, refl)) in
         let regs : List PlainMem = registers_in body no_more in
         machine_goes p core h roomy most view b n place start tested test state body last next typed added (further n n (suc n) (n + suc (length regs)) view (omega arith) (omega arith) sp)
-        (λ w. body_by body (stages_followed body c) most (record view { scope = with_val view.scope state (type_of start); sources = with_state view.sources tested state last n; registers = (n, Some w) ∷ view.registers }) (suc n) Pipe refl typed.4
+        (λ w. body_by body (stages_followed body) most (record view { scope = with_val view.scope state (type_of start); sources = with_state view.sources tested state last n; registers = (n, Some w) ∷ view.registers }) (suc n) Pipe refl typed.4
         (λ v d. kept_all view.sources tested state last n (SourceSeen view.scope) (type_of start) view.scope.vals tt seen v d)
         (λ v d. kept_all view.sources tested state last n (SourceBefore (suc n)) (type_of start) view.scope.vals (omega arith) (λ u f. before_more n (suc n) (view.sources u.0) (omega arith) (sp.0 u f)) v d, λ x d j le lt i. not_state n w view.registers x d j le i (λ f. sp.1 x f j (omega (arith, le)) (omega (arith, lt)) i))
         (declared_right p core n (suc n) (state_register (type_of start) ∷ []) regs (omega arith) de) (λ m d. let o = own m d in record { exists = o.exists; on_chip = o.on_chip; unseen = o.unseen }) apart resets)
@@ -261,13 +265,13 @@ module _ (p : PlainProgram) (core : PlainCore) (h : HasMemories p core) (ports :
         not_state : (n w : ℕ) (xs : List (ℕ × Option ℕ)) (x : ℕ × Option ℕ) → Contains ((n, Some w) ∷ xs) x → (j : ℕ) → suc n ≤ j → x.0 ≡ j → (Contains xs x → ⊥) → ⊥
         not_state n w xs x (zero, lt, e) j le i f = let q : n ≡ x.0 = ap (λ (y : ℕ × Option ℕ). y.0) e in omega (arith, q, i, le)
         not_state n w xs x (suc d, lt, e) j le i f = f (d, omega arith, e)
-    kind_followed (reduce style fold acc loops body e comb) stage c most view b n place s after t left rest did typed seen right same spare declared own apart resets enough a ready begun goes =
-        reduce_follows style fold acc loops body e comb (stages_followed body c) most view b n place s after t left rest did typed seen right same spare declared own apart resets enough a ready begun goes
-    kind_followed (mem_reduce style acc loops body part comb) stage c most view b n place s after t left rest did typed seen right same spare declared own apart resets enough a ready begun goes =
-        mem_reduce_follows style acc loops body part comb (stages_followed body c) most view b n place s after t left rest did typed seen right same spare declared own apart resets enough a ready begun goes
-    kind_followed (declare m) stage c most view b n place s after t left rest did typed seen right same spare declared own apart resets enough a ready begun goes = absurd stage
-    kind_followed (name v e) stage c most view b n place s after t left rest did typed seen right same spare declared own apart resets enough a ready begun goes = absurd stage
-    kind_followed (set_reg m e) stage c most view b n place s after t left rest did typed seen right same spare declared own apart resets enough a ready begun goes = absurd stage
-    kind_followed (set_out m e) stage c most view b n place s after t left rest did typed seen right same spare declared own apart resets enough a ready begun goes = absurd stage
-    kind_followed (set_sram m xs e) stage c most view b n place s after t left rest did typed seen right same spare declared own apart resets enough a ready begun goes = absurd stage
-    kind_followed (enq m e) stage c most view b n place s after t left rest did typed seen right same spare declared own apart resets enough a ready begun goes = absurd stage
+    kind_followed (reduce style fold acc loops body e comb) stage most view b n place s after t left rest did typed seen right same spare declared own apart resets enough a ready begun goes =
+        reduce_follows style fold acc loops body e comb (stages_followed body) most view b n place s after t left rest did typed seen right same spare declared own apart resets enough a ready begun goes
+    kind_followed (mem_reduce style acc loops body part comb) stage most view b n place s after t left rest did typed seen right same spare declared own apart resets enough a ready begun goes =
+        mem_reduce_follows style acc loops body part comb (stages_followed body) most view b n place s after t left rest did typed seen right same spare declared own apart resets enough a ready begun goes
+    kind_followed (declare m) stage most view b n place s after t left rest did typed seen right same spare declared own apart resets enough a ready begun goes = absurd stage
+    kind_followed (name v e) stage most view b n place s after t left rest did typed seen right same spare declared own apart resets enough a ready begun goes = absurd stage
+    kind_followed (set_reg m e) stage most view b n place s after t left rest did typed seen right same spare declared own apart resets enough a ready begun goes = absurd stage
+    kind_followed (set_out m e) stage most view b n place s after t left rest did typed seen right same spare declared own apart resets enough a ready begun goes = absurd stage
+    kind_followed (set_sram m xs e) stage most view b n place s after t left rest did typed seen right same spare declared own apart resets enough a ready begun goes = absurd stage
+    kind_followed (enq m e) stage most view b n place s after t left rest did typed seen right same spare declared own apart resets enough a ready begun goes = absurd stage
