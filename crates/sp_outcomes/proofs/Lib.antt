@@ -21,3 +21,4 @@ pub mod ElementStages
 pub mod Empties
 pub mod PutsRight
 pub mod StreamBlocks
+pub mod Rooms

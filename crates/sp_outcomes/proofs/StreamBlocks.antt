@@ -97,7 +97,7 @@ numbered_cells n [] x c = absurd (omega (arith, c.1))
 numbered_cells n (m ∷ ms) x (zero, lt, e) = (m.start, (0, omega arith, ap (λ k. (k, m.start)) e))
 numbered_cells n (m ∷ ms) x (suc j, lt, e) = let f = numbered_cells (suc n) ms x (j, omega (arith, lt), e) in (f.0, (suc f.1.0, omega (arith, f.1.1), f.1.2))
 
-owned_cells : (n : ℕ) (body : PlainStmts) (ending : Ending) (x : ℕ) → Contains (owned_registers n body ending) x → (o : Option ℕ) × Contains (cells_of_body n body ending) (x, o)
+pub owned_cells : (n : ℕ) (body : PlainStmts) (ending : Ending) (x : ℕ) → Contains (owned_registers n body ending) x → (o : Option ℕ) × Contains (cells_of_body n body ending) (x, o)
 owned_cells n no_stmt ending x c = numbered_cells n (at_end ending) x c
 owned_cells n (more_stmt (stmt place k) rest) ending x c =
     let next : ℕ = n + length (beside k rest ending) + length (inside k) in

@@ -29,11 +29,11 @@ use Rattle.sp_tree.specs.Typing.{Scope, StmtTyped, BodyTyped, with_counters, wit
 use Rattle.sp_tree.specs.PlainProgram.{PlainProgram}
 use Rattle.sp_tree.specs.PlainExpression.{type_of}
 
-slice_streamed : (b : Bool) (r m : ℕ) (spans : List core.PlainSpan) (wide : SparseKind) (lanes : ℕ) (x : PlainNode) → streamed x ≡ [] → streamed (if b then x else sparse wide r m None spans [] lanes) ≡ []
+pub slice_streamed : (b : Bool) (r m : ℕ) (spans : List core.PlainSpan) (wide : SparseKind) (lanes : ℕ) (x : PlainNode) → streamed x ≡ [] → streamed (if b then x else sparse wide r m None spans [] lanes) ≡ []
 slice_streamed true r m spans wide lanes x e = e
 slice_streamed false r m spans wide lanes x e = refl
 
-run_streamed : (ops : List PlainOp) (rest : PlainStages) → streamed_in (run_stage ops rest) ≡ streamed_in rest
+pub run_streamed : (ops : List PlainOp) (rest : PlainStages) → streamed_in (run_stage ops rest) ≡ streamed_in rest
 run_streamed [] rest = refl
 run_streamed (op ∷ ops) rest = refl
 
@@ -46,7 +46,7 @@ module _ (mems : List PlainMem) (count : ℕ) where
   bounds_streamed sources r [] rest = refl
   bounds_streamed sources r (e ∷ es) rest = chosen_streamed (is_early e) (into_register mems sources 0 r e) (bound_stages mems sources (suc r) es rest) (bound_stages mems sources r es rest) (streamed_in rest) (bounds_streamed sources (suc r) es rest) (bounds_streamed sources r es rest)
 
-  early_streamed : (sources : Sources) (r : ℕ) (k : PlainStmtKind) (rest : PlainStages) → streamed_in (early_stages mems sources r k rest) ≡ streamed_in rest
+  pub early_streamed : (sources : Sources) (r : ℕ) (k : PlainStmtKind) (rest : PlainStages) → streamed_in (early_stages mems sources r k rest) ≡ streamed_in rest
   early_streamed sources r (load_sram sram dram spans) rest = chosen_streamed (is_early_slice spans) (slice_ops mems sources (is_early_part spans) 0 r (parts_of spans)) rest rest (streamed_in rest) refl refl
   early_streamed sources r (load_line line dram spans) rest = chosen_streamed (is_early_slice spans) (slice_ops mems sources (is_early_part spans) 0 r (parts_of spans)) rest rest (streamed_in rest) refl refl
   early_streamed sources r (store dram spans sram) rest = chosen_streamed (is_early_slice spans) (slice_ops mems sources (is_early_part spans) 0 r (parts_of spans)) rest rest (streamed_in rest) refl refl
@@ -65,7 +65,7 @@ module _ (mems : List PlainMem) (count : ℕ) where
   early_streamed sources r (fsm start tested test state body last next) rest = refl
   early_streamed sources r (branch test first second) rest = refl
 
-  last_streamed : (run : Run) (n : ℕ) (ending : Ending) (c : Combines) → streamed_in (last_stages mems count run n ending c) ≡ []
+  pub last_streamed : (run : Run) (n : ℕ) (ending : Ending) (c : Combines) → streamed_in (last_stages mems count run n ending c) ≡ []
   last_streamed run n ending (reduces_elements part acc begun comb) = run_streamed run.ops (more_stage 0 0 true (element_loop mems count (expressions.dims mems part) part acc begun (expressions.mem mems part).ty comb) no_stage)
   last_streamed run n no_more nothing = run_streamed run.ops no_stage
   last_streamed run n no_more (folds acc comb e) = run_streamed run.ops no_stage
@@ -77,7 +77,7 @@ module _ (mems : List PlainMem) (count : ℕ) where
   last_streamed run n (in_last_run x) (folds acc comb e) = run_streamed (run.ops ++ (next_code mems run x).ops ++ write_op (type_of x) n ((next_code mems run x).word ∷ []) ∷ []) (combination_stage mems count (alone 0 (read_op (type_of x) n [])) (folds acc comb e))
   last_streamed run n (in_last_run x) (reduces acc begun comb e) = run_streamed (run.ops ++ (next_code mems run x).ops ++ write_op (type_of x) n ((next_code mems run x).word ∷ []) ∷ []) (combination_stage mems count (alone 0 (read_op (type_of x) n [])) (reduces acc begun comb e))
 
-  inner_streamed : (sources : Sources) (loops : List PlainCounter) (body : PlainStmts) (c : Combines) → streamed (inner_node mems count sources loops body c) ≡ []
+  pub inner_streamed : (sources : Sources) (loops : List PlainCounter) (body : PlainStmts) (c : Combines) → streamed (inner_node mems count sources loops body c) ≡ []
   inner_streamed sources loops body nothing = refl
   inner_streamed sources loops body (folds acc comb e) = refl
   inner_streamed sources loops body (reduces acc begun comb e) = refl
