@@ -34,8 +34,6 @@ use Rattle.sp_sugar.specs.Agreement.{HasMemories, Apart}
 use Rattle.sp_sugar.specs.Core.{core_of}
 use Rattle.sp_sugar.specs.Numbers.{mem_number, written_mems}
 use Rattle.sp_sugar.specs.Registers.{registers_in}
-use Rattle.sp_sugar.specs.Runs.{no_run}
-use Rattle.sp_sugar.specs.Stages.{nothing, stages}
 use Rattle.sp_sugar.specs.Uses.{no_more}
 use Rattle.sp_sugar.specs.Values.{no_sources}
 use Rattle.sp_sugar.proofs.MemoryLemmas.{chip_mem}
@@ -50,11 +48,11 @@ use Rattle.sp_same.proofs.Renewed.{in_either}
 use Rattle.sp_same.proofs.Turns.{turn_falls}
 use Rattle.sp_same.proofs.Whole.{begin_alike, put_out_alike}
 use Rattle.sp_bodies.specs.Bodies.{HaveRoomsAlike, AreDeclared}
-use Rattle.sp_outcomes.specs.Covered.{AreCovered}
 use Rattle.sp_outcomes.specs.Laws.{IsProgramFollowed}
 use Rattle.sp_bodies.proofs.Owned.{apart_drop}
 use Rattle.sp_outcomes.proofs.Recursion.{body_by, stages_followed}
-use Rattle.sp_outcomes.proofs.Streamed.{stages_streamed, body_streamed, none_roomy}
+use Rattle.sp_outcomes.proofs.Rooms.{AreAlike, AreOn, core_among, core_there, tree_among, tree_there, same_tests, stream_fifos, body_alone_alike}
+use Rattle.sp_outcomes.proofs.Unput.{puts, idle, idle_declared, used_or_idle, puts_seen, same_all, same_room}
 
 contains_count : (xs : List ℕ) (m : ℕ) → Contains xs m → 1 ≤ count_of m xs
 contains_count [] m c = absurd (omega (arith, c.1))
@@ -125,7 +123,7 @@ port_holds Dram ds c e = tt
 port_holds ArgIn ds c e = tt
 port_holds ArgOut ds c e = tt
 
-module _ (p : PlainProgram) (h : IsProgram p) (covered : AreCovered p.mems (length p.counters) p.body) where
+module _ (p : PlainProgram) (h : IsProgram p) where
   memories : HasMemories p (core_of p)
   unfolding core_of
   memories = record { declared = h.declarations; others = registers_in p.body no_more; mems = refl; ports = refl }
@@ -133,19 +131,25 @@ module _ (p : PlainProgram) (h : IsProgram p) (covered : AreCovered p.mems (leng
   abbrev first : ℕ
   first = length (written_mems p.mems)
 
+  -- those that have more room in the core
   abbrev roomy : List ℕ
-  roomy = roomy_in p.mems p.body
+  roomy = stream_fifos p.mems p.body
 
-  root_streamed : core_declarations.streamed (core_of p).root ≡ []
+  on_chip : AreOn p (mems_declared p.body)
+  on_chip m c = let d = declared_is p h m (contains_count (mems_declared p.body) m c) in (d.0, off_dram p h m d.1)
+
+  root_alike : AreAlike p (core_declarations.streamed (core_of p).root) roomy
   unfolding core_of
-  root_streamed = body_streamed p.mems (length p.counters) no_sources first [] Pipe p.body no_more nothing (stages p.mems (length p.counters) (no_run no_sources) first p.body no_more nothing) refl (stages_streamed p p.body (outer_scope p) h.typed covered (no_run no_sources) first no_more nothing)
+  root_alike = body_alone_alike p no_sources first p.body (outer_scope p) h.typed on_chip (omega arith)
 
   rooms : HaveRoomsAlike p roomy (core_of p)
   rooms m lt is =
       let off = ap (λ (k : Kind). not (is_dram k)) is in
-      ap (λ l. if core_declarations.is_among (mem_number p.mems m) l then max (core_declarations.depth (core_of p) (mem_number p.mems m)) 65536 else core_declarations.depth (core_of p) (mem_number p.mems m)) root_streamed
-      ∙ ap (λ (x : core_tree.PlainMem). word_count x.dims) (chip_mem p (core_of p) memories m lt off)
-      ∙ ap (λ l. if is_among m l then max (word_count (expressions.dims p.mems m)) 65536 else word_count (expressions.dims p.mems m)) (sym (none_roomy p p.body covered))
+      let n : ℕ = mem_number p.mems m in
+      let all : List ℕ = core_declarations.streamed (core_of p).root in
+      let same : core_declarations.is_among n all ≡ is_among m roomy = same_tests _ _ (λ e. tree_among m roomy ((root_alike m is).0 (core_there n all e))) (λ e. core_among n all ((root_alike m is).1 (tree_there m roomy e))) in
+      ap (λ b. if b then max (core_declarations.depth (core_of p) n) 65536 else core_declarations.depth (core_of p) n) same
+      ∙ ap (λ (x : core_tree.PlainMem). if is_among m roomy then max (word_count x.dims) 65536 else word_count x.dims) (chip_mem p (core_of p) memories m lt off)
 
   declared : AreDeclared p (core_of p) first (registers_in p.body no_more)
   unfolding core_of
@@ -161,8 +165,17 @@ module _ (p : PlainProgram) (h : IsProgram p) (covered : AreCovered p.mems (leng
   own : (m : ℕ) → Contains (mems_declared p.body) m → IsOwn p (outer_scope p) m
   own m c = let d = declared_is p h m (contains_count (mems_declared p.body) m c) in record { exists = d.0; on_chip = off_dram p h m d.1; unseen = λ i. true≢false (sym (port_kind m i) ∙ d.1) }
 
-  apart : Apart (mems_declared p.body ++ [])
-  apart = subst Apart (sym (append_nothing (mems_declared p.body))) (apart_drop (port_numbers p) (mems_declared p.body) (subst Apart (sym h.mem_numbers) (apart_below (length p.mems))))
+  apart : Apart (mems_declared p.body)
+  apart = apart_drop (port_numbers p) (mems_declared p.body) (subst Apart (sym h.mem_numbers) (apart_below (length p.mems)))
+
+  -- a FIFO that has more room in the program alone is put into nowhere
+  not_idle : (m : ℕ) → Contains (puts p.body) m → Contains (idle p.mems p.body) m → ⊥
+  not_idle m c i = puts_seen p m p.body (outer_scope p) h.typed c
+      (λ d. true≢false (sym (port_kind m d) ∙ (declared_is p h m (contains_count (mems_declared p.body) m (idle_declared p.mems m p.body i))).1))
+      (λ u. used_or_idle p.mems m p.body apart u i)
+
+  same_body : run_all p.mems (roomy_in p.mems p.body) p.body ≡ run_all p.mems roomy p.body
+  same_body = same_all p.mems (roomy_in p.mems p.body) roomy p.body (λ m c. same_room p.mems m p.body (not_idle m c))
 
   right : (s : program_store.Store) → HoldRightly p (port_numbers p) s
   right s m c = port_holds (expressions.mem p.mems m).kind (expressions.mem p.mems m).dims (s.held m) (port_kind m c)
@@ -175,7 +188,7 @@ module _ (p : PlainProgram) (h : IsProgram p) (covered : AreCovered p.mems (leng
       → NodeGoes p (core_of p) n (first_view p) (core_of p).root (core_meaning.first_store (core_of p) input) after did
   unfolding core_of
   whole_goes n input left rest did after enough goes =
-      body_by p (core_of p) memories h.ports roomy rooms p.body (stages_followed p (core_of p) memories h.ports roomy rooms p.body) n (first_view p) first Pipe refl h.typed (λ v c. none v c) (λ v c. none v c, λ x c k le lt e. none x c) declared own apart (λ m. refl)
+      body_by p (core_of p) memories h.ports roomy rooms p.body (stages_followed p (core_of p) memories h.ports roomy rooms p.body) n (first_view p) first Pipe refl h.typed (λ v c. none v c) (λ v c. none v c, λ x c k le lt e. none x c) declared own (subst Apart (sym (append_nothing (mems_declared p.body))) apart) (λ m. refl)
       (program.first_store p input) after (core_meaning.first_store (core_of p) input) left rest did enough (right (program.first_store p input)) (begin_alike p h input) goes
 
   -- what stands at the end is put out
@@ -191,9 +204,9 @@ module _ (p : PlainProgram) (h : IsProgram p) (covered : AreCovered p.mems (leng
       go (step.faulted kind place) f g = let no : ⊥ = cc in absurd no
       go step.more f g = let no : ⊥ = cc in absurd no
       go (step.went did left s) f g =
-          let b = taken_apart step.turn (λ _. run_all p.mems roomy p.body) n (program.first_store p input) did left s f in
+          let b = taken_apart step.turn (λ _. run_all p.mems (roomy_in p.mems p.body) p.body) n (program.first_store p input) did left s f in
           let fell = turn_falls b.answer n b.between (program.first_store p input) b.store b.first in
-          let x = whole_goes n input b.between left did s (omega (arith, fell.0)) (ap (λ v. run_all p.mems roomy p.body b.between v) (sym fell.1) ∙ b.second) in
+          let x = whole_goes n input b.between left did s (omega (arith, fell.0)) (ap (λ v. run_all p.mems roomy p.body b.between v) (sym fell.1) ∙ ap (λ (run : step.Step (List program_shape.Shape)). run b.between b.store) (sym same_body) ∙ b.second) in
           let put = put_out_alike p h (first_view p) [] s x.after x.agree visible in
           let same_outs : program.out_words p s ≡ outs = cc in
           let same_drams : program.dram_words p s ≡ drams = cc in

@@ -1,14 +1,13 @@
 -- The FIFOs that get more room than their depth are the same in a program and its core: those of proper stream blocks with
 -- stages.
-use Rattle.std.proofs.Common.{◌≡◌, ℕ, zero, suc, ◌+◌, ◌<◌, ◌≤◌, Bool, true, false, not, ◌==◌, ◌||◌, List, [], ◌∷◌, ◌++◌, None, refl, sym, ◌∙◌, ap, subst, arith, if◌then◌else◌}
-use Rattle.std.proofs.lemmas.Bool.{false≢true, true≢false, or_left, or_right, eqb-true, eq-eqb}
-use Rattle.std.specs.Prelude.{length, map, filter, slice_index_or, Contains}
+use Rattle.std.proofs.Common.{◌≡◌, ℕ, zero, suc, ◌+◌, ◌<◌, ◌≤◌, Bool, true, false, not, ◌==◌, ◌||◌, List, [], ◌∷◌, ◌++◌, refl, sym, ◌∙◌, ap, subst, arith, if◌then◌else◌}
+use Rattle.std.proofs.lemmas.Bool.{false≢true, or_left, or_right, eqb-true, eq-eqb}
+use Rattle.std.specs.Prelude.{length, map, filter, Contains}
 use Rattle.sp_words.specs.declared.kind.Kind.TheVariants.{Fifo}
 use Rattle.sp_words.specs.declared.kind.Style.{Style}
 use Rattle.sp_words.specs.declared.kind.Style.TheVariants.{Pipe, Sequential, Parallel, Stream}
 use Rattle.sp_tree.specs.Expressions as expressions
 use Rattle.sp_tree.specs.Meaning.{is_dram}
-use Rattle.sp_tree.specs.PlainExpression.{PlainExpr}
 use Rattle.sp_tree.specs.PlainProgram.{PlainMem, PlainProgram}
 use Rattle.sp_tree.specs.PlainStatement.{PlainStmtKind, PlainStmts, stmt, declare, name, set_reg, set_out, set_sram, enq, load_sram, load_line, store, gather, scatter, block, foreach, reduce, mem_reduce, fsm, branch, no_stmt, more_stmt}
 use Rattle.sp_tree.specs.Streams.{is_fifo, own_fifos, is_proper, fifos_with_room}

@@ -215,7 +215,7 @@ module _ (p : PlainProgram) (core : PlainCore) (h : HasMemories p core) (roomy :
           counts = goes.counts ∙ sym (no_more_counts (counts_in_all (shapes x.answer))) ∙ ap (λ l. counts_in_all (shapes l)) (same_answer (ran_shape (shapes x.answer) ∷ []) did y.between rest y.store after y.second);
         }
 
-of_five : (a b c d e : Bool) → a && b && c && d && e ≡ true → a ≡ true
+pub of_five : (a b c d e : Bool) → a && b && c && d && e ≡ true → a ≡ true
 of_five true b c d e f = refl
 of_five false b c d e f = absurd (false≢true f)
 
