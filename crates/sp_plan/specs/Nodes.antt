@@ -48,3 +48,8 @@ abbrev mutual
   stage_site_at k n streamed (more_stage first last comb node rest) =
       if nat_lt k (node_count node) then site_at k n streamed node
       else stage_site_at (k - node_count node) (n + number_count node) streamed rest
+
+-- the node of a number keeps a rule; there is nothing to keep where there is none
+abbrev pub keeps_at : NodeRule → (node : ℕ) → Option Site → Bool
+keeps_at rule k None = true
+keeps_at rule k (Some site) = rule k site.number site.streamed site.node

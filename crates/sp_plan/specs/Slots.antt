@@ -16,21 +16,20 @@ pub record StageRun : Type 0 where
   pub until : ℕ
   pub first : ℕ
   pub last : ℕ
-  pub comb : Bool
   pub node : PlainNode
 
 abbrev pub no_run : StageRun
-no_run = record { from = 0; until = 0; first = 0; last = 0; comb = false; node = inner [] [] [] None }
+no_run = record { from = 0; until = 0; first = 0; last = 0; node = inner [] [] [] None }
 
 -- by the number of the first one's first operation
 abbrev pub runs_of : (number : ℕ) → PlainStages → List StageRun
 runs_of n no_stage = []
 runs_of n (more_stage first last comb node rest) =
-    record { from = n; until = n + number_count node; first = first; last = last; comb = comb; node = node } ∷ runs_of (n + number_count node) rest
+    record { from = n; until = n + number_count node; first = first; last = last; node = node } ∷ runs_of (n + number_count node) rest
 
--- a combination stands for all lanes
+-- of several lanes, as the combination of a loop with lanes is
 abbrev pub is_of_all : StageRun → Bool
-is_of_all r = r.comb || not (r.first == r.last)
+is_of_all r = not (r.first == r.last)
 
 abbrev pub is_in_lane_0 : StageRun → Bool
 is_in_lane_0 r = not (is_of_all r) && (r.first == 0)
@@ -67,7 +66,7 @@ module _ (runs : List StageRun) where
   abbrev pub each_run : (ℕ → Bool) → Bool
   each_run holds = list_all holds (numbers_below (length runs))
 
-  -- the stages of one lane, and the number of the stage at a place, where a combination is the last one
+  -- the stages of one lane, and the number of the stage at a place: its place in its lane; that of several lanes is the last one
   abbrev pub lane_size : ℕ
   lane_size = length (filter is_in_lane_0 runs)
 

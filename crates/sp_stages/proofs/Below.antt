@@ -34,6 +34,10 @@ pub if_false : (b x y : Bool) → b ≡ false → cond b x y ≡ true → y ≡ 
 if_false true x y e h = cc
 if_false false x y e h = h
 
+pub if_both : (b x y : Bool) → (b ≡ true → x ≡ true) → (b ≡ false → y ≡ true) → cond b x y ≡ true
+if_both true x y h k = h refl
+if_both false x y h k = k refl
+
 pub length-numbers : (n : ℕ) → length (numbers_below n) ≡ n
 length-numbers zero = refl
 length-numbers (suc n) = let h = length-numbers n in length_push (numbers_below n) n ∙ omega arith

@@ -1,17 +1,14 @@
 -- Finest slots of a body, by equal parts, and of the node of a number.
-use Rattle.std.proofs.Common.{◌≡◌, ℕ, ◌+◌, Bool, true, false, List, Some, Result, Ok, Err, IfOk, length, ap, sym, subst, ◌∙◌}
+use Rattle.std.proofs.Common.{◌≡◌, ℕ, ◌+◌, Bool, true, false, List, Some, Result, Ok, Err, IfOk, sym, subst}
 use Rattle.sp_core.specs.declared.access.Meet.{Meet}
 use Rattle.sp_core.specs.Declarations.{is_stream}
-use Rattle.std.proofs.lemmas.List.{length-map}
-use Rattle.sp_core.specs.Elements.{numbers_below}
 use Rattle.sp_core.specs.Numbering.{counters_size}
 use Rattle.sp_core.specs.PlainCore.{PlainCounter, PlainStages, outer, PlainCore}
 use Rattle.sp_plan.specs.Nodes.{Site, site_at}
-use Rattle.sp_plan.specs.Slots.{StageRun, runs_of, stage_of}
-use Rattle.sp_stages.specs.Divided.{is_joined, slot_of, slots_of}
-use Rattle.sp_stages.specs.Finest.{AreFinestSlots}
+use Rattle.sp_plan.specs.Slots.{StageRun, runs_of}
+use Rattle.sp_stages.specs.Divided.{slots_of}
+use Rattle.sp_stages.specs.Finest.{are_in_place, AreFinestSlots}
 use Rattle.sp_stages.specs.Plans.{AreFinestIn, AreFinestOf, AreFinestAt, AreFinestSlotsOf}
-use Rattle.sp_stages.proofs.Below.{length-numbers}
 use Rattle.sp_stages.proofs.FinestSlots.{slots_are_finest}
 use Rattle.sp_words.specs.declared.kind.Style.{Style}
 
@@ -19,15 +16,9 @@ pub ok_like : {A E : Type 0} (P Q : A → Type 0) → ((x : A) → P x → Q x) 
 ok_like P Q h (Ok x) p = h x p
 ok_like P Q h (Err e) p = tt
 
-slots_of-length : (core : PlainCore) (meets : List Meet) (counters : List PlainCounter) (style : Style) (owned : List ℕ) (runs : List StageRun) → length (slots_of core meets counters style owned runs) ≡ length runs
-slots_of-length core meets counters style owned runs = length-map (numbers_below (length runs)) (λ p. slot_of (is_joined core meets counters style owned runs) (stage_of runs p)) ∙ length-numbers (length runs)
-
-pub finest_in : (core : PlainCore) (meets : List Meet) (b : Bool) (counters : List PlainCounter) (style : Style) (owned : List ℕ) (runs : List StageRun) (slots : List ℕ) → b ≡ false → slots ≡ slots_of core meets counters style owned runs → AreFinestIn core meets b counters style owned runs slots
-finest_in core meets true counters style owned runs slots e is = absurd (cc)
-finest_in core meets false counters style owned runs slots e is = (
-  ap length is ∙ (slots_of-length core meets counters style owned runs),
-  λ h. subst (AreFinestSlots core meets counters style owned runs) (sym is) (slots_are_finest core meets counters style owned runs h),
-)
+pub finest_in : (core : PlainCore) (meets : List Meet) (b : Bool) (counters : List PlainCounter) (style : Style) (owned : List ℕ) (runs : List StageRun) (slots : List ℕ) → b ≡ false → are_in_place runs ≡ true → slots ≡ slots_of core meets counters style owned runs → AreFinestIn core meets b counters style owned runs slots
+finest_in core meets true counters style owned runs slots e h is = absurd (cc)
+finest_in core meets false counters style owned runs slots e h is = subst (AreFinestSlots core meets counters style owned runs) (sym is) (slots_are_finest core meets counters style owned runs h)
 
 pub same_body : (core : PlainCore) (style : Style) (slots : List ℕ) (m : List Meet) (n : List Meet) (c d : List PlainCounter) (o p : List ℕ) (r s : List StageRun) → m ≡ n → c ≡ d → o ≡ p → r ≡ s → AreFinestIn core m (is_stream style) c style o r slots → AreFinestIn core n (is_stream style) d style p s slots
 same_body core style slots m n c d o p r s em ec eo er h =

@@ -9,14 +9,10 @@ use Rattle.sp_core.specs.PlainCore.{PlainCounter, PlainCore}
 use Rattle.sp_plan.specs.Slots.{StageRun, run_at, lane_size, stage_of, is_slot_right, are_slots_right, has_one_slot, is_once, is_pair, is_held, are_held}
 use Rattle.sp_stages.specs.Divided.{are_around, is_over, is_over_any, is_over_end, is_joined, slot_of, slots_of}
 use Rattle.sp_stages.specs.Finest.{are_in_place, AreSlots, AreFinestSlots}
-use Rattle.sp_stages.proofs.Below.{and_parts, and_both, or_cases, or_first, or_second, length-numbers, listed, all_at, all_from, any_from, any_at}
+use Rattle.sp_stages.proofs.Below.{and_parts, and_both, or_cases, or_first, or_second, length-numbers, listed, all_at, all_from, any_from, any_at, if_both}
 use Rattle.sp_stages.proofs.Steps.{ArePlaces, IsAcross, at_most}
 use Rattle.sp_stages.proofs.Places.{of_all, places, steps, one_slot}
 use Rattle.sp_words.specs.declared.kind.Style.{Style}
-
-if_both : (b x y : Bool) → (b ≡ true → x ≡ true) → (b ≡ false → y ≡ true) → cond b x y ≡ true
-if_both true x y h k = h refl
-if_both false x y h k = k refl
 
 any_like : {A : Type 0} (f g : A → Bool) (xs : List A) → ((x : A) → f x ≡ true → g x ≡ true) → list_any f xs ≡ true → list_any g xs ≡ true
 any_like f g [] h e = e

@@ -12,3 +12,6 @@ pub mod LeaderLaws
 pub mod FinestChains
 pub mod Listed
 pub mod ChainsAt
+pub mod InPlace
+pub mod PlacedAt
+pub mod RightPlan

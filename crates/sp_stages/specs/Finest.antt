@@ -5,7 +5,8 @@ use Rattle.sp_core.specs.PlainCore.{PlainCounter, PlainCore}
 use Rattle.sp_plan.specs.Slots.{StageRun, is_of_all, run_at, each_run, lane_size, are_slots_right, are_held, are_chains_right}
 use Rattle.sp_words.specs.declared.kind.Style.{Style}
 
--- the stages of a lane stand next to one another, lane by lane, as many in each as in lane 0; a combination stands last
+-- the stages of a lane stand next to one another, lane by lane, as many in each as in lane 0; one of
+-- several lanes stands last
 abbrev pub is_in_lane : List StageRun → (first place : ℕ) → Bool
 is_in_lane runs first p = nat_le (first * lane_size runs) p && nat_lt p (first * lane_size runs + lane_size runs)
 

@@ -13,7 +13,7 @@ plain_named (Access mem) = named_by mem
 plain_named (Transfer dram mem places) = dram ∷ mem ∷ named_by places
 
 abbrev pub plain_run : Run → StageRun
-plain_run r = record { from = r.from; until = r.until; first = r.first; last = r.last; comb = r.comb; node = plain_node r.node.now }
+plain_run r = record { from = r.from; until = r.until; first = r.first; last = r.last; node = plain_node r.node.now }
 
 -- a stage and the next one are among those that are held together
 abbrev pub covers : (stage : ℕ) → Held → Bool

@@ -1,19 +1,34 @@
--- The finest slots and chains of the node of a number.
-use Rattle.std.specs.Prelude.{◌≡◌, ℕ, ◌+◌, Bool, true, false, IsTrue, List, [], length, Option, Some, None}
+-- The finest slots and chains of the node of a number, and its plan.
+use Rattle.std.specs.Prelude.{◌≡◌, ℕ, ◌+◌, Bool, true, false, IsTrue, List, [], Option, Some, None}
 use Rattle.sp_core.specs.declared.access.Meet.{Meet}
 use Rattle.sp_core.specs.Declarations.{is_stream}
 use Rattle.sp_core.specs.Numbering.{counters_size}
 use Rattle.sp_core.specs.PlainCore.{PlainCounter, PlainNode, outer, PlainCore}
-use Rattle.sp_plan.specs.Nodes.{Site, site_at}
+use Rattle.sp_core.specs.Forms.{PlainForms}
+use Rattle.sp_plan.specs.Nodes.{Site, site_at, keeps_at}
+use Rattle.sp_plan.specs.PlainPlan.{PlainNodePlan, outer_plan, other_plan, PlainPlan, node_plan}
 use Rattle.sp_plan.specs.Slots.{StageRun, runs_of}
-use Rattle.sp_stages.specs.Finest.{are_in_place, AreFinestSlots, AreFinestChains}
+use Rattle.sp_stages.specs.Finest.{AreFinestSlots, AreFinestChains}
+use Rattle.sp_plan.specs.Validity.{kind_rule, slot_rule}
 use Rattle.sp_words.specs.declared.kind.Style.{Style}
 
+abbrev pub is_outer : PlainNode → Bool
+is_outer (outer counters style owned stages) = true
+is_outer node = false
+
+abbrev pub is_outer_at : Option Site → Bool
+is_outer_at None = false
+is_outer_at (Some site) = is_outer site.node
+
+-- the node of a number is an outer body
+abbrev pub is_outer_of : PlainCore → (node : ℕ) → Bool
+is_outer_of core k = is_outer_at (site_at k 0 false core.root)
+
 module _ (core : PlainCore) (meets : List Meet) where
-  -- the slots of a body, one for each stage: the finest where the stages stand in their lanes; of a `Stream` block there are none
+  -- the slots of a body, one for each stage; of a `Stream` block there are none
   abbrev pub AreFinestIn : (stream : Bool) → List PlainCounter → Style → (owned : List ℕ) → List StageRun → (slots : List ℕ) → Type 0
   AreFinestIn true counters style owned runs slots = slots ≡ []
-  AreFinestIn false counters style owned runs slots = (length slots ≡ length runs) × (IsTrue (are_in_place runs) → AreFinestSlots core meets counters style owned runs slots)
+  AreFinestIn false counters style owned runs slots = AreFinestSlots core meets counters style owned runs slots
 
   -- of a node that is no outer body there are none
   abbrev pub AreFinestOf : Site → PlainNode → (slots : List ℕ) → Type 0
@@ -43,3 +58,17 @@ module _ (core : PlainCore) (meets : List Meet) where
 
     abbrev pub AreFinestChainsOf : (node : ℕ) → (chains : List ℕ) → Type 0
     AreFinestChainsOf k chains = AreFinestChainsAt (site_at k 0 false core.root) chains
+
+  -- finest slots, and the finest chains for them; of a node that is no outer body nothing is planned
+  abbrev pub IsFinestBy : (node : ℕ) → (is_outer : Bool) → PlainNodePlan → Type 0
+  IsFinestBy k true (outer_plan slots chains) = AreFinestSlotsOf k slots × AreFinestChainsOf slots k chains
+  IsFinestBy k true _ = ⊥
+  IsFinestBy k false plan = plan ≡ other_plan
+
+  abbrev pub IsFinestPlan : (node : ℕ) → PlainNodePlan → Type 0
+  IsFinestPlan k plan = IsFinestBy k (is_outer_of core k) plan
+
+  -- in each plan with this one of a node, the node keeps the rules of valid plans on kinds, slots and chains
+  pub record IsRightPlan (node : ℕ) (mine : PlainNodePlan) : Type 0 where
+    pub kind : (forms : PlainForms) (plan : PlainPlan) → node_plan plan node ≡ mine → IsTrue (keeps_at (kind_rule core forms meets plan) node (site_at node 0 false core.root))
+    pub slots : (forms : PlainForms) (plan : PlainPlan) → node_plan plan node ≡ mine → IsTrue (keeps_at (slot_rule core forms meets plan) node (site_at node 0 false core.root))

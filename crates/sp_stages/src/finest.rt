@@ -1,9 +1,10 @@
-ghost use Rattle.std.specs.Prelude.{◌≡◌, ℕ, List, ◌≤◌, ◌+◌, ◌^◌, map, IfOk};
+ghost use Rattle.std.specs.Prelude.{◌≡◌, ℕ, IsTrue, List, ◌≤◌, ◌+◌, ◌^◌, map, IfOk};
 ghost use Rattle.sp_core.specs.CoreParts.{plain_core};
 ghost use Rattle.sp_core.specs.Declarations.{is_stream};
 ghost use Rattle.sp_core.specs.Numbering.{node_count_in, number_count_in};
 ghost use Rattle.sp_core.specs.Plain.{plain_counter, plain_stage_list};
 ghost use Rattle.sp_plan.specs.Slots.{runs_of};
+ghost use Rattle.sp_stages.specs.Finest.{are_in_place};
 ghost use Rattle.sp_stages.specs.Plans.{AreFinestIn, AreFinestSlotsOf, AreFinestChainsIn, AreFinestChainsOf};
 
 use crate::NoMemory;
@@ -29,6 +30,7 @@ fn body_slots(
 ) -> Result<Vec<u32>, NoMemory>
     requires numbers { number + number_count_in (plain_stage_list stages.now) ≤ 2 ^ 30 }
     requires nodes { node_count_in (plain_stage_list stages.now) ≤ 2 ^ 30 }
+    requires in_place { IsTrue (are_in_place (runs_of number (plain_stage_list stages.now))) }
     ensures { IfOk result (λ slots. AreFinestIn (plain_core core.now) meets.now (is_stream style) (map plain_counter counters.now) style owned.now (runs_of number (plain_stage_list stages.now)) slots.items) }
 {
     if is_stream(style) {

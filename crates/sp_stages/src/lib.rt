@@ -9,6 +9,7 @@ mod laws;
 mod leaders;
 mod names;
 mod pairs;
+mod planned;
 mod runs;
 #[cfg(test)]
 mod tests;
@@ -17,6 +18,7 @@ pub use examples::{worked_chains, worked_places, worked_slots};
 pub use finest::{chains, slots};
 pub use laws::{
     chains_by_leaders_are_finest, divided_slots_are_finest, finest_chains_are_right,
-    finest_slots_are_right,
+    finest_plans_are_right, finest_slots_are_right, stages_are_in_place,
 };
+pub use planned::stages;
 pub use std::alloc::AllocError as NoMemory;

@@ -18,7 +18,6 @@ pub(crate) struct Run<'a> {
     pub until: u32,
     pub first: u32,
     pub last: u32,
-    pub comb: bool,
     pub node: &'a Node,
 }
 
@@ -40,7 +39,6 @@ pub(crate) fn runs_of<'a>(
             until,
             first: stage.first,
             last: stage.last,
-            comb: stage.comb,
             node: &stage.node,
         })?;
         from = until;
@@ -56,11 +54,11 @@ pub(crate) fn run_at<'a>(runs: &[Run<'a>], p: usize) -> Run<'a>
     runs[p]
 }
 
-/// Whether it is of all lanes, as a combination is.
+/// Whether it is of several lanes, as the combination of a loop with lanes is.
 pub(crate) fn is_of_all(run: Run) -> bool
     ensures { result ≡ is_of_all (plain_run run.entry) }
 {
-    run.comb || run.first != run.last
+    run.first != run.last
 }
 
 pub(crate) fn is_within(run: Run, number: u32) -> bool
@@ -82,7 +80,7 @@ pub(crate) fn lane_size(runs: &[Run]) -> usize
     count
 }
 
-/// The number of the stage at a place, in its lane; a combination is the last one.
+/// The number of the stage at a place, in its lane; that of several lanes is the last one.
 pub(crate) fn stage_of(runs: &[Run], lane: usize, p: usize) -> usize
     requires place { p < length runs.now }
     requires lane { lane ≡ lane_size (map plain_run runs.now) }

@@ -23,6 +23,6 @@ returns c =
     let pipe : is_stream c.args.style ≡ false = sym c.is_stream.ensures ∙ c.if-is_stream.false in
     let runs : map plain_run c.deref-2.result.now ≡ runs_of c.args.number (plain_stage_list c.args.stages.now) = ap (map plain_run) c.deref-2.ensures.value ∙ c.in_ok-runs.ensures in
     ok_like _ _
-    (λ slots e. finest_in (plain_core c.args.core.now) c.args.meets.now (is_stream c.args.style) (map plain_counter c.args.counters.now) c.args.style c.args.owned.now (runs_of c.args.number (plain_stage_list c.args.stages.now)) slots.items pipe
+    (λ slots e. finest_in (plain_core c.args.core.now) c.args.meets.now (is_stream c.args.style) (map plain_counter c.args.counters.now) c.args.style c.args.owned.now (runs_of c.args.number (plain_stage_list c.args.stages.now)) slots.items pipe c.requires.in_place
     (e ∙ ap (slots_of (plain_core c.args.core.now) c.args.meets.now (map plain_counter c.args.counters.now) c.args.style c.args.owned.now) runs))
     c.slots_of.result c.slots_of.ensures

@@ -8,6 +8,8 @@ use Rattle.sp_plan.specs.Slots.{runs_of}
 use Rattle.sp_plan.proofs.Trees.{plain_outer}
 use Rattle.sp_stages.proofs.FinestAt.{ok_like, same_body, finest_at}
 use Rattle.sp_stages.proofs.Sizes.{small, site_within}
+use Rattle.sp_stages.specs.Finest.{are_in_place}
+use Rattle.sp_stages.proofs.PlacedAt.{placed_at}
 use Rattle.sp_stages.proofs.finest.slots.Goals as goal
 
 pub site_at-requires-clause-numbers : goal.site_at-requires-clause-numbers
@@ -48,6 +50,15 @@ body_slots-requires-clause-nodes c =
     let nodes = ap node_count (ap plain_node c.in-Outer.is ∙ plain_outer c.in-Outer.counters c.in-Outer.style c.in-Outer.owned c.in-Outer.stages) in
     let stages = ap (λ xs. node_count_in (plain_stage_list xs)) c.deref-in-Outer-3.ensures.value in
     omega (arith, within.1, nodes, stages)
+
+pub body_slots-requires-clause-in_place : goal.body_slots-requires-clause-in_place
+body_slots-requires-clause-in_place c =
+    let at = ap (λ x. site_at c.args.node 0 false (plain_node x)) (sym c.root.ensures.root) ∙ sym c.site_at.ensures ∙ ap plain_site c.in-Some.is in
+    let is = ap plain_node c.in-Outer.is ∙ plain_outer c.in-Outer.counters c.in-Outer.style c.in-Outer.owned c.in-Outer.stages in
+    let size = c.counters_size.ensures ∙ ap (λ xs. counters_size (map plain_counter xs)) c.deref.ensures.value in
+    let runs = ap (λ x. runs_of (c.in-Some.site.number + x) (plain_stage_list c.deref-in-Outer-3.result.now)) size
+    ∙ ap (λ xs. runs_of (c.in-Some.site.number + counters_size (map plain_counter c.in-Outer.counters.items)) (plain_stage_list xs)) c.deref-in-Outer-3.ensures.value in
+    ap are_in_place runs ∙ placed_at (plain_core c.args.core.now) c.root.ensures.core c.args.node _ _ _ _ _ at is
 
 pub returns-in-Outer : goal.returns-in-Outer
 returns-in-Outer c =
