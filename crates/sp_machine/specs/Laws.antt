@@ -1,0 +1,19 @@
+-- Laws of timelines, as statements.
+use Rattle.std.specs.Prelude.{◌≡◌, ℕ, List, map}
+use Rattle.sp_core.specs.Events.{Standing, Moment, moments}
+use Rattle.sp_core.specs.History.{History}
+use Rattle.sp_core.specs.PlainCore.{PlainNode, PlainCore}
+use Rattle.sp_core.specs.Scope.{in_lanes}
+use Rattle.sp_plan.specs.PlainPlan.{PlainPlan}
+use Rattle.sp_machine.specs.Stamps.{Stamped, Copies}
+use Rattle.sp_machine.specs.Timeline.{timed}
+use Rattle.sp_machine.specs.Transfers.{Delays}
+
+-- what is told, without its cycles and copies
+abbrev pub told : List Stamped → List Moment
+told events = map (λ s. s.moment) events
+
+-- a timeline tells what happens in the run, all of it and nothing else, in the order of the text
+abbrev pub TellsAll : PlainCore → PlainPlan → Delays → PlainNode → Type 0
+TellsAll core plan delays node =
+    (k n : ℕ) (st : Standing) (copies : Copies) (h : History) → told (timed core plan delays node k n st copies h).events ≡ moments core in_lanes node k n st h

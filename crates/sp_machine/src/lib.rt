@@ -1,0 +1,8 @@
+//! When what happens in a run of a core happens, by the numbers of a plan.
+#![tactic(auto)]
+
+mod examples;
+mod laws;
+
+pub use examples::{worked_lengths, worked_parts, worked_timelines};
+pub use laws::timelines_tell_all;
