@@ -43,7 +43,7 @@ use Rattle.sp_same.specs.Following.{SourcesSeen, AreSpare, IsOwn, NodeGoes, alon
 use Rattle.sp_same.proofs.InnerBodies as inner
 use Rattle.sp_same.proofs.LoopNodes.{no_more_counts}
 use Rattle.sp_same.proofs.Renewed.{in_either}
-use Rattle.sp_same.proofs.Values.{Each, each_both}
+use Rattle.sp_same.proofs.Values.{Each, each_both, each_map}
 use Rattle.sp_bodies.specs.Bodies.{HaveRoomsAlike, AreDeclared, AreStagesFollowed}
 use Rattle.sp_bodies.proofs.BodyNodes.{Ran, begun as first_store, owned, node_goes, ran_plainly}
 use Rattle.sp_bodies.proofs.BodyStarts.{renewed, all_fresh}
@@ -108,10 +108,6 @@ owned_cells n (more_stmt (stmt place k) rest) ending x c =
 each_in : {A : Type 0} (P : A → Type 0) (xs : List A) → ((x : A) → Contains xs x → P x) → Each P xs
 each_in P [] f = tt
 each_in P (x ∷ xs) f = (f x (0, omega arith, refl), each_in P xs (λ y c. f y (suc c.0, omega (arith, c.1), c.2)))
-
-each_mapped : {A B : Type 0} (P : B → Type 0) (f : A → B) (xs : List A) → Each (λ x. P (f x)) xs → Each P (map f xs)
-each_mapped P f [] e = tt
-each_mapped P f (x ∷ xs) e = (e.0, each_mapped P f xs e.1)
 
 -- of those that pass a test
 passing : {A : Type 0} (P : A → Type 0) (test : A → Bool) (xs : List A) → Each P (filter test xs) → (x : A) → Contains xs x → test x ≡ true → P x
@@ -179,7 +175,7 @@ module _ (p : PlainProgram) (core : PlainCore) (h : HasMemories p core) (roomy :
         none_holds x (in_back (map (mem_number p.mems) (own_mems body)) (owned_registers n body no_more) x c) (λ e. false≢true (ap is_fifo (sym added.is_kind ∙ e)))
 
     all_hold : Each Holds its_owned
-    all_hold = each_both Holds (map (mem_number p.mems) (own_mems body)) (owned_registers n body no_more) (each_mapped Holds (mem_number p.mems) (own_mems body) (each_in (λ m. Holds (mem_number p.mems m)) (own_mems body) mem_holds)) (each_in Holds (owned_registers n body no_more) register_holds)
+    all_hold = each_both Holds (map (mem_number p.mems) (own_mems body)) (owned_registers n body no_more) (each_map Holds (mem_number p.mems) (own_mems body) (each_in (λ m. Holds (mem_number p.mems m)) (own_mems body) mem_holds)) (each_in Holds (owned_registers n body no_more) register_holds)
 
     stages_go : NodeGoes p core most view (outer [] Stream its_owned whole) t after did
     stages_go =
