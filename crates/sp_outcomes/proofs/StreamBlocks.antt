@@ -3,8 +3,7 @@
 use Rattle.std.proofs.Common.{◌≡◌, ℕ, zero, suc, ◌+◌, ◌≤◌, Bool, true, false, ◌&&◌, List, [], ◌∷◌, ◌++◌, Option, refl, sym, ◌∙◌, ap, subst, arith, nat_le, if◌then◌else◌}
 use Rattle.std.proofs.lemmas.Bool.{false≢true, le-leb}
 use Rattle.std.specs.Prelude.{length, map, filter, Contains}
-use Rattle.sp_words.specs.declared.kind.Kind.{Kind}
-use Rattle.sp_words.specs.declared.kind.Kind.TheVariants.{Reg, Sram, Fifo, LineBuf, Dram, ArgIn, ArgOut}
+use Rattle.sp_words.specs.declared.kind.Kind.TheVariants.{Fifo}
 use Rattle.sp_words.specs.declared.kind.Style.{Style}
 use Rattle.sp_words.specs.declared.kind.Style.TheVariants.{Pipe, Sequential, Parallel, Stream}
 use Rattle.sp_words.specs.Interface.{word_count}
@@ -119,15 +118,6 @@ passing {A = A} P test (y ∷ xs) e x c t = go (test y) refl e c (λ f d. passin
     go true is f (suc j, lt, same) more = more f.1 (j, omega (arith, lt), same)
     go false is f (zero, lt, same) more = absurd (false≢true (sym is ∙ ap test same ∙ t))
     go false is f (suc j, lt, same) more = more f (j, omega (arith, lt), same)
-
-fifo_kind : (k : Kind) → is_fifo k ≡ true → k ≡ Fifo
-fifo_kind Fifo e = refl
-fifo_kind Reg e = absurd (false≢true e)
-fifo_kind Sram e = absurd (false≢true e)
-fifo_kind LineBuf e = absurd (false≢true e)
-fifo_kind Dram e = absurd (false≢true e)
-fifo_kind ArgIn e = absurd (false≢true e)
-fifo_kind ArgOut e = absurd (false≢true e)
 
 module _ (p : PlainProgram) (core : PlainCore) (h : HasMemories p core) (roomy : List ℕ) (rooms : HaveRoomsAlike p roomy core) (most : ℕ) (view : View) (body : PlainStmts) (n : ℕ)
     (typed : BodyTyped p view.scope body) (seen : SourcesSeen view.scope view.sources) (own : (m : ℕ) → Contains (mems_declared body) m → IsOwn p view.scope m) (apart : Apart (mems_declared body ++ view.waiting)) (resets : (m : ℕ) → view.resets m ≡ false) (followed : AreStagesFollowed p roomy core body)
