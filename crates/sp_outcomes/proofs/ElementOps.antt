@@ -191,10 +191,6 @@ module _ (p : PlainProgram) (core : PlainCore) (h : HasMemories p core) (scope :
           (ap (λ l. done_by core around kind.Write ty (Some n) l g.after) step_again.1 ∙ ws.0) ws.1 in
           record { all = x.all; after = x.after; goes = x.goes; long = omega (arith, x.long, indices_length p c D (read + 3)); agree = x.agree; give = tt }
 
-      -- whether it is the last element
-      pub is_last : Bool
-      is_last = are_last D js
-
       step_last : So left5 stored (read + 4 + length D + length last.ops) (last.word ∷ []) (bit (are_last D js) ∷ [])
       step_last =
           let f = follows p core h view (is_last_element c D) (read + 4 + length D) step5.all stored stored step5.after 0 0 (bit (are_last D js)) (sym step5.long) last_typed step5.agree (last_word p 0 stored c D js below have_still) in

@@ -22,4 +22,4 @@ pub mod Empties
 pub mod PutsRight
 pub mod StreamBlocks
 pub mod Rooms
-pub mod Unput
+pub mod IdleFifos

@@ -52,7 +52,7 @@ use Rattle.sp_outcomes.specs.Laws.{IsProgramFollowed}
 use Rattle.sp_bodies.proofs.Owned.{apart_drop}
 use Rattle.sp_outcomes.proofs.Recursion.{body_by, stages_followed}
 use Rattle.sp_outcomes.proofs.Rooms.{AreAlike, AreOn, core_among, core_there, tree_among, tree_there, same_tests, stream_fifos, body_alone_alike}
-use Rattle.sp_outcomes.proofs.Unput.{puts, idle, idle_declared, used_or_idle, puts_seen, same_all, same_room}
+use Rattle.sp_outcomes.proofs.IdleFifos.{puts, idle, idle_declared, used_or_idle, puts_seen, same_all, same_room}
 
 contains_count : (xs : List ℕ) (m : ℕ) → Contains xs m → 1 ≤ count_of m xs
 contains_count [] m c = absurd (omega (arith, c.1))

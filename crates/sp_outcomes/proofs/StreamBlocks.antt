@@ -3,8 +3,7 @@
 use Rattle.std.proofs.Common.{◌≡◌, ℕ, zero, suc, ◌+◌, ◌≤◌, Bool, true, false, ◌&&◌, List, [], ◌∷◌, ◌++◌, Option, refl, sym, ◌∙◌, ap, subst, arith, nat_le, if◌then◌else◌}
 use Rattle.std.proofs.lemmas.Bool.{false≢true, le-leb}
 use Rattle.std.specs.Prelude.{length, map, filter, Contains}
-use Rattle.sp_words.specs.declared.kind.Kind.{Kind}
-use Rattle.sp_words.specs.declared.kind.Kind.TheVariants.{Reg, Sram, Fifo, LineBuf, Dram, ArgIn, ArgOut}
+use Rattle.sp_words.specs.declared.kind.Kind.TheVariants.{Fifo}
 use Rattle.sp_words.specs.declared.kind.Style.{Style}
 use Rattle.sp_words.specs.declared.kind.Style.TheVariants.{Pipe, Sequential, Parallel, Stream}
 use Rattle.sp_words.specs.Interface.{word_count}
@@ -43,7 +42,7 @@ use Rattle.sp_same.specs.Following.{SourcesSeen, AreSpare, IsOwn, NodeGoes, alon
 use Rattle.sp_same.proofs.InnerBodies as inner
 use Rattle.sp_same.proofs.LoopNodes.{no_more_counts}
 use Rattle.sp_same.proofs.Renewed.{in_either}
-use Rattle.sp_same.proofs.Values.{Each, each_both}
+use Rattle.sp_same.proofs.Values.{Each, each_both, each_map}
 use Rattle.sp_bodies.specs.Bodies.{HaveRoomsAlike, AreDeclared, AreStagesFollowed}
 use Rattle.sp_bodies.proofs.BodyNodes.{Ran, begun as first_store, owned, node_goes, ran_plainly}
 use Rattle.sp_bodies.proofs.BodyStarts.{renewed, all_fresh}
@@ -109,10 +108,6 @@ each_in : {A : Type 0} (P : A → Type 0) (xs : List A) → ((x : A) → Contain
 each_in P [] f = tt
 each_in P (x ∷ xs) f = (f x (0, omega arith, refl), each_in P xs (λ y c. f y (suc c.0, omega (arith, c.1), c.2)))
 
-each_mapped : {A B : Type 0} (P : B → Type 0) (f : A → B) (xs : List A) → Each (λ x. P (f x)) xs → Each P (map f xs)
-each_mapped P f [] e = tt
-each_mapped P f (x ∷ xs) e = (e.0, each_mapped P f xs e.1)
-
 -- of those that pass a test
 passing : {A : Type 0} (P : A → Type 0) (test : A → Bool) (xs : List A) → Each P (filter test xs) → (x : A) → Contains xs x → test x ≡ true → P x
 passing P test [] e x c t = absurd (omega (arith, c.1))
@@ -123,15 +118,6 @@ passing {A = A} P test (y ∷ xs) e x c t = go (test y) refl e c (λ f d. passin
     go true is f (suc j, lt, same) more = more f.1 (j, omega (arith, lt), same)
     go false is f (zero, lt, same) more = absurd (false≢true (sym is ∙ ap test same ∙ t))
     go false is f (suc j, lt, same) more = more f (j, omega (arith, lt), same)
-
-fifo_kind : (k : Kind) → is_fifo k ≡ true → k ≡ Fifo
-fifo_kind Fifo e = refl
-fifo_kind Reg e = absurd (false≢true e)
-fifo_kind Sram e = absurd (false≢true e)
-fifo_kind LineBuf e = absurd (false≢true e)
-fifo_kind Dram e = absurd (false≢true e)
-fifo_kind ArgIn e = absurd (false≢true e)
-fifo_kind ArgOut e = absurd (false≢true e)
 
 module _ (p : PlainProgram) (core : PlainCore) (h : HasMemories p core) (roomy : List ℕ) (rooms : HaveRoomsAlike p roomy core) (most : ℕ) (view : View) (body : PlainStmts) (n : ℕ)
     (typed : BodyTyped p view.scope body) (seen : SourcesSeen view.scope view.sources) (own : (m : ℕ) → Contains (mems_declared body) m → IsOwn p view.scope m) (apart : Apart (mems_declared body ++ view.waiting)) (resets : (m : ℕ) → view.resets m ≡ false) (followed : AreStagesFollowed p roomy core body)
@@ -179,7 +165,7 @@ module _ (p : PlainProgram) (core : PlainCore) (h : HasMemories p core) (roomy :
         none_holds x (in_back (map (mem_number p.mems) (own_mems body)) (owned_registers n body no_more) x c) (λ e. false≢true (ap is_fifo (sym added.is_kind ∙ e)))
 
     all_hold : Each Holds its_owned
-    all_hold = each_both Holds (map (mem_number p.mems) (own_mems body)) (owned_registers n body no_more) (each_mapped Holds (mem_number p.mems) (own_mems body) (each_in (λ m. Holds (mem_number p.mems m)) (own_mems body) mem_holds)) (each_in Holds (owned_registers n body no_more) register_holds)
+    all_hold = each_both Holds (map (mem_number p.mems) (own_mems body)) (owned_registers n body no_more) (each_map Holds (mem_number p.mems) (own_mems body) (each_in (λ m. Holds (mem_number p.mems m)) (own_mems body) mem_holds)) (each_in Holds (owned_registers n body no_more) register_holds)
 
     stages_go : NodeGoes p core most view (outer [] Stream its_owned whole) t after did
     stages_go =

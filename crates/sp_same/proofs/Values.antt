@@ -21,7 +21,7 @@ pub each_both : {A : Type 0} (P : A → Type 0) (xs ys : List A) → Each P xs �
 each_both P [] ys a b = b
 each_both P (x ∷ xs) ys a b = (a.0, each_both P xs ys a.1 b)
 
-each_map : {A B : Type 0} (P : B → Type 0) (f : A → B) (xs : List A) → Each (λ x. P (f x)) xs → Each P (map f xs)
+pub each_map : {A B : Type 0} (P : B → Type 0) (f : A → B) (xs : List A) → Each (λ x. P (f x)) xs → Each P (map f xs)
 each_map P f [] a = tt
 each_map P f (x ∷ xs) a = (a.0, each_map P f xs a.1)
 
