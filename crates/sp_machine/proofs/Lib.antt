@@ -1,1 +1,3 @@
+pub mod Beats
+pub mod Costs
 pub mod Told

@@ -5,4 +5,4 @@ mod examples;
 mod laws;
 
 pub use examples::{worked_lengths, worked_parts, worked_timelines};
-pub use laws::timelines_tell_all;
+pub use laws::{runs_keep_to_their_cost, timelines_tell_all};
