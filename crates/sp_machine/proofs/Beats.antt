@@ -1,8 +1,8 @@
 -- The beats of an outer body take no longer than they cost.
-use Rattle.std.proofs.Common.{◌≡◌, ℕ, zero, suc, ◌+◌, ◌-◌, ◌*◌, ◌<◌, ◌≤◌, Bool, true, false, cond, List, [], ◌∷◌, length, max, nat_le, nat_lt, inl, inr, arith, refl, sym, subst, ap, ◌∙◌, le-leb}
+use Rattle.std.proofs.Common.{◌≡◌, ℕ, zero, suc, ◌+◌, ◌-◌, ◌<◌, ◌≤◌, Bool, true, false, cond, List, [], ◌∷◌, length, nat_le, nat_lt, inl, inr, arith, refl, sym, subst, ap, ◌∙◌, le-leb}
 use Rattle.std.proofs.lemmas.Bool.{cases_order, and_from, and_parts, eq-eqb, eqb-true, leb-true, ltb-false, ne_eqb}
-use Rattle.std.specs.Prelude.{◌==◌, ◌&&◌, slice_index, slice_index_or}
-use Rattle.sp_core.specs.Cost.{sum_below, greatest_below, greatest_of, cost_at, is_chain, is_at_work, work, chain_cost, beat_cost, beat_count, beats_cost}
+use Rattle.std.specs.Prelude.{◌==◌, ◌&&◌, slice_index}
+use Rattle.sp_core.specs.Cost.{sum_below, greatest_below, greatest_of, cost_at, is_chain, work, chain_cost, beat_cost, beat_count, beats_cost}
 use Rattle.sp_time.specs.Beats as beats
 use Rattle.sp_time.specs.Beats.{Slot, slot_at, is_slot, offset, ends, beat, begins, whole}
 use Rattle.sp_time.specs.Lists.{total, greatest}

@@ -1,5 +1,5 @@
 -- A run takes no longer than its cost by the plan's numbers, where no transfer waits longer than a delay.
-use Rattle.std.proofs.Common.{◌≡◌, ℕ, zero, suc, ◌+◌, ◌-◌, ◌*◌, ◌<◌, ◌≤◌, Bool, true, false, ℤ, List, [], ◌∷◌, map, length, max, arith, refl, sym, subst, ap, ◌∙◌}
+use Rattle.std.proofs.Common.{◌≡◌, ℕ, zero, suc, ◌+◌, ◌*◌, ◌≤◌, true, false, ℤ, List, [], ◌∷◌, length, max, arith, refl, sym, subst, ◌∙◌}
 use Rattle.std.proofs.lemmas.Bool.{true≢false}
 use Rattle.std.proofs.Math.Nat.{mul-suc, mul-le-mul_right}
 use Rattle.std.specs.Prelude.{slice_index, slice_index_or}
@@ -8,17 +8,17 @@ use Rattle.sp_words.specs.declared.kind.Style.TheVariants.{Pipe, Sequential, Par
 use Rattle.sp_core.specs.Cost as cost
 use Rattle.sp_core.specs.Cost.{group_count, waits, cost_at, beats_cost, inner_cost, list_cost, transfer_cost, outer_cost, cost, group_costs, stage_costs, turns_cost}
 use Rattle.sp_core.specs.Declarations.{is_stream}
-use Rattle.sp_core.specs.Events.{At, Standing, inside_at, before, in_group_of, in_turn}
-use Rattle.sp_core.specs.History.{Entry, last_word, History, Groups, Runs, Turns, inner_ran, outer_ran, fsm_ran, branch_ran, moved, picked, no_group, more_group, no_run, masked_run, more_run, no_turn, more_turn}
+use Rattle.sp_core.specs.Events.{At, Standing, inside_at, in_group_of, in_turn}
+use Rattle.sp_core.specs.History.{Entry, History, Groups, Runs, Turns, inner_ran, outer_ran, fsm_ran, branch_ran, moved, no_group, more_group, no_run, masked_run, more_run, no_turn, more_turn}
 use Rattle.sp_core.specs.Numbering.{counters_size, node_count, number_count}
-use Rattle.sp_core.specs.PlainCore.{PlainOp, PlainNode, PlainStages, inner, outer, fsm, branch, load, store, sparse, no_stage, more_stage, PlainCore}
+use Rattle.sp_core.specs.PlainCore.{PlainOp, PlainNode, PlainStages, inner, outer, fsm, branch, load, store, no_stage, more_stage, PlainCore}
 use Rattle.sp_core.specs.Scope.{in_lanes, loops_of, group_values}
 use Rattle.sp_core.specs.Shape.{shape_of, group_shapes, stage_shapes, body_shapes}
 use Rattle.sp_plan.specs.PlainPlan.{PlainNodePlan, inner_plan, outer_plan, other_plan, PlainPlan, node_plan}
-use Rattle.sp_time.specs.Beats.{Run, run_at, took_at, no_time, whole}
+use Rattle.sp_time.specs.Beats.{Run, took_at, no_time, whole}
 use Rattle.sp_time.specs.Lists.{total}
-use Rattle.sp_machine.specs.Stamps.{Stamped, Copies, ◌▸◌, inside_of, list_run, kept_run}
-use Rattle.sp_machine.specs.Timeline.{timed, group_runs, stage_runs, turn_runs, in_copies, slots_of, masked_stage, inner_took, interval_of, latency_of}
+use Rattle.sp_machine.specs.Stamps.{Stamped, Copies}
+use Rattle.sp_machine.specs.Timeline.{timed, group_runs, stage_runs, turn_runs, in_copies, slots_of, inner_took, interval_of, latency_of}
 use Rattle.sp_machine.specs.Told.{plan_timings, timing_of, HasSlots, IsPlanned, ArePlanned, IsCounted, AreCounted, RunsCounted, TurnsCounted}
 use Rattle.sp_machine.specs.Transfers.{Delays, transfer_took}
 use Rattle.sp_machine.proofs.Beats.{whole_under}
@@ -109,6 +109,7 @@ module _ (core : PlainCore) (plan : PlainPlan) (delays : Delays) (d : ℕ) (wait
 
   mutual
     unfolding timed group_runs stage_runs turn_runs cost group_costs stage_costs turns_cost shape_of group_shapes stage_shapes body_shapes
+
     pub node_under : (node : PlainNode) (k n : ℕ) (st : Standing) (copies : Copies) (h : History) → IsPlanned plan k node → IsCounted node h → (timed core plan delays node k n st copies h).took ≤ costs_of node k h
     node_under (inner counters owned ops comb) k n st copies (inner_ran bs counts groups) p c = inner_under core plan d (length groups) (group_count counters counts) (node_plan plan k) c
     node_under (outer counters style owned stages) k n st copies (outer_ran bs counts groups) p c =

@@ -1,9 +1,9 @@
 -- What a timeline needs to keep to the cost: a plan with a slot and a chain for each stage of each outer body, no `Stream`
 -- block and no sparse transfer, and a history with no more groups than its counts say.
-use Rattle.std.specs.Prelude.{◌≡◌, ℕ, suc, ◌+◌, ◌≤◌, false, true, List, length}
+use Rattle.std.specs.Prelude.{◌≡◌, ℕ, suc, ◌+◌, ◌≤◌, false, true, length}
 use Rattle.sp_core.specs.Cost.{Timing, Timings, inner_timing, outer_timing, no_timing, group_count}
 use Rattle.sp_core.specs.Declarations.{is_stream}
-use Rattle.sp_core.specs.History.{History, Groups, Runs, Turns, inner_ran, outer_ran, fsm_ran, branch_ran, no_group, more_group, no_run, masked_run, more_run, no_turn, more_turn}
+use Rattle.sp_core.specs.History.{History, Groups, Runs, Turns, inner_ran, outer_ran, fsm_ran, branch_ran, no_group, more_group, masked_run, more_run, no_turn, more_turn}
 use Rattle.sp_core.specs.Numbering.{node_count}
 use Rattle.sp_core.specs.PlainCore.{PlainNode, PlainStages, inner, outer, fsm, branch, sparse, no_stage, more_stage}
 use Rattle.sp_plan.specs.PlainPlan.{PlainNodePlan, inner_plan, outer_plan, other_plan, PlainPlan, node_plan}
