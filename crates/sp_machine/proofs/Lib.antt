@@ -1,1 +1,5 @@
+pub mod Beats
+pub mod Costs
+pub mod CountedRuns
+pub mod GroupCounts
 pub mod Told

@@ -1,6 +1,7 @@
 -- The timeline of a run: what happens in it, and in which cycles, by the numbers of a plan. Cycle 0 of a part is the one in
 -- which it is started; a part that takes so many cycles lets the next one start that much later. A `Stream` block is told
--- as if its stages were one chain, and a gather, a scatter or a wide transfer as if it were done in its first cycle.
+-- as if its stages were one chain, and a gather, a scatter or a wide
+-- transfer as if it were done at once: theirs are still to be said.
 use Rattle.std.specs.Prelude.{ℕ, zero, suc, ◌+◌, ◌*◌, ◌%◌, min, true, false, ℤ, List, [], ◌∷◌, ◌++◌, map, flat_map, length, fold, slice_index, if◌then◌else◌}
 use Rattle.sp_core.specs.Declarations.{is_among}
 use Rattle.sp_core.specs.Events.{Standing, inside_at, before, in_group_of, in_turn, renews, bounds_moments, spans_moments, renewal_in_body, moments}
@@ -122,7 +123,7 @@ module _ (core : PlainCore) (plan : PlainPlan) (delays : Delays) where
       took = transfer_took (delays k st.path) (length words);
       events = stamped copies 0 (spans_moments n st spans taken) ++ store_run (delays k st.path) core copies (n + spans_size spans) st r m (map part_of taken) words;
     }
-    timed node k n st copies h = record { took = 2; events = stamped copies 0 (moments core in_lanes node k n st h) }
+    timed node k n st copies h = record { took = 0; events = stamped copies 0 (moments core in_lanes node k n st h) }
 
     -- the runs of an outer's stages, group by group; one whose lanes are all masked takes 2 cycles
     pub group_runs : PlainStages → (node n g : ℕ) → Standing → (owned : List ℕ) → Copies → List (List ℤ) → Groups → List (List (Run Stamped))

@@ -1,11 +1,27 @@
 //! Laws of timelines. Each function does nothing: what it ensures is the law.
 
+ghost use Rattle.std.specs.Prelude.{ℕ};
 ghost use Rattle.sp_core.specs.PlainCore.{PlainCore, PlainNode};
-ghost use Rattle.sp_machine.specs.Laws.{TellsAll};
+ghost use Rattle.sp_machine.specs.Laws.{EndsInCost, GivesCounted, KeepsToCost, TellsAll};
 ghost use Rattle.sp_machine.specs.Transfers.{Delays};
 ghost use Rattle.sp_plan.specs.PlainPlan.{PlainPlan};
 
 /// A timeline tells what happens in a run, all of it and nothing else, whatever the plan and the delays are.
 pub fn timelines_tell_all()
     ensures { (core : PlainCore) (plan : PlainPlan) (delays : Delays) (node : PlainNode) → TellsAll core plan delays node }
+{}
+
+/// Where no transfer waits longer than a delay, a run takes no longer than it costs by the plan's numbers.
+pub fn runs_keep_to_their_cost()
+    ensures { (core : PlainCore) (plan : PlainPlan) (delays : Delays) (delay : ℕ) (node : PlainNode) → KeepsToCost core plan delays delay node }
+{}
+
+/// The history of a run has no more groups than its counts say.
+pub fn histories_are_counted()
+    ensures { (core : PlainCore) (node : PlainNode) → GivesCounted core node }
+{}
+
+/// A run of a core ends within its cost, where no transfer waits longer than a delay and the plan has a slot for each stage.
+pub fn cores_end_in_their_cost()
+    ensures { (core : PlainCore) (plan : PlainPlan) (delays : Delays) (delay : ℕ) → EndsInCost core plan delays delay }
 {}
