@@ -2,4 +2,6 @@ pub mod Beats
 pub mod Costs
 pub mod CountedRuns
 pub mod GroupCounts
+pub mod InBeats
 pub mod Told
+pub mod Within

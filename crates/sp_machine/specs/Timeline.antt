@@ -2,7 +2,7 @@
 -- which it is started; a part that takes so many cycles lets the next one start that much later. A `Stream` block is told
 -- as if its stages were one chain, and a gather, a scatter or a wide
 -- transfer as if it were done at once: theirs are still to be said.
-use Rattle.std.specs.Prelude.{ℕ, zero, suc, ◌+◌, ◌*◌, ◌%◌, min, true, false, ℤ, List, [], ◌∷◌, ◌++◌, map, flat_map, length, fold, slice_index, if◌then◌else◌}
+use Rattle.std.specs.Prelude.{ℕ, zero, suc, ◌+◌, ◌*◌, ◌%◌, min, true, false, ℤ, List, [], ◌∷◌, ◌++◌, map, flat_map, length, slice_index, if◌then◌else◌}
 use Rattle.sp_core.specs.Declarations.{is_among}
 use Rattle.sp_core.specs.Events.{Standing, inside_at, before, in_group_of, in_turn, renews, bounds_moments, spans_moments, renewal_in_body, moments}
 use Rattle.sp_core.specs.History.{Entry, last_word, History, Groups, Runs, Turns, inner_ran, outer_ran, fsm_ran, branch_ran, moved, more_group, masked_run, more_run, no_turn, more_turn}
@@ -51,7 +51,8 @@ masked_stage = record { took = 2; events = [] }
 
 abbrev pub least : List ℕ → ℕ
 least [] = 0
-least (n ∷ ns) = fold min n ns
+least (n ∷ []) = n
+least (n ∷ m ∷ ns) = min n (least (m ∷ ns))
 
 module _ (core : PlainCore) (plan : PlainPlan) (delays : Delays) where
   -- in a group a memory that the loop owns is in the copy of that group's number, around and around

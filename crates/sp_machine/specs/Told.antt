@@ -8,6 +8,7 @@ use Rattle.sp_core.specs.Numbering.{node_count}
 use Rattle.sp_core.specs.PlainCore.{PlainNode, PlainStages, inner, outer, fsm, branch, sparse, no_stage, more_stage}
 use Rattle.sp_plan.specs.PlainPlan.{PlainNodePlan, inner_plan, outer_plan, other_plan, PlainPlan, node_plan}
 use Rattle.sp_plan.specs.Validity.{stage_count}
+use Rattle.sp_time.specs.Lists.{Each}
 
 -- the numbers of a plan by which runs cost
 abbrev pub timing_of : PlainNodePlan → Timing
@@ -57,3 +58,20 @@ abbrev mutual
   pub TurnsCounted : PlainNode → Turns → Type 0
   TurnsCounted body no_turn = Unit {0}
   TurnsCounted body (more_turn es h ns rest) = IsCounted body h × TurnsCounted body rest
+
+-- no operation of an inner body begins later than its latency
+abbrev pub AreTimesKept : PlainNodePlan → Type 0
+AreTimesKept (inner_plan times ii latency serial) = Each (λ t. t ≤ latency) times
+AreTimesKept _ = Unit {0}
+
+abbrev mutual
+  pub IsKept : PlainPlan → (node : ℕ) → PlainNode → Type 0
+  IsKept plan k (inner counters owned ops comb) = AreTimesKept (node_plan plan k)
+  IsKept plan k (outer counters style owned stages) = AreKept plan (suc k) stages
+  IsKept plan k (fsm start state test body next) = IsKept plan (suc k) body
+  IsKept plan k (branch test first second) = IsKept plan (suc k) first × IsKept plan (suc k + node_count first) second
+  IsKept plan k _ = Unit {0}
+
+  pub AreKept : PlainPlan → (node : ℕ) → PlainStages → Type 0
+  AreKept plan k no_stage = Unit {0}
+  AreKept plan k (more_stage first last comb node rest) = IsKept plan k node × AreKept plan (k + node_count node) rest

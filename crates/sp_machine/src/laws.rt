@@ -1,8 +1,8 @@
 //! Laws of timelines. Each function does nothing: what it ensures is the law.
 
 ghost use Rattle.std.specs.Prelude.{ℕ};
-ghost use Rattle.sp_core.specs.PlainCore.{PlainCore, PlainNode};
-ghost use Rattle.sp_machine.specs.Laws.{EndsInCost, GivesCounted, KeepsToCost, TellsAll};
+ghost use Rattle.sp_core.specs.PlainCore.{PlainCore, PlainNode, PlainStages};
+ghost use Rattle.sp_machine.specs.Laws.{EndsInCost, GivesCounted, HappensWithin, KeepsToCost, TellsAll, WorksInBeats};
 ghost use Rattle.sp_machine.specs.Transfers.{Delays};
 ghost use Rattle.sp_plan.specs.PlainPlan.{PlainPlan};
 
@@ -24,4 +24,14 @@ pub fn histories_are_counted()
 /// A run of a core ends within its cost, where no transfer waits longer than a delay and the plan has a slot for each stage.
 pub fn cores_end_in_their_cost()
     ensures { (core : PlainCore) (plan : PlainPlan) (delays : Delays) (delay : ℕ) → EndsInCost core plan delays delay }
+{}
+
+/// What happens in a run happens within it.
+pub fn runs_happen_within()
+    ensures { (core : PlainCore) (plan : PlainPlan) (delays : Delays) (node : PlainNode) → HappensWithin core plan delays node }
+{}
+
+/// In beat b a stage of slot g does all of group b - g: after the beat's first cycle, and before that of the next beat.
+pub fn stages_work_in_beats()
+    ensures { (core : PlainCore) (plan : PlainPlan) (delays : Delays) (stages : PlainStages) → WorksInBeats core plan delays stages }
 {}
