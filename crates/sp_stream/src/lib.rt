@@ -5,6 +5,8 @@ mod block;
 mod examples;
 mod fifos;
 mod stages;
+#[cfg(test)]
+mod tests;
 
 pub use block::proper;
 pub use examples::{worked_blocks_are_cores, worked_broken_blocks, worked_proper_blocks};
