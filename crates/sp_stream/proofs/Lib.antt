@@ -1,0 +1,4 @@
+pub mod BlockLemmas
+pub mod Sizes
+pub mod StageLemmas
+pub mod Ways

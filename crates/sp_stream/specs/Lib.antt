@@ -1,0 +1,4 @@
+pub mod ExampleStreams
+pub mod Parts
+pub mod Proper
+pub mod Search

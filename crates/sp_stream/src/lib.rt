@@ -1,0 +1,12 @@
+//! Stream blocks of a core: which of them are proper.
+#![tactic(auto)]
+
+mod block;
+mod examples;
+mod fifos;
+mod stages;
+#[cfg(test)]
+mod tests;
+
+pub use block::proper;
+pub use examples::{worked_blocks_are_cores, worked_broken_blocks, worked_proper_blocks};
