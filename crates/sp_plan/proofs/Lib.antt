@@ -4,3 +4,4 @@ pub mod SiteLemmas
 pub mod Trees
 pub mod Turns
 pub mod UsedNames
+pub mod RunLists

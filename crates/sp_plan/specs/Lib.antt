@@ -8,6 +8,7 @@ pub mod Orders
 pub mod Plain
 pub mod PlainPlan
 pub mod Ports
+pub mod Runs
 pub mod Sites
 pub mod Slots
 pub mod Validity

@@ -48,7 +48,7 @@ lane_count lanes n (more_stage first last comb node rest) h = count_from (λ g. 
   others = runs_of (n + number_count node) rest
 
   here : StageRun
-  here = record { from = n; until = n + number_count node; first = first; last = last; node = node }
+  here = record { from = n; until = n + number_count node; first = first; last = last }
 
   count_from : (AreEnded lanes rest → lane_size others ≡ count_zeros (single_lanes rest)) → (b : Bool) → (first == last) ≡ b → lane_size (here ∷ others) ≡ count_zeros (single_lanes (more_stage first last comb node rest))
   count_from more true e =

@@ -1,19 +1,13 @@
 -- The plain values of what the stages of an outer body are and name.
 use Rattle.std.specs.Prelude.{ℕ, nat_le, nat_lt, Bool, ◌&&◌, List, ◌∷◌}
-use Rattle.sp_core.specs.Plain.{plain_node}
 use Rattle.sp_plan.specs.Named.{named_by}
-use Rattle.sp_plan.specs.Slots.{StageRun}
 use Rattle.sp_stages.specs.declared.names.Named.{Named}
 use Rattle.sp_stages.specs.declared.names.Named.TheVariants.{Access, Transfer}
 use Rattle.sp_stages.specs.declared.pairs.Held.{Held}
-use Rattle.sp_stages.specs.declared.runs.Run.{Run}
 
 abbrev pub plain_named : Named → List ℕ
 plain_named (Access mem) = named_by mem
 plain_named (Transfer dram mem places) = dram ∷ mem ∷ named_by places
-
-abbrev pub plain_run : Run → StageRun
-plain_run r = record { from = r.from; until = r.until; first = r.first; last = r.last; node = plain_node r.node.now }
 
 -- a stage and the next one are among those that are held together
 abbrev pub covers : (stage : ℕ) → Held → Bool

@@ -1,68 +1,18 @@
 //! The chains of an outer body, whose stages have slots.
 
 ghost use Rattle.std.specs.Prelude.{◌≡◌, ℕ, ◌<◌, ◌≤◌, ◌^◌, if◌then◌else◌, ◌+◌, [], map, length, slice_index, IfOk};
-ghost use Rattle.std.specs.List.{list_any};
 ghost use Rattle.sp_core.specs.CoreParts.{plain_core};
 ghost use Rattle.sp_core.specs.Plain.{plain_counter};
-ghost use Rattle.sp_plan.specs.Slots.{share_lane, is_meeting, is_parallel_block};
 ghost use Rattle.sp_stages.specs.Chains.{AreListed, merged, after_links, is_link, leaders, leads_in, chain_number, chains_of};
-ghost use Rattle.sp_stages.specs.Parts.{plain_run};
+ghost use Rattle.sp_plan.specs.Runs.{plain_run};
 
 use crate::NoMemory;
-use crate::dividing::is_once;
 use crate::leaders::{merge, own_leaders};
-use crate::pairs::least_of;
-use crate::runs::{Run, is_within, run_at};
+use crate::runs::run_at;
 use sp_core::{Core, CoreCounter, Meet};
+use sp_plan::{Run, are_joined, is_parallel_block, number_at};
 use sp_words::Style;
 use std::alloc::Global;
-
-fn is_parallel_block(counters: &[CoreCounter], style: Style) -> bool
-    ensures { result ≡ is_parallel_block (map plain_counter counters.now) style }
-{
-    match style {
-        Style::Parallel => is_once(counters),
-        _ => false,
-    }
-}
-
-fn share_lane(a: Run, b: Run) -> bool
-    ensures { result ≡ share_lane (plain_run a.entry) (plain_run b.entry) }
-{
-    a.first <= b.last && b.first <= a.last
-}
-
-/// Whether the accesses of a meet are of two runs and may meet in one group.
-fn is_meeting(core: &Core, runs: &[Run], p: usize, q: usize, meet: Meet) -> bool
-    requires p { p < length runs.now }
-    requires q { q < length runs.now }
-    ensures { result ≡ is_meeting (map plain_run runs.now) [] [] (plain_core core.now) p q meet }
-{
-    (is_within(run_at(runs, p), meet.first) && is_within(run_at(runs, q), meet.second))
-        && least_of(core, meet) == 0
-}
-
-fn are_meeting(core: &Core, runs: &[Run], p: usize, q: usize, meets: &[Meet]) -> bool
-    requires p { p < length runs.now }
-    requires q { q < length runs.now }
-    ensures { result ≡ list_any (is_meeting (map plain_run runs.now) [] [] (plain_core core.now) p q) meets.now }
-{
-    for meet in meets {
-        if is_meeting(core, runs, p, q, *meet) {
-            return true;
-        }
-    }
-    false
-}
-
-fn slot_at(slots: &[u32], p: usize) -> u32
-    ensures { result ≡ slice_index slots.now p }
-{
-    match slots.get(p) {
-        Some(slot) => *slot,
-        None => 0,
-    }
-}
 
 /// Whether a run and a later one are of one slot and are joined.
 fn is_link(
@@ -78,9 +28,8 @@ fn is_link(
     requires q { q < length runs.now }
     ensures { result ≡ is_link (plain_core core.now) meets.now parallel (map plain_run runs.now) slots.now p q }
 {
-    (p < q && slot_at(slots, p) == slot_at(slots, q))
-        && ((!parallel && share_lane(run_at(runs, p), run_at(runs, q)))
-            || are_meeting(core, runs, p, q, meets))
+    (p < q && number_at(slots, p) == number_at(slots, q))
+        && are_joined(core, parallel, run_at(runs, p), run_at(runs, q), meets)
 }
 
 /// The leaders after the link of two runs, if they have one.
@@ -147,7 +96,7 @@ fn leads_in(slots: &[u32], leaders: &[usize], slot: u32, r: usize) -> bool
     requires { r < length leaders.now }
     ensures { result ≡ leads_in slots.now (λ k. slice_index leaders.now k) slot r }
 {
-    leaders[r] == r && slot_at(slots, r) == slot
+    leaders[r] == r && number_at(slots, r) == slot
 }
 
 fn counted(count: u32, leads: bool) -> u32
@@ -164,7 +113,7 @@ fn chain_number(slots: &[u32], leaders: &[usize], p: usize) -> u32
     requires few { length leaders.now ≤ 2 ^ 30 }
     ensures { (leader : ℕ → ℕ) → AreListed leader leaders.now → result ≡ chain_number slots.now leader p }
 {
-    let slot = slot_at(slots, p);
+    let slot = number_at(slots, p);
     let mut count = 0;
     for r in 0..leaders[p] {
         count = counted(count, leads_in(slots, leaders, slot, r));

@@ -6,34 +6,18 @@ ghost use Rattle.sp_core.specs.CoreParts.{plain_core};
 ghost use Rattle.sp_core.specs.Elements.{numbers_below};
 ghost use Rattle.sp_core.specs.Plain.{plain_counter};
 ghost use Rattle.sp_plan.specs.Named.{names};
-ghost use Rattle.sp_plan.specs.Slots.{is_once, has_one_slot};
 ghost use Rattle.sp_stages.specs.Divided.{slot_of, slots_of};
-ghost use Rattle.sp_stages.specs.Parts.{plain_named, plain_run, covers};
+ghost use Rattle.sp_plan.specs.Runs.{plain_run};
+ghost use Rattle.sp_stages.specs.Parts.{plain_named, covers};
 
 use crate::NoMemory;
 use crate::names::Named;
 use crate::pairs::{Held, is_covered, pairs};
-use crate::runs::{Run, lane_size, stage_of};
+use crate::runs::{lane_size, stage_of};
 use sp_core::{Core, CoreCounter, Meet};
+use sp_plan::{Run, has_one_slot, is_once};
 use sp_words::Style;
 use std::alloc::Global;
-
-pub(crate) fn is_once(counters: &[CoreCounter]) -> bool
-    ensures { result ≡ is_once (map plain_counter counters.now) }
-{
-    counters.is_empty()
-}
-
-/// Whether all stages have one slot, as those of a `Sequential` loop and of a `Parallel` block.
-fn has_one_slot(counters: &[CoreCounter], style: Style) -> bool
-    ensures { result ≡ has_one_slot (map plain_counter counters.now) style }
-{
-    match style {
-        Style::Parallel => is_once(counters),
-        Style::Sequential => !is_once(counters),
-        _ => false,
-    }
-}
 
 /// The slot of the next stage.
 fn next_slot(slot: u32, joined: bool) -> u32

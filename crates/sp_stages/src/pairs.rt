@@ -3,16 +3,17 @@
 ghost use Rattle.std.specs.Prelude.{◌≡◌, ℕ, ◌<◌, ◌||◌, [], map, length, IfOk, OnOk};
 ghost use Rattle.std.specs.List.{list_any};
 ghost use Rattle.sp_core.specs.CoreParts.{plain_core};
-ghost use Rattle.sp_core.specs.Meeting.{least_of};
 ghost use Rattle.sp_plan.specs.Named.{names};
 ghost use Rattle.sp_plan.specs.Slots.{lane_size, is_pair};
 ghost use Rattle.sp_stages.specs.Divided.{is_over, is_over_any, is_over_end};
-ghost use Rattle.sp_stages.specs.Parts.{plain_named, plain_run, covers};
+ghost use Rattle.sp_plan.specs.Runs.{plain_run};
+ghost use Rattle.sp_stages.specs.Parts.{plain_named, covers};
 
 use crate::NoMemory;
 use crate::names::{Named, share_other};
-use crate::runs::{Run, is_within, run_at, stage_of};
+use crate::runs::{run_at, stage_of};
 use sp_core::{Core, Meet};
+use sp_plan::{Run, is_within, least_of};
 use std::alloc::Global;
 
 /// Stages from one on up to another that are held together.
@@ -20,18 +21,6 @@ use std::alloc::Global;
 pub(crate) struct Held {
     pub begin: usize,
     pub end: usize,
-}
-
-/// The least distance of a meet; 0 is 1 for a second access that doesn't stand after the first.
-pub(crate) fn least_of(core: &Core, meet: Meet) -> u64
-    ensures { result ≡ least_of (plain_core core.now) [] meet }
-{
-    let _core = core;
-    if meet.least == 0 && meet.second <= meet.first {
-        1
-    } else {
-        meet.least
-    }
 }
 
 /// Whether a meet holds a run and one of an earlier stage together.

@@ -3,7 +3,7 @@ use Rattle.sp_core.specs.CoreParts.{plain_core}
 use Rattle.sp_core.specs.Plain.{plain_counter}
 use Rattle.sp_plan.specs.Slots.{is_parallel_block}
 use Rattle.sp_stages.specs.Chains.{is_link, leaders, chain_number}
-use Rattle.sp_stages.specs.Parts.{plain_run}
+use Rattle.sp_plan.specs.Runs.{plain_run}
 use Rattle.sp_stages.proofs.Listed.{leader_least, listed_like}
 use Rattle.sp_stages.proofs.Numbered.{pushed_number}
 use Rattle.sp_stages.proofs.chaining.chains_of.Goals as goal

@@ -2,7 +2,7 @@ use Rattle.std.proofs.Common.{◌≡◌, map, length, ◌∙◌, arith}
 use Rattle.std.proofs.lemmas.List.{length-map}
 use Rattle.sp_core.specs.CoreParts.{plain_core}
 use Rattle.sp_stages.specs.Chains.{leaders_before, is_link}
-use Rattle.sp_stages.specs.Parts.{plain_run}
+use Rattle.sp_plan.specs.Runs.{plain_run}
 use Rattle.sp_stages.proofs.Listed.{own_listed, run_listed, all_listed}
 use Rattle.sp_stages.proofs.chaining.leaders.Goals as goal
 

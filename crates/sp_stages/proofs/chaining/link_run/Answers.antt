@@ -1,7 +1,7 @@
 use Rattle.std.proofs.Common.{◌≡◌, map, length, subst, ◌∙◌, arith}
 use Rattle.sp_core.specs.CoreParts.{plain_core}
 use Rattle.sp_stages.specs.Chains.{AreListed, after_links, is_link}
-use Rattle.sp_stages.specs.Parts.{plain_run}
+use Rattle.sp_plan.specs.Runs.{plain_run}
 use Rattle.sp_stages.proofs.Listed.{link_listed}
 use Rattle.sp_stages.proofs.chaining.link_run.Goals as goal
 

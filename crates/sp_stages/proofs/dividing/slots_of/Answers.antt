@@ -7,8 +7,9 @@ use Rattle.sp_core.specs.Elements.{numbers_below}
 use Rattle.sp_core.specs.Plain.{plain_counter}
 use Rattle.sp_plan.specs.Slots.{stage_of}
 use Rattle.sp_stages.specs.Divided.{is_joined, slot_of}
-use Rattle.sp_stages.specs.declared.runs.Run.{Run}
-use Rattle.sp_stages.specs.Parts.{plain_run, covers}
+use Rattle.sp_plan.specs.declared.runs.Run.{Run}
+use Rattle.sp_plan.specs.Runs.{plain_run}
+use Rattle.sp_stages.specs.Parts.{covers}
 use Rattle.sp_stages.proofs.Below.{length-numbers}
 use Rattle.sp_stages.proofs.Numbered.{pushed_number, stage_few, slot_found, joined_like}
 use Rattle.sp_stages.proofs.dividing.slots_of.Goals as goal

@@ -4,7 +4,7 @@ use Rattle.sp_core.specs.Elements.{numbers_below}
 use Rattle.sp_core.specs.Plain.{plain_counter}
 use Rattle.sp_plan.specs.Slots.{stage_of}
 use Rattle.sp_stages.specs.Divided.{is_joined, slot_of}
-use Rattle.sp_stages.specs.Parts.{plain_run}
+use Rattle.sp_plan.specs.Runs.{plain_run}
 use Rattle.sp_stages.proofs.dividing.slots_of.Given as goal
 
 abbrev pub invariant-loop-p : goal.invariant-loop-p

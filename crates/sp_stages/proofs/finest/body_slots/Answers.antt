@@ -5,7 +5,7 @@ use Rattle.sp_core.specs.Declarations.{is_stream}
 use Rattle.sp_core.specs.Plain.{plain_counter, plain_stage_list}
 use Rattle.sp_plan.specs.Slots.{runs_of}
 use Rattle.sp_stages.specs.Divided.{slots_of}
-use Rattle.sp_stages.specs.Parts.{plain_run}
+use Rattle.sp_plan.specs.Runs.{plain_run}
 use Rattle.sp_stages.proofs.FinestAt.{ok_like, finest_in}
 use Rattle.sp_stages.proofs.Sizes.{few_runs}
 use Rattle.sp_stages.proofs.finest.body_slots.Goals as goal

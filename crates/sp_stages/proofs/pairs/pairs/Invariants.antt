@@ -2,7 +2,8 @@ use Rattle.std.proofs.Common.{◌≡◌, ℕ, map, take}
 use Rattle.std.specs.List.{list_any}
 use Rattle.sp_core.specs.CoreParts.{plain_core}
 use Rattle.sp_stages.specs.Divided.{is_over_end}
-use Rattle.sp_stages.specs.Parts.{plain_run, covers}
+use Rattle.sp_plan.specs.Runs.{plain_run}
+use Rattle.sp_stages.specs.Parts.{covers}
 use Rattle.sp_stages.proofs.pairs.pairs.Given as goal
 
 abbrev pub invariant-loop-meet : goal.invariant-loop-meet

@@ -2,7 +2,7 @@ use Rattle.std.proofs.Common.{◌≡◌, map, length, arith}
 use Rattle.std.proofs.lemmas.List.{length-map}
 use Rattle.sp_core.specs.CoreParts.{plain_core}
 use Rattle.sp_stages.specs.Divided.{is_over_any}
-use Rattle.sp_stages.specs.Parts.{plain_run}
+use Rattle.sp_plan.specs.Runs.{plain_run}
 use Rattle.sp_stages.proofs.Covering.{found_more, found_all}
 use Rattle.sp_stages.proofs.pairs.push_pairs.Goals as goal
 

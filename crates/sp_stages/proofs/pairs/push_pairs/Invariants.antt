@@ -3,7 +3,8 @@ use Rattle.std.specs.List.{list_any}
 use Rattle.sp_core.specs.CoreParts.{plain_core}
 use Rattle.sp_core.specs.Elements.{numbers_below}
 use Rattle.sp_stages.specs.Divided.{is_over_any}
-use Rattle.sp_stages.specs.Parts.{plain_run, covers}
+use Rattle.sp_plan.specs.Runs.{plain_run}
+use Rattle.sp_stages.specs.Parts.{covers}
 use Rattle.sp_stages.proofs.pairs.push_pairs.Given as goal
 
 abbrev pub invariant-loop-p : goal.invariant-loop-p

@@ -3,7 +3,7 @@ use Rattle.std.proofs.lemmas.List.{length-map}
 use Rattle.sp_core.specs.CoreParts.{plain_core}
 use Rattle.sp_plan.specs.Slots.{is_within, run_at}
 use Rattle.sp_stages.specs.Divided.{is_over}
-use Rattle.sp_stages.specs.Parts.{plain_run}
+use Rattle.sp_plan.specs.Runs.{plain_run}
 use Rattle.sp_stages.proofs.Covering.{found_more, found_all, not_within}
 use Rattle.sp_stages.proofs.pairs.push_pairs_of.Goals as goal
 

@@ -2,7 +2,7 @@ use Rattle.std.proofs.Common.{◌≡◌, ◌++◌, ◌+◌, ◌≤◌, ◌^◌, 
 use Rattle.sp_core.specs.Numbering.{number_count_in}
 use Rattle.sp_core.specs.Plain.{plain_stage_list}
 use Rattle.sp_plan.specs.Slots.{runs_of}
-use Rattle.sp_stages.specs.Parts.{plain_run}
+use Rattle.sp_plan.specs.Runs.{plain_run}
 use Rattle.sp_stages.proofs.runs.runs_of.Given as goal
 
 abbrev pub invariant-loop-stage : goal.invariant-loop-stage
