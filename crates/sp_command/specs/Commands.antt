@@ -3,6 +3,7 @@ use Rattle.std.specs.Prelude.{◌≡◌, ℕ, List, [], ◌∷◌, codes}
 
 pub data Command : Type 0 where
   check : (program : List ℕ) → Command
+  format : (program : List ℕ) → Command
   compile : (program : List ℕ) → Command
   verilog : (program : List ℕ) → Command
   simulate : (listing setup : List ℕ) → Command
@@ -16,6 +17,7 @@ IsFileWord (c ∷ rest) = c ≡ 45 → ⊥
 -- the words are that command
 abbrev pub IsCommand : List (List ℕ) → Command → Type 0
 IsCommand said (check program) = (said ≡ codes "check" ∷ program ∷ []) × IsFileWord program
+IsCommand said (format program) = (said ≡ codes "format" ∷ program ∷ []) × IsFileWord program
 IsCommand said (compile program) = (said ≡ codes "compile" ∷ program ∷ []) × IsFileWord program
 IsCommand said (verilog program) = (said ≡ codes "verilog" ∷ program ∷ []) × IsFileWord program
 IsCommand said (simulate listing setup) = (said ≡ codes "simulate" ∷ listing ∷ setup ∷ []) × IsFileWord listing × IsFileWord setup

@@ -12,6 +12,8 @@ use std::alloc::Global;
 pub enum Command<'a> {
     /// `check P`: whether program P is one of the language.
     Check { program: &'a str },
+    /// `format P`: the canonical text of program P.
+    Format { program: &'a str },
     /// `compile P`: the listing of the netlist of program P.
     Compile { program: &'a str },
     /// `verilog P`: the Verilog text of that netlist.
@@ -31,6 +33,7 @@ fn row_of(said: Said<'_>) -> Option<Command<'_>>
     let program = said.first;
     match (said.verb, said.second) {
         ("check", None) => Some(Command::Check { program }),
+        ("format", None) => Some(Command::Format { program }),
         ("compile", None) => Some(Command::Compile { program }),
         ("verilog", None) => Some(Command::Verilog { program }),
         ("simulate", Some(setup)) => Some(Command::Simulate {

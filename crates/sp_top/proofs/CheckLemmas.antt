@@ -1,5 +1,5 @@
--- The text of a program under a sure name isn't refused by a check.
-use Rattle.std.proofs.Common.{◌≡◌, ◌≢◌, ◌≤◌, ℕ, List, length, subst}
+-- The text of a program under a sure name isn't refused by `check` or `format`.
+use Rattle.std.proofs.Common.{◌≡◌, ◌≢◌, ◌⊎◌, inl, inr, ◌≤◌, ℕ, List, length, subst}
 use Rattle.sp_edges.specs.Standing.{Standing, Holds}
 use Rattle.sp_edges.specs.Calls.{Call}
 use Rattle.sp_tree.specs.PlainProgram.{PlainProgram}
@@ -9,9 +9,9 @@ use Rattle.sp_source.specs.Texts.{Spells, IsCauseOf}
 use Rattle.sp_top.specs.Status.{PlainStatus, done, words, setup_refused, read_fault, write_fault, memory, listing_refused, conflict, cycles_spent, too_long, unbuilt, source_refused}
 use Rattle.sp_top.specs.Check.{CheckRefuses}
 use Rattle.sp_top.specs.Compile.{longest_program}
-use Rattle.sp_top.specs.Commands.{Command, check, compile, verilog, simulate, waves, IsCommand, MayRefuse, MayEnd, Refuses, NotRefused}
+use Rattle.sp_top.specs.Commands.{Command, check, format, compile, verilog, simulate, waves, IsCommand, MayRefuse, MayEnd, Refuses, NotRefused}
 use Rattle.sp_top.specs.Record.{SinkChange, Records}
-use Rattle.sp_top.proofs.CompleteLemmas.{ends_well, not_check, not_check_verilog, past, same_bytes}
+use Rattle.sp_top.proofs.CompleteLemmas.{ends_well, not_check, not_check_verilog, not_format, not_format_check, not_format_verilog, past, same_bytes}
 
 -- what is used of the texts' laws
 abbrev pub AreNotRefused : Type 0
@@ -20,15 +20,34 @@ AreNotRefused = (text : List ℕ) (p : PlainProgram) (error : SourceError) → S
 one_check : (said : List (List ℕ)) (p q : List ℕ) → IsCommand said (check p) → IsCommand said (check q) → p ≡ q
 one_check said p q first second = let a = first.0 in let b = second.0 in cc
 
--- words that are that command refuse as it does
+one_format : (said : List (List ℕ)) (p q : List ℕ) → IsCommand said (format p) → IsCommand said (format q) → p ≡ q
+one_format said p q first second = let a = first.0 in let b = second.0 in cc
+
+-- one of the two commands that read a program of the whole language
+abbrev pub IsReading : List (List ℕ) → (program : List ℕ) → Type 0
+IsReading said program = IsCommand said (check program) ⊎ IsCommand said (format program)
+
+no_words : (said : List (List ℕ)) (program : List ℕ) → IsReading said program → ((command : Command) → IsCommand said command → ⊥) → ⊥
+no_words said program (inl is) none = none (check program) is
+no_words said program (inr is) none = none (format program) is
+
+-- words that are such a command refuse as it does
 only_check : (said : List (List ℕ)) (told : List ℕ → Standing) (failed : List ℕ → Type 0) (asked : List Call → Type 0) (program : List ℕ) (status : PlainStatus) (command : Command)
-    → IsCommand said (check program) → IsCommand said command → MayRefuse told failed asked command status → CheckRefuses told failed asked program status
-only_check said told failed asked program status (check other) is also refuses =
+    → IsReading said program → IsCommand said command → MayRefuse told failed asked command status → CheckRefuses told failed asked program status
+only_check said told failed asked program status (check other) (inl is) also refuses =
     let P : List ℕ → Type 0 = λ p. CheckRefuses told failed asked p status in subst P (one_check said other program also is) refuses
-only_check said told failed asked program status (compile other) is also refuses = absurd (not_check said program other is also)
-only_check said told failed asked program status (verilog other) is also refuses = absurd (not_check_verilog said program other is also)
-only_check said told failed asked program status (simulate listing setup) is also refuses = let a = is.0 in let b = also.0 in absurd (cc)
-only_check said told failed asked program status (waves listing setup) is also refuses = let a = is.0 in let b = also.0 in absurd (cc)
+only_check said told failed asked program status (check other) (inr is) also refuses = absurd (not_format_check said program other is also)
+only_check said told failed asked program status (format other) (inl is) also refuses = absurd (not_format_check said other program also is)
+only_check said told failed asked program status (format other) (inr is) also refuses =
+    let P : List ℕ → Type 0 = λ p. CheckRefuses told failed asked p status in subst P (one_format said other program also is) refuses
+only_check said told failed asked program status (compile other) (inl is) also refuses = absurd (not_check said program other is also)
+only_check said told failed asked program status (compile other) (inr is) also refuses = absurd (not_format said program other is also)
+only_check said told failed asked program status (verilog other) (inl is) also refuses = absurd (not_check_verilog said program other is also)
+only_check said told failed asked program status (verilog other) (inr is) also refuses = absurd (not_format_verilog said program other is also)
+only_check said told failed asked program status (simulate listing setup) (inl is) also refuses = let a = is.0 in let b = also.0 in absurd (cc)
+only_check said told failed asked program status (simulate listing setup) (inr is) also refuses = let a = is.0 in let b = also.0 in absurd (cc)
+only_check said told failed asked program status (waves listing setup) (inl is) also refuses = let a = is.0 in let b = also.0 in absurd (cc)
+only_check said told failed asked program status (waves listing setup) (inr is) also refuses = let a = is.0 in let b = also.0 in absurd (cc)
 
 module _ (laws : AreNotRefused) (told : List ℕ → Standing) (failed : List ℕ → Type 0) (asked : List Call → Type 0) (program bytes : List ℕ) (plain : PlainProgram) where
   checks : (status : PlainStatus) → (failed program → ⊥) → told program ≡ Holds bytes → length bytes ≤ longest_program → Spells bytes plain
@@ -48,11 +67,11 @@ module _ (laws : AreNotRefused) (told : List ℕ → Standing) (failed : List �
       let same : refuses.bytes ≡ bytes = same_bytes (told program) bytes refuses.bytes holds refuses.gives.all in
       absurd (refuses.not_memory (laws bytes plain error spells (subst (λ (b : List ℕ). IsCauseOf b error) same refuses.is_cause)))
 
-  refused_so : (said : List (List ℕ)) (status : PlainStatus) → IsCommand said (check program) → (failed program → ⊥) → told program ≡ Holds bytes → length bytes ≤ longest_program
+  refused_so : (said : List (List ℕ)) (status : PlainStatus) → IsReading said program → (failed program → ⊥) → told program ≡ Holds bytes → length bytes ≤ longest_program
       → Spells bytes plain → Refuses said told failed asked status → NotRefused status
   refused_so said status is read holds small spells m = checks status read holds small spells (only_check said told failed asked program status m.0 is m.1 m.2)
 
   pub check_complete : (said : List (List ℕ)) (out aside : SinkChange) (result : PlainStatus) → Records (MayEnd said told failed asked) out aside result
-      → IsCommand said (check program) → (failed program → ⊥) → told program ≡ Holds bytes → length bytes ≤ longest_program → Spells bytes plain → NotRefused result
+      → IsReading said program → (failed program → ⊥) → told program ≡ Holds bytes → length bytes ≤ longest_program → Spells bytes plain → NotRefused result
   check_complete said out aside result records is read holds small spells =
-      ends_well said told failed asked (λ none. none (check program) is) (λ status refuses. refused_so said status is read holds small spells refuses) out aside result records
+      ends_well said told failed asked (no_words said program is) (λ status refuses. refused_so said status is read holds small spells refuses) out aside result records

@@ -7,7 +7,7 @@ use Rattle.sp_top.specs.Status.{PlainStatus, done, words, setup_refused, read_fa
 use Rattle.sp_edges.specs.Calls.{Call}
 use Rattle.sp_top.specs.Reads.{IsPastText}
 use Rattle.sp_top.specs.Compile.{longest_program, CompileRefuses}
-use Rattle.sp_top.specs.Commands.{Command, check, compile, verilog, simulate, waves, IsCommand, MayRefuse, Refuses, MayEnd, NotRefused}
+use Rattle.sp_top.specs.Commands.{Command, check, format, compile, verilog, simulate, waves, IsCommand, MayRefuse, Refuses, MayEnd, NotRefused}
 use Rattle.sp_top.specs.Record.{SinkChange, Records}
 use Rattle.sp_top.proofs.LawLemmas.{breaks_or_reads}
 
@@ -33,6 +33,21 @@ not_check said p q one other =
 pub not_check_verilog : (said : List (List ℕ)) (p q : List ℕ) → IsCommand said (check p) → IsCommand said (verilog q) → ⊥
 not_check_verilog said p q one other =
     let letters : 99 ≡ 118 = sym (ap first_letter one.0) ∙ ap first_letter other.0 in
+    omega (arith, letters)
+
+pub not_format : (said : List (List ℕ)) (p q : List ℕ) → IsCommand said (format p) → IsCommand said (compile q) → ⊥
+not_format said p q one other =
+    let letters : 102 ≡ 99 = sym (ap first_letter one.0) ∙ ap first_letter other.0 in
+    omega (arith, letters)
+
+pub not_format_verilog : (said : List (List ℕ)) (p q : List ℕ) → IsCommand said (format p) → IsCommand said (verilog q) → ⊥
+not_format_verilog said p q one other =
+    let letters : 102 ≡ 118 = sym (ap first_letter one.0) ∙ ap first_letter other.0 in
+    omega (arith, letters)
+
+pub not_format_check : (said : List (List ℕ)) (p q : List ℕ) → IsCommand said (format p) → IsCommand said (check q) → ⊥
+not_format_check said p q one other =
+    let letters : 102 ≡ 99 = sym (ap first_letter one.0) ∙ ap first_letter other.0 in
     omega (arith, letters)
 
 not_both : (said : List (List ℕ)) (p q : List ℕ) → IsCommand said (compile p) → IsCommand said (verilog q) → ⊥
@@ -64,6 +79,8 @@ only_compile : (said : List (List ℕ)) (told : List ℕ → Standing) (failed :
     → IsTranslation said program → IsCommand said command → MayRefuse told failed asked command status → CompileRefuses told failed asked program status
 only_compile said told failed asked program status (check other) (inl is) also refuses = absurd (not_check said other program also is)
 only_compile said told failed asked program status (check other) (inr is) also refuses = absurd (not_check_verilog said other program also is)
+only_compile said told failed asked program status (format other) (inl is) also refuses = absurd (not_format said other program also is)
+only_compile said told failed asked program status (format other) (inr is) also refuses = absurd (not_format_verilog said other program also is)
 only_compile said told failed asked program status (compile other) (inl is) also refuses =
     let P : List ℕ → Type 0 = λ p. CompileRefuses told failed asked p status in subst P (one_program said other program also is) refuses
 only_compile said told failed asked program status (compile other) (inr is) also refuses = absurd (not_both said other program also is)

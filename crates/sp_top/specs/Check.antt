@@ -1,8 +1,9 @@
--- `check P`: whether program P is one of the language.
+-- `check P` and `format P`: whether program P is one of the language, and its canonical text.
 use Rattle.std.specs.Prelude.{◌≡◌, ◌≢◌, ℕ, List, [], ◌∷◌, codes}
 use Rattle.sp_edges.specs.Standing.{Standing}
 use Rattle.sp_edges.specs.Calls.{Call, given}
 use Rattle.sp_tree.specs.PlainProgram.{PlainProgram}
+use Rattle.sp_printer.specs.Program.{canonical_text}
 use Rattle.sp_source.specs.declared.error.SourceError.{SourceError}
 use Rattle.sp_source.specs.declared.error.SourceError.TheVariants as source
 use Rattle.sp_source.specs.Texts.{Spells, IsCauseOf}
@@ -13,6 +14,10 @@ use Rattle.sp_top.specs.Status.{PlainStatus, memory, source_refused}
 -- the bytes spell a program, and the text says so
 abbrev pub SaysRight : (bytes text : List ℕ) → Type 0
 SaysRight bytes text = (program : PlainProgram) × Spells bytes program × (text ≡ codes "ok\n")
+
+-- the bytes spell a program, and the text is the canonical one of that program
+abbrev pub WritesCanonical : (bytes text : List ℕ) → Type 0
+WritesCanonical bytes text = (program : PlainProgram) × Spells bytes program × (text ≡ canonical_text program)
 
 -- the status in which bytes are refused that spell none
 abbrev pub status_of_source : SourceError → PlainStatus
@@ -33,7 +38,7 @@ pub record BreaksSource (told : List ℕ → Standing) (asked : List Call → Ty
   pub is_cause : IsCauseOf bytes error
   pub not_memory : error ≢ source.Memory
 
--- The statuses in which the command refuses, each with its cause.
+-- The statuses in which either command refuses, each with its cause.
 abbrev pub CheckRefuses : (List ℕ → Standing) → (failed : List ℕ → Type 0) → (asked : List Call → Type 0) → (program : List ℕ) → PlainStatus → Type 0
 CheckRefuses told failed asked program (source_refused error) = BreaksSource told asked program error
 CheckRefuses told failed asked program status = ReadRefuses (told program) (failed program) asked longest_program program status

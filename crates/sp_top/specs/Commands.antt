@@ -1,9 +1,9 @@
 -- How a command of the table may end, and what it then puts.
 use Rattle.std.specs.Prelude.{◌≡◌, ◌⊎◌, ℕ, List, []}
-pub use Rattle.sp_command.specs.Commands.{Command, check, compile, verilog, simulate, waves, IsFileWord, IsCommand}
+pub use Rattle.sp_command.specs.Commands.{Command, check, format, compile, verilog, simulate, waves, IsFileWord, IsCommand}
 use Rattle.sp_edges.specs.Standing.{Standing}
 use Rattle.sp_edges.specs.Calls.{Call}
-use Rattle.sp_top.specs.Check.{SaysRight, CheckRefuses}
+use Rattle.sp_top.specs.Check.{SaysRight, WritesCanonical, CheckRefuses}
 use Rattle.sp_top.specs.Compile.{ListsProgram, PrintsProgram, Translates, CompileRefuses}
 use Rattle.sp_top.specs.Simulate.{Prints, RunEnds, Dumps, DumpEnds, Simulates, SimulateRefuses}
 use Rattle.sp_top.specs.Status.{PlainStatus, done, words, write_fault, memory, line_of}
@@ -11,6 +11,7 @@ use Rattle.sp_top.specs.Status.{PlainStatus, done, words, write_fault, memory, l
 -- The texts that a command puts on `out` and on `aside` where it is done, after these calls for names.
 abbrev pub DoneTexts : (List ℕ → Standing) → (asked : List Call → Type 0) → Command → (out aside : List ℕ) → Type 0
 DoneTexts told asked (check program) out aside = Translates SaysRight told asked program out aside
+DoneTexts told asked (format program) out aside = Translates WritesCanonical told asked program out aside
 DoneTexts told asked (compile program) out aside = Translates ListsProgram told asked program out aside
 DoneTexts told asked (verilog program) out aside = Translates PrintsProgram told asked program out aside
 DoneTexts told asked (simulate listing setup) out aside = Simulates Prints told asked listing setup out aside
@@ -20,6 +21,7 @@ DoneTexts told asked (waves listing setup) out aside = Simulates Dumps told aske
 -- may have failed, and `asked` of calls for names that they were made. Want of memory may come always.
 abbrev pub MayRefuse : (List ℕ → Standing) → (failed : List ℕ → Type 0) → (asked : List Call → Type 0) → Command → PlainStatus → Type 0
 MayRefuse told failed asked (check program) status = CheckRefuses told failed asked program status
+MayRefuse told failed asked (format program) status = CheckRefuses told failed asked program status
 MayRefuse told failed asked (compile program) status = CompileRefuses told failed asked program status
 MayRefuse told failed asked (verilog program) status = CompileRefuses told failed asked program status
 MayRefuse told failed asked (simulate listing setup) status = SimulateRefuses RunEnds told failed asked listing setup status

@@ -3,6 +3,7 @@
 
 mod check;
 mod compile;
+mod format;
 mod laws;
 mod lines;
 mod reads;

@@ -17,6 +17,7 @@ ghost use Rattle.sp_top.specs.Record.{Records};
 
 use crate::check::check;
 use crate::compile::{compile, print_verilog};
+use crate::format::print_canonical;
 use crate::simulate::{View, simulate};
 use crate::sinks::{Texts, deliver, refuse};
 use crate::status::Status;
@@ -36,6 +37,7 @@ fn texts_of<I: Inputs>(alloc: Global, command: Command<'_>, inputs: &mut I) -> R
 {
     match command {
         Command::Check { program } => check(alloc, program, inputs),
+        Command::Format { program } => print_canonical(alloc, program, inputs),
         Command::Compile { program } => compile(alloc, program, inputs),
         Command::Verilog { program } => print_verilog(alloc, program, inputs),
         Command::Simulate { listing, setup } => {
@@ -103,8 +105,8 @@ pub fn spatialc<I: Inputs, K: Sink, A: Sink>(
     // A program of the form under a sure name isn't refused.
     ensures complete { (program bytes : List ℕ) (lines : List Line) → IsCommand (map string_bytes words.now) (commands.compile program) ⊎ IsCommand (map string_bytes words.now) (commands.verilog program) → I.sure inputs.old program
         → I.told inputs.old program ≡ Holds bytes → length bytes ≤ longest_program → IsStraight bytes lines → NotRefused (plain_status result) }
-    // Nor is the check of a text that spells a program.
-    ensures checks { (program bytes : List ℕ) (plain : PlainProgram) → IsCommand (map string_bytes words.now) (commands.check program) → I.sure inputs.old program
+    // Nor is a text that spells a program by `check` or `format`.
+    ensures checks { (program bytes : List ℕ) (plain : PlainProgram) → IsCommand (map string_bytes words.now) (commands.check program) ⊎ IsCommand (map string_bytes words.now) (commands.format program) → I.sure inputs.old program
         → I.told inputs.old program ≡ Holds bytes → length bytes ≤ longest_program → Spells bytes plain → NotRefused (plain_status result) }
     // Nor is the simulation of a listing that is done within its setup's cycles, nor the dump of any run.
     ensures simulates { (listing setup : List ℕ) (cells : List PlainCell) (plain : PlainSetup) → IsCommand (map string_bytes words.now) (commands.simulate listing setup)
