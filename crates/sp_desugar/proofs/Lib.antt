@@ -1,0 +1,5 @@
+pub mod NumberLemmas
+pub mod SourceLemmas
+pub mod TreeLemmas
+pub mod RunLemmas
+pub mod ElementLemmas
