@@ -3,3 +3,4 @@ pub mod SourceLemmas
 pub mod TreeLemmas
 pub mod RunLemmas
 pub mod ElementLemmas
+pub mod UseLemmas

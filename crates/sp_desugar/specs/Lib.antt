@@ -1,3 +1,5 @@
 pub mod Sources
 pub mod Running
 pub mod Elements
+pub mod Crossings
+pub mod Names
