@@ -4,3 +4,5 @@ pub mod TreeLemmas
 pub mod RunLemmas
 pub mod ElementLemmas
 pub mod UseLemmas
+pub mod StageLemmas
+pub mod CombineLemmas

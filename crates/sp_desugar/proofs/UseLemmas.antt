@@ -57,7 +57,7 @@ control_renames is (Branch' test shape first shape2 second) = refl
 abbrev kind_at : Stmt → PlainStmtKind
 kind_at s = plain_stmt_kind s.kind
 
-drop_here : (body : List Stmt) (i : ℕ) (s : Stmt) → i < length body → s ≡ get_or body i s → drop i body ≡ s ∷ drop (i + 1) body
+pub drop_here : (body : List Stmt) (i : ℕ) (s : Stmt) → i < length body → s ≡ get_or body i s → drop i body ≡ s ∷ drop (i + 1) body
 drop_here body i s h e = drop-cons body i s h ∙ ap (λ x. x ∷ drop (suc i) body) (sym e) ∙ ap (λ k. s ∷ drop k body) (sym (add-one i))
 
 pub after_step : (is now : ℕ → Bool) (body : List Stmt) (i : ℕ) (s : Stmt) → i < length body → s ≡ get_or body i s → now ≡ renamed is (kind_at s)

@@ -3,3 +3,4 @@ pub mod Running
 pub mod Elements
 pub mod Crossings
 pub mod Names
+pub mod Tree
