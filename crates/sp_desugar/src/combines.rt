@@ -9,18 +9,16 @@ ghost use Rattle.sp_tree.specs.PlainStatement.{PlainStmts, stmt, more_stmt};
 ghost use Rattle.sp_tree.specs.Structure.{own_mems, is_inner};
 ghost use Rattle.sp_sugar.specs.Numbers.{mem_number};
 ghost use Rattle.sp_sugar.specs.Stages.{combines, combining, combination, inner_node};
-ghost use Rattle.sp_desugar.specs.Running.{run_of};
-ghost use Rattle.sp_desugar.specs.Sources.{sources_of};
+ghost use Rattle.sp_operations.specs.Running.{run_of};
+ghost use Rattle.sp_operations.specs.Sources.{sources_of};
 ghost use Rattle.sp_desugar.specs.Tree.{plain_combines};
 
 use crate::NoMemory;
-use crate::combination::{push_fold, push_reduce};
-use crate::numbers::mem_number;
-use crate::operations::next_place;
-use crate::runs::{Run, add_code, add_inner, no_run};
-use crate::sources::Source;
 use crate::uses::is_primitive;
 use sp_core::{CoreCounter, Node, Op};
+use sp_operations::{
+    Run, Source, add_code, add_inner, mem_number, next_place, no_run, push_fold, push_reduce,
+};
 use sp_tree::{Comb, Expr, MemDecl, Stmt, StmtKind};
 use std::alloc::Global;
 
@@ -99,7 +97,7 @@ pub(crate) fn is_inner(body: &[Stmt]) -> bool
 }
 
 /// Appends the operations of a combination, of the word at a place.
-fn push_combining(
+pub(crate) fn push_combining(
     alloc: Global,
     ops: &mut Vec<Op>,
     word: u32,

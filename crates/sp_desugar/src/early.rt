@@ -6,13 +6,11 @@ ghost use Rattle.sp_tree.specs.PlainTree.{plain_span, plain_counter};
 ghost use Rattle.sp_tree.specs.Tallies.{kind_tally, span_tally};
 ghost use Rattle.sp_sugar.specs.Early.{is_early, is_early_slice, after, into_register, from_register, counters_of, spans_from, part_ops, slice_ops, parts_of};
 ghost use Rattle.sp_desugar.specs.Crossings.{crosses_of};
-ghost use Rattle.sp_desugar.specs.Sources.{sources_of};
+ghost use Rattle.sp_operations.specs.Sources.{sources_of};
 
 use crate::NoMemory;
-use crate::expressions::{push_code, word_list};
-use crate::operations::{push_op, read_op, write_op};
-use crate::sources::Source;
 use sp_core::{CoreCounter, CoreSpan, Op};
+use sp_operations::{Source, push_code, push_op, read_op, word_list, write_op};
 use sp_tree::{Counter, Expr, ExprKind, MemDecl, Span};
 use sp_words::Ty;
 use std::alloc::{AllocError, Global};

@@ -1,16 +1,10 @@
-//! From typed programs to cores: the code that removes the sugar.
+//! From typed programs to cores: the parts of the code that removes the sugar from bodies with stages.
 #![tactic(auto)]
 
-mod combination;
 mod combines;
 mod early;
-mod elements;
-mod expressions;
-mod numbers;
-mod operations;
+mod last;
 mod registers;
-mod runs;
-mod sources;
 mod stages;
 mod transfers;
 mod uses;

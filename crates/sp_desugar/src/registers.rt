@@ -14,9 +14,9 @@ ghost use Rattle.sp_desugar.specs.Names.{plain_ending};
 
 use crate::NoMemory;
 use crate::early::{Crossing, crosses, is_early_slice};
-use crate::numbers::{begun_register, crossing_register};
 use crate::uses::{Ending, does_cross, is_bare};
 use sp_core::CoreMem;
+use sp_operations::{begun_register, crossing_register};
 use sp_tree::{Counter, Ctl, Expr, Span, Stmt, StmtKind};
 use sp_words::Ty;
 use std::alloc::{AllocError, Global};

@@ -8,12 +8,12 @@ ghost use Rattle.sp_tree.specs.PlainTree.{plain_counter, plain_ctl, plain_span, 
 ghost use Rattle.sp_sugar.specs.Early.{bounds_of, stage_of, bound_stages, slice_stage, early_stages};
 ghost use Rattle.sp_sugar.specs.Stages.{run_stage};
 ghost use Rattle.sp_desugar.specs.Crossings.{onto};
-ghost use Rattle.sp_desugar.specs.Sources.{sources_of};
+ghost use Rattle.sp_operations.specs.Sources.{sources_of};
 
 use crate::NoMemory;
 use crate::early::{Crossing, is_early, is_early_slice, push_into, push_slice};
-use crate::sources::Source;
 use sp_core::{Node, Op, Stage};
+use sp_operations::Source;
 use sp_tree::{Counter, Ctl, Expr, MemDecl, Span, StmtKind};
 use std::alloc::{AllocError, Global};
 

@@ -9,13 +9,12 @@ ghost use Rattle.sp_tree.specs.Structure.{slice_lanes};
 ghost use Rattle.sp_sugar.specs.Early.{is_early, from_register, spans_of};
 ghost use Rattle.sp_sugar.specs.Numbers.{mem_number, dram_number};
 ghost use Rattle.sp_sugar.specs.Stages.{load_node, store_node};
-ghost use Rattle.sp_desugar.specs.Sources.{sources_of};
+ghost use Rattle.sp_operations.specs.Sources.{sources_of};
 
 use crate::NoMemory;
 use crate::early::{Crossing, from_register, is_early_slice, push_spans};
-use crate::numbers::{dram_number, mem_number};
-use crate::sources::Source;
 use sp_core::{CoreSpan, Node, SparseKind};
+use sp_operations::{Source, dram_number, mem_number};
 use sp_tree::{Expr, MemDecl, Span};
 use std::alloc::{AllocError, Global};
 

@@ -3,7 +3,7 @@ use Rattle.sp_core.specs.Plain as core
 use Rattle.sp_tree.specs.Plain.{plain_expr, plain_mem}
 use Rattle.sp_sugar.specs.Runs.{Run, next_code}
 use Rattle.sp_desugar.proofs.CombineLemmas.{combination_is}
-use Rattle.sp_desugar.specs.Running.{run_of}
+use Rattle.sp_operations.specs.Running.{run_of}
 use Rattle.sp_desugar.specs.Tree.{plain_combines}
 use Rattle.sp_desugar.proofs.combines.combined_node.Goals as goal
 

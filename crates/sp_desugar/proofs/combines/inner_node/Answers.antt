@@ -7,8 +7,8 @@ use Rattle.sp_tree.specs.Structure.{own_mems}
 use Rattle.sp_sugar.specs.Numbers.{mem_number}
 use Rattle.sp_sugar.specs.Runs.{no_run, next_code, inner_run}
 use Rattle.sp_sugar.specs.Stages.{combination, inner_node}
-use Rattle.sp_desugar.specs.Running.{run_of}
-use Rattle.sp_desugar.specs.Sources.{sources_of}
+use Rattle.sp_operations.specs.Running.{run_of}
+use Rattle.sp_operations.specs.Sources.{sources_of}
 use Rattle.sp_desugar.specs.Tree.{plain_combines}
 use Rattle.sp_desugar.proofs.combines.inner_node.Goals as goal
 

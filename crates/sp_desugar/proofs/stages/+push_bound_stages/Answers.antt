@@ -4,7 +4,7 @@ use Rattle.sp_tree.specs.Plain.{plain_expr, plain_mem}
 use Rattle.sp_tree.specs.PlainTree.{plain_counter}
 use Rattle.sp_sugar.specs.Early.{bounds_of, bound_stages}
 use Rattle.sp_desugar.specs.Crossings.{onto}
-use Rattle.sp_desugar.specs.Sources.{sources_of}
+use Rattle.sp_operations.specs.Sources.{sources_of}
 use Rattle.sp_desugar.proofs.stages.+push_bound_stages.Goals as goal
 
 pub returns : goal.returns

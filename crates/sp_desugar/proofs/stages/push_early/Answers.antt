@@ -3,7 +3,7 @@ use Rattle.sp_tree.specs.Plain.{plain_mem}
 use Rattle.sp_tree.specs.PlainTree.{plain_stmt_kind}
 use Rattle.sp_sugar.specs.Early.{early_stages}
 use Rattle.sp_desugar.specs.Crossings.{onto}
-use Rattle.sp_desugar.specs.Sources.{sources_of}
+use Rattle.sp_operations.specs.Sources.{sources_of}
 use Rattle.sp_desugar.proofs.stages.push_early.Goals as goal
 
 pub returns-in_ok-_next-in-Gather : goal.returns-in_ok-_next-in-Gather

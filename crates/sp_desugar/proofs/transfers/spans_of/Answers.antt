@@ -4,7 +4,7 @@ use Rattle.sp_tree.specs.Plain.{plain_mem}
 use Rattle.sp_tree.specs.PlainTree.{plain_span}
 use Rattle.sp_sugar.specs.Early.{spans_from}
 use Rattle.sp_desugar.specs.Crossings.{crosses_of}
-use Rattle.sp_desugar.specs.Sources.{sources_of}
+use Rattle.sp_operations.specs.Sources.{sources_of}
 use Rattle.sp_desugar.specs.declared.early.Crossing.TheVariants.{Part}
 use Rattle.sp_desugar.proofs.transfers.spans_of.Goals as goal
 
