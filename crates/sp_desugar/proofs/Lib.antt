@@ -1,0 +1,5 @@
+pub mod CombineLemmas
+pub mod LastLemmas
+pub mod StageLemmas
+pub mod TreeLemmas
+pub mod UseLemmas

@@ -1,0 +1,12 @@
+//! From typed programs to cores: the parts of the code that removes the sugar from bodies with stages.
+#![tactic(auto)]
+
+mod combines;
+mod early;
+mod last;
+mod registers;
+mod stages;
+mod transfers;
+mod uses;
+
+pub use std::alloc::AllocError as NoMemory;

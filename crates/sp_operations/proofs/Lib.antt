@@ -1,0 +1,5 @@
+pub mod ElementLemmas
+pub mod NumberLemmas
+pub mod RunLemmas
+pub mod SourceLemmas
+pub mod TreeLemmas
