@@ -5,3 +5,4 @@ pub mod Trees
 pub mod Turns
 pub mod UsedNames
 pub mod RunLists
+pub mod NamedAt

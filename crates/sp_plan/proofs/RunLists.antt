@@ -46,13 +46,17 @@ drop_at [] p d lt = absurd (omega arith)
 drop_at (x ∷ xs) zero d lt = refl
 drop_at (x ∷ xs) (suc p) d lt = drop_at xs p d (omega arith)
 
+-- the list from a place on
+pub from_here : {A : Type 0} (xs : List A) (p : ℕ) (x d : A) → p < length xs → x ≡ get_or xs p d → drop p xs ≡ x ∷ drop (p + 1) xs
+from_here xs p x d lt is = drop_at xs p d lt ∙ ap (λ y. y ∷ drop (suc p) xs) (sym is) ∙ ap (λ k. x ∷ drop k xs) (sym (add-one p))
+
 abbrev run_of : (from : ℕ) → Stage → StageRun
 run_of n s = record { from = n; until = n + number_count (plain_node s.node); first = s.first; last = s.last }
 
 -- the stage at a place, where the runs from there on are those of the stages from there on
 module _ (number : ℕ) (stages : List Stage) (from p : ℕ) (s d : Stage) (lt : p < length stages) (is : s ≡ get_or stages p d) where
   left : drop p stages ≡ s ∷ drop (p + 1) stages
-  left = drop_at stages p d lt ∙ ap (λ x. x ∷ drop (suc p) stages) (sym is) ∙ ap (λ k. s ∷ drop k stages) (sym (add-one p))
+  left = from_here stages p s d lt is
 
   module _ (h : runs_of from (plain_stage_list (drop p stages)) ≡ drop p (runs_of number (plain_stage_list stages))) where
     follows : drop p (runs_of number (plain_stage_list stages)) ≡ run_of from s ∷ runs_of (from + number_count (plain_node s.node)) (plain_stage_list (drop (p + 1) stages))
@@ -114,6 +118,6 @@ lane_next first last comb node rest b e =
 pub counted : (stages : List Stage) (i count next : ℕ) (s d : Stage) (b : Bool) → i < length stages → s ≡ get_or stages i d → (not (not (s.first == s.last)) && (s.first == 0)) ≡ b → next ≡ count + cond b 1 0
     → count + lane_size (runs_of 0 (plain_stage_list (drop i stages))) ≡ lane_size (runs_of 0 (plain_stage_list stages)) → next + lane_size (runs_of 0 (plain_stage_list (drop (i + 1) stages))) ≡ lane_size (runs_of 0 (plain_stage_list stages))
 counted stages i count next s d b lt is e grows h =
-    let left = drop_at stages i d lt ∙ ap (λ x. x ∷ drop (suc i) stages) (sym is) ∙ ap (λ k. s ∷ drop k stages) (sym (add-one i)) in
+    let left = from_here stages i s d lt is in
     let more = ap (λ xs. lane_size (runs_of 0 (plain_stage_list xs))) left ∙ lane_next s.first s.last s.comb (plain_node s.node) (plain_stage_list (drop (i + 1) stages)) b e in
     omega arith

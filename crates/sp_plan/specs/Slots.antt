@@ -110,8 +110,11 @@ module _ (runs : List StageRun) where
       abbrev pub is_held : (owned : List ℕ) → List Meet → (p q : ℕ) → Bool
       is_held owned meets p q = (nat_le (stage_of p) (stage_of q) || (slot p == slot q)) || not (list_any (is_pair owned p q) meets)
 
+      abbrev pub are_held_with : (owned : List ℕ) → List Meet → ℕ → Bool
+      are_held_with owned meets p = each_run (is_held owned meets p)
+
       abbrev pub are_held : (owned : List ℕ) → List PlainCounter → List Meet → Bool
-      are_held owned counters meets = is_once counters || each_run (λ p. each_run (is_held owned meets p))
+      are_held owned counters meets = is_once counters || each_run (are_held_with owned meets)
 
       -- runs of one slot that are of one lane, or that may meet in one group, are in one chain; children of a `Parallel` block
       -- are where they may meet

@@ -7,14 +7,15 @@ use Rattle.sp_core.specs.Declarations.{mem, is_stream}
 use Rattle.sp_core.specs.Elements.{numbers_below}
 use Rattle.sp_core.specs.Forms.{PlainForms}
 use Rattle.sp_core.specs.Numbering.{node_count, counters_size}
-use Rattle.sp_core.specs.PlainCore.{PlainNode, PlainStages, inner, outer, no_stage, more_stage, PlainCore}
+use Rattle.sp_core.specs.PlainCore.{PlainCounter, PlainNode, PlainStages, inner, outer, no_stage, more_stage, PlainCore}
 use Rattle.sp_plan.specs.Bodies.{are_times_right}
 use Rattle.sp_plan.specs.Copies.{is_loop, are_copied, is_single, is_duplicated}
 use Rattle.sp_plan.specs.Groups.{are_grouped, Separated}
 use Rattle.sp_plan.specs.Nodes.{NodeRule, holds_of_each}
 use Rattle.sp_plan.specs.PlainPlan.{PlainMemPlan, PlainNodePlan, inner_plan, outer_plan, other_plan, PlainPlan, mem_plan, node_plan}
-use Rattle.sp_plan.specs.Slots.{runs_of, are_slots_right, are_held, are_chains_right}
+use Rattle.sp_plan.specs.Slots.{StageRun, runs_of, are_slots_right, are_held, are_chains_right}
 use Rattle.sp_words.specs.declared.kind.Kind.{Kind}
+use Rattle.sp_words.specs.declared.kind.Style.{Style}
 use Rattle.sp_words.specs.declared.kind.Kind.TheVariants.{Sram, LineBuf}
 
 abbrev pub schemes_of : PlainPlan → List (Option Banking)
@@ -49,6 +50,11 @@ abbrev pub fits_scheme : PlainCore → (mem : ℕ) → Option Banking → Bool
 fits_scheme core m None = true
 fits_scheme core m (Some b) = has_rank (mem core m).kind (length (mem core m).dims) (length b.alpha)
 
+-- slots that hold together what meets, and chains
+abbrev pub are_divided_right : PlainCore → List Meet → List StageRun → List PlainCounter → Style → (owned slots chains : List ℕ) → Bool
+are_divided_right core meets runs counters style owned slots chains =
+    are_slots_right runs slots chains counters style && (are_held runs slots chains core owned counters meets && are_chains_right runs slots chains core counters style meets)
+
 module _ (core : PlainCore) (forms : PlainForms) (meets : List Meet) (plan : PlainPlan) where
   abbrev pub is_scheme_right : ℕ → Bool
   is_scheme_right m = fits_scheme core m (mem_plan plan m).scheme
@@ -71,10 +77,7 @@ module _ (core : PlainCore) (forms : PlainForms) (meets : List Meet) (plan : Pla
   -- the slots and chains of an outer body that is no `Stream` block
   abbrev pub are_runs_right : (number : ℕ) → PlainNode → PlainNodePlan → Bool
   are_runs_right n (outer counters style owned stages) (outer_plan slots chains) =
-      is_stream style
-      || (are_slots_right (runs_of (n + counters_size counters) stages) slots chains counters style
-      && (are_held (runs_of (n + counters_size counters) stages) slots chains core owned counters meets
-      && are_chains_right (runs_of (n + counters_size counters) stages) slots chains core counters style meets))
+      is_stream style || are_divided_right core meets (runs_of (n + counters_size counters) stages) counters style owned slots chains
   are_runs_right n node _ = true
 
   abbrev pub slot_rule : NodeRule

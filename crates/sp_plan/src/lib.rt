@@ -3,10 +3,13 @@
 
 mod chains;
 mod examples;
+mod held;
 mod kinds;
+mod named;
 mod naming;
 mod operations;
 mod orders;
+mod outer;
 mod plan;
 mod readers;
 mod runs;
@@ -17,10 +20,13 @@ mod times;
 
 pub use chains::{are_chains_right, are_joined, may_meet};
 pub use examples::{worked_plans, worked_wrong_plans};
+pub use held::are_held;
 pub use kinds::{fits_scheme, is_of_kind};
+pub use named::{Named, named_at, names_other, share_other, transfer};
 pub use naming::uses;
 pub use operations::{has_banks, is_change, is_serial, kind, latency, share_port};
 pub use orders::{is_in_body, latency_at, meet_order, order, use_order};
+pub use outer::are_body_runs_right;
 pub use plan::{MemPlan, NodePlan, Plan};
 pub use readers::duplicates;
 pub use runs::{

@@ -37,7 +37,7 @@ pub fn counters_size(counters: &[CoreCounter]) -> u32
     total
 }
 
-fn span_size(span: &CoreSpan) -> u32
+pub(crate) fn span_size(span: &CoreSpan) -> u32
     requires { spans_size (plain_span span.now ∷ []) ≤ 2 ^ 30 }
     ensures { result ≡ spans_size (plain_span span.now ∷ []) }
 {

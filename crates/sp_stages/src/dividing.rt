@@ -7,15 +7,14 @@ ghost use Rattle.sp_core.specs.Elements.{numbers_below};
 ghost use Rattle.sp_core.specs.Plain.{plain_counter};
 ghost use Rattle.sp_plan.specs.Named.{names};
 ghost use Rattle.sp_stages.specs.Divided.{slot_of, slots_of};
-ghost use Rattle.sp_plan.specs.Runs.{plain_run};
-ghost use Rattle.sp_stages.specs.Parts.{plain_named, covers};
+ghost use Rattle.sp_plan.specs.Runs.{plain_named, plain_run};
+ghost use Rattle.sp_stages.specs.Parts.{covers};
 
 use crate::NoMemory;
-use crate::names::Named;
 use crate::pairs::{Held, is_covered, pairs};
 use crate::runs::{lane_size, stage_of};
 use sp_core::{Core, CoreCounter, Meet};
-use sp_plan::{Run, has_one_slot, is_once};
+use sp_plan::{Named, Run, has_one_slot, is_once};
 use sp_words::Style;
 use std::alloc::Global;
 

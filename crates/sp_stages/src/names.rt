@@ -1,24 +1,15 @@
 //! The memories and DRAMs that operations and transfers name, by number.
 
-ghost use Rattle.std.specs.Prelude.{◌≡◌, ◌++◌, ◌&&◌, not, [], ◌∷◌, map, slice_index_or, IfOk, OnOk};
-ghost use Rattle.std.specs.List.{list_any};
+ghost use Rattle.std.specs.Prelude.{◌≡◌, ◌++◌, [], ◌∷◌, map, slice_index_or, IfOk, OnOk};
 ghost use Rattle.sp_core.specs.CoreParts.{plain_core};
-ghost use Rattle.sp_core.specs.Declarations.{dram_number, is_among};
 ghost use Rattle.sp_core.specs.Plain.{plain_op, plain_counter, plain_span, plain_node};
-ghost use Rattle.sp_plan.specs.Named.{named_by, list_names, counters_names, spans_names, names, share_other};
-ghost use Rattle.sp_stages.specs.Parts.{plain_named};
+ghost use Rattle.sp_plan.specs.Named.{list_names, counters_names, spans_names, names, share_other};
+ghost use Rattle.sp_plan.specs.Runs.{plain_named};
 
 use crate::NoMemory;
 use sp_core::{Core, CoreCounter, CoreSpan, Node, Op};
+use sp_plan::{Named, names_other, transfer};
 use std::alloc::Global;
-
-/// What an operation names; and what a transfer names: its DRAM, numbered after the memories, its memory, and the memory
-/// of its places.
-#[derive(Clone, Copy, Debug)]
-pub(crate) enum Named {
-    Access(Option<u32>),
-    Transfer(u64, u32, Option<u32>),
-}
 
 fn push_ops(ops: &[Op], into: &mut Vec<Named>) -> Result<(), NoMemory>
     ensures { OnOk result (map plain_named into.new.items ≡ map plain_named into.old.items ++ list_names (map plain_op ops.now)) }
@@ -58,13 +49,6 @@ fn push_spans(spans: &[CoreSpan], into: &mut Vec<Named>) -> Result<(), NoMemory>
         push_span(span, into)?;
     }
     Ok(())
-}
-
-/// What a transfer of a DRAM names.
-fn transfer(core: &Core, dram: u32, mem: u32, places: Option<u32>) -> Named
-    ensures { plain_named result ≡ dram_number (plain_core core.now) dram ∷ mem ∷ named_by places }
-{
-    Named::Transfer(core.mems().len() as u64 + u64::from(dram), mem, places)
 }
 
 /// What the operations and transfers of a part name, in order.
@@ -145,64 +129,6 @@ fn named_at(names: &[Named], n: u32) -> Named
     match names.get(n as usize) {
         Some(named) => *named,
         None => Named::Access(None),
-    }
-}
-
-fn is_one(m: u64, mem: Option<u32>) -> bool
-    ensures { result ≡ is_among m (named_by mem) }
-{
-    match mem {
-        None => false,
-        Some(r) => m == u64::from(r),
-    }
-}
-
-fn is_named(m: u64, named: Named) -> bool
-    ensures { result ≡ is_among m (plain_named named) }
-{
-    match named {
-        Named::Access(mem) => is_one(m, mem),
-        Named::Transfer(dram, mem, places) => {
-            m == dram || (m == u64::from(mem) || is_one(m, places))
-        }
-    }
-}
-
-fn is_owned(m: u64, owned: &[u32]) -> bool
-    ensures { result ≡ is_among m owned.now }
-{
-    for r in owned {
-        if m == u64::from(*r) {
-            return true;
-        }
-    }
-    false
-}
-
-fn is_other(m: u64, named: Named, owned: &[u32]) -> bool
-    ensures { result ≡ (is_among m (plain_named named) && not (is_among m owned.now)) }
-{
-    is_named(m, named) && !is_owned(m, owned)
-}
-
-fn is_one_other(mem: Option<u32>, named: Named, owned: &[u32]) -> bool
-    ensures { result ≡ list_any (λ m. is_among m (plain_named named) && not (is_among m owned.now)) (named_by mem) }
-{
-    match mem {
-        None => false,
-        Some(m) => is_other(u64::from(m), named, owned),
-    }
-}
-
-fn names_other(one: Named, named: Named, owned: &[u32]) -> bool
-    ensures { result ≡ list_any (λ m. is_among m (plain_named named) && not (is_among m owned.now)) (plain_named one) }
-{
-    match one {
-        Named::Access(mem) => is_one_other(mem, named, owned),
-        Named::Transfer(dram, mem, places) => {
-            is_other(dram, named, owned)
-                || (is_other(u64::from(mem), named, owned) || is_one_other(places, named, owned))
-        }
     }
 }
 

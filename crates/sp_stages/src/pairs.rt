@@ -6,14 +6,14 @@ ghost use Rattle.sp_core.specs.CoreParts.{plain_core};
 ghost use Rattle.sp_plan.specs.Named.{names};
 ghost use Rattle.sp_plan.specs.Slots.{lane_size, is_pair};
 ghost use Rattle.sp_stages.specs.Divided.{is_over, is_over_any, is_over_end};
-ghost use Rattle.sp_plan.specs.Runs.{plain_run};
-ghost use Rattle.sp_stages.specs.Parts.{plain_named, covers};
+ghost use Rattle.sp_plan.specs.Runs.{plain_named, plain_run};
+ghost use Rattle.sp_stages.specs.Parts.{covers};
 
 use crate::NoMemory;
-use crate::names::{Named, share_other};
+use crate::names::share_other;
 use crate::runs::{run_at, stage_of};
 use sp_core::{Core, Meet};
-use sp_plan::{Run, is_within, least_of};
+use sp_plan::{Named, Run, is_within, least_of};
 use std::alloc::Global;
 
 /// Stages from one on up to another that are held together.

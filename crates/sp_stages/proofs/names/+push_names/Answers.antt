@@ -3,7 +3,7 @@ use Rattle.sp_core.specs.CoreParts.{plain_core}
 use Rattle.sp_core.specs.Plain.{plain_counter, plain_node, plain_stage_list}
 use Rattle.sp_plan.specs.Named.{counters_names}
 use Rattle.sp_plan.proofs.Trees.{plain_outer}
-use Rattle.sp_stages.specs.Parts.{plain_named}
+use Rattle.sp_plan.specs.Runs.{plain_named}
 use Rattle.sp_stages.proofs.NamesLemmas.{names_begin}
 use Rattle.sp_stages.proofs.names.+push_names.Goals as goal
 

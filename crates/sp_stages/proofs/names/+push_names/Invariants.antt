@@ -2,7 +2,7 @@ use Rattle.std.proofs.Common.{◌≡◌, ◌++◌, map, drop}
 use Rattle.sp_core.specs.CoreParts.{plain_core}
 use Rattle.sp_core.specs.Plain.{plain_node, plain_stage_list}
 use Rattle.sp_plan.specs.Named.{names, stages_names}
-use Rattle.sp_stages.specs.Parts.{plain_named}
+use Rattle.sp_plan.specs.Runs.{plain_named}
 use Rattle.sp_stages.proofs.names.+push_names.Given as goal
 
 abbrev pub decreases-push_names : goal.decreases-push_names

@@ -1,7 +1,7 @@
 use Rattle.std.proofs.Common.{◌≡◌, ◌++◌, map, drop}
 use Rattle.sp_core.specs.Plain.{plain_counter}
 use Rattle.sp_plan.specs.Named.{counters_names}
-use Rattle.sp_stages.specs.Parts.{plain_named}
+use Rattle.sp_plan.specs.Runs.{plain_named}
 use Rattle.sp_stages.proofs.names.push_counters.Given as goal
 
 abbrev pub invariant-loop-counter : goal.invariant-loop-counter

@@ -1,7 +1,7 @@
 use Rattle.std.proofs.Common.{◌≡◌, ◌++◌, map, drop}
 use Rattle.sp_core.specs.Plain.{plain_span}
 use Rattle.sp_plan.specs.Named.{spans_names}
-use Rattle.sp_stages.specs.Parts.{plain_named}
+use Rattle.sp_plan.specs.Runs.{plain_named}
 use Rattle.sp_stages.proofs.names.push_spans.Given as goal
 
 abbrev pub invariant-loop-span : goal.invariant-loop-span

@@ -1,6 +1,6 @@
 use Rattle.std.proofs.Common.{◌≡◌, drop}
 use Rattle.sp_core.specs.Declarations.{is_among}
-use Rattle.sp_stages.proofs.names.is_owned.Given as goal
+use Rattle.sp_plan.proofs.named.is_owned.Given as goal
 
 abbrev pub invariant-loop-r : goal.invariant-loop-r
 invariant-loop-r l = is_among l.m (drop l.r-index l.owned) ≡ is_among l.m l.owned
