@@ -2,3 +2,4 @@ pub mod BlockLemmas
 pub mod Sizes
 pub mod StageLemmas
 pub mod Ways
+pub mod Trails

@@ -5,14 +5,14 @@ use Rattle.sp_core.specs.PlainCore.{PlainNode, PlainCore}
 use Rattle.sp_stream.specs.Proper.{is_number, leads_on, across, are_joined}
 use Rattle.sp_stream.specs.Search.{steps_on, is_found}
 
-or_elim : {P : Type 0} (a b : Bool) → (a || b) ≡ true → (a ≡ true → P) → (b ≡ true → P) → P
+pub or_elim : {P : Type 0} (a b : Bool) → (a || b) ≡ true → (a ≡ true → P) → (b ≡ true → P) → P
 or_elim true b e f g = f refl
 or_elim false b e f g = g e
 
-or_first : (a b : Bool) → a ≡ true → (a || b) ≡ true
+pub or_first : (a b : Bool) → a ≡ true → (a || b) ≡ true
 or_first a b e = ap (λ x. x || b) e
 
-or_second : (a b : Bool) → b ≡ true → (a || b) ≡ true
+pub or_second : (a b : Bool) → b ≡ true → (a || b) ≡ true
 or_second true b e = refl
 or_second false b e = e
 
@@ -33,7 +33,7 @@ by_cases true f g = f refl
 by_cases false f g = g refl
 
 -- each test that it passes is passed by one of a list
-abbrev IsOne : List ℕ → ℕ → Type 0
+abbrev pub IsOne : List ℕ → ℕ → Type 0
 IsOne xs m = (test : ℕ → Bool) → test m ≡ true → list_any test xs ≡ true
 
 any_elim : {P : Type 0} (test : ℕ → Bool) (xs : List ℕ) → list_any test xs ≡ true → ((m : ℕ) → test m ≡ true → IsOne xs m → P) → P
@@ -54,7 +54,7 @@ module _ (core : PlainCore) (nodes : List PlainNode) (fifos : List ℕ) (b : ℕ
   abbrev Found : ℕ → Option ℕ → ℕ → Type 0
   Found n before a = is_found core nodes fifos n before a b ≡ true
 
-  abbrev Joined : ℕ → ℕ → Type 0
+  abbrev pub Joined : ℕ → ℕ → Type 0
   Joined n a = are_joined core nodes fifos n a b ≡ true
 
   found_here : (n : ℕ) (before : Option ℕ) (a : ℕ) → (a == b) ≡ true → Found n before a
@@ -75,13 +75,13 @@ module _ (core : PlainCore) (nodes : List PlainNode) (fifos : List ℕ) (b : ℕ
       (λ m l is. leads_elim (steps_on before (λ d. is_found core nodes fifos n (Some a) d b)) (across core nodes m a) l
       (λ c e s. and_elim (not (is_number c before)) _ s (λ x y. g m c is e x y))))
 
-  joined_on : (n a m c : ℕ) → IsOne fifos m → across core nodes m a ≡ Some c → Joined n c → Joined (suc n) a
+  pub joined_on : (n a m c : ℕ) → IsOne fifos m → across core nodes m a ≡ Some c → Joined n c → Joined (suc n) a
   joined_on n a m c is e h =
       or_second (a == b) _
       (is (λ r. leads_on (λ d. are_joined core nodes fifos n d b) (across core nodes r a))
       (leads_by (λ d. are_joined core nodes fifos n d b) (across core nodes m a) c e h))
 
-  joined_elim : {P : Type 0} (n a : ℕ) → Joined (suc n) a → ((a == b) ≡ true → P)
+  pub joined_elim : {P : Type 0} (n a : ℕ) → Joined (suc n) a → ((a == b) ≡ true → P)
       → ((m c : ℕ) → IsOne fifos m → across core nodes m a ≡ Some c → Joined n c → P) → P
   joined_elim n a h f g =
       or_elim (a == b) _ h f

@@ -1,4 +1,5 @@
 pub mod ExampleStreams
+pub mod Laws
 pub mod Parts
 pub mod Proper
 pub mod Search

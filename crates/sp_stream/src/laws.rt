@@ -1,0 +1,8 @@
+//! Laws. Each function does nothing: what it ensures is proved.
+
+ghost use Rattle.sp_stream.specs.Laws.{StepsSuffice};
+
+/// No way is lost by the bound on its steps: whether FIFOs make a forest doesn't hang on it.
+pub fn steps_suffice()
+    ensures { StepsSuffice }
+{}
