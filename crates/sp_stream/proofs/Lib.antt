@@ -1,3 +1,4 @@
+pub mod Circles
 pub mod BlockLemmas
 pub mod Sizes
 pub mod StageLemmas

@@ -7,12 +7,8 @@ use Rattle.std.proofs.lemmas.Bool.Decides.{eqb_tells}
 use Rattle.std.proofs.lemmas.Map.Made.{length-le_from_is_member}
 use Rattle.sp_core.specs.PlainCore.{PlainNode, PlainCore}
 use Rattle.sp_stream.specs.Proper.{other_end, putter, taker, across}
-use Rattle.sp_stream.proofs.Ways.{or_elim, or_first, IsOne, Joined, joined_on, joined_elim}
-
--- none of a list is among those after it
-abbrev AreApart : List ℕ → Type 0
-AreApart [] = Unit {0}
-AreApart (m ∷ way) = (list_any (eqb m) way ≡ false) × AreApart way
+use Rattle.sp_stream.specs.Circles.{AreApart, AllOne, Leads}
+use Rattle.sp_stream.proofs.Ways.{or_elim, or_first, Joined, joined_on, joined_elim}
 
 none_equal : (m : ℕ) (way : List ℕ) → list_any (eqb m) way ≡ false → AllByRecursion (λ k. eqb m k ≡ false) way
 none_equal m [] h = tt
@@ -30,7 +26,7 @@ distinct (m ∷ way) (n, h) = (none_equal m way n, distinct way h)
 some_inside : {A : Type 0} (d : A) (x y : A) → Some x ≡ Some y → x ≡ y
 some_inside d x y e = ap (λ o. elim o [ Some z ↦ z | None ↦ d ]) e
 
-by_end : {P : Type 0} (s t : Bool) (p q c : ℕ) → cond s (Some q) (cond t (Some p) None) ≡ Some c → (s ≡ true → q ≡ c → P) → (t ≡ true → p ≡ c → P) → P
+pub by_end : {P : Type 0} (s t : Bool) (p q c : ℕ) → cond s (Some q) (cond t (Some p) None) ≡ Some c → (s ≡ true → q ≡ c → P) → (t ≡ true → p ≡ c → P) → P
 by_end true t p q c e f g = f refl (some_inside 0 q c e)
 by_end false true p q c e f g = g refl (some_inside 0 p c e)
 by_end false false p q c e f g = absurd (none_some e)
@@ -54,18 +50,9 @@ two_steps (Some p) None a c y x e h f g = absurd (none_is c e)
     none_is c e = true≢false (ap (λ o. elim o [ Some z ↦ false | None ↦ true ]) e)
 
 module _ (core : PlainCore) (nodes : List PlainNode) (fifos : List ℕ) (b : ℕ) where
-  -- over these FIFOs, one after the other
-  abbrev Walk : List ℕ → ℕ → Type 0
-  Walk [] a = a ≡ b
-  Walk (m ∷ way) a = (c : ℕ) × (across core nodes m a ≡ Some c) × Walk way c
-
-  abbrev AllOne : List ℕ → Type 0
-  AllOne [] = Unit {0}
-  AllOne (m ∷ way) = IsOne fifos m × AllOne way
-
   -- what is left of a walk after a FIFO, if it leads over that one
-  cut : {P : Type 0} (m : ℕ) (way : List ℕ) (c : ℕ) → Walk way c → AllOne way → AreApart way → (list_any (eqb m) way ≡ false → P)
-      → ((rest : List ℕ) (x y : ℕ) → across core nodes m y ≡ Some x → Walk rest x → AllOne rest → AreApart rest → list_any (eqb m) rest ≡ false → P) → P
+  cut : {P : Type 0} (m : ℕ) (way : List ℕ) (c : ℕ) → Leads core nodes way c b → AllOne fifos way → AreApart way → (list_any (eqb m) way ≡ false → P)
+      → ((rest : List ℕ) (x y : ℕ) → across core nodes m y ≡ Some x → Leads core nodes rest x b → AllOne fifos rest → AreApart rest → list_any (eqb m) rest ≡ false → P) → P
   cut m [] c w o d f g = f refl
   cut m (k ∷ way) c (e, l, w) (i, o) (n, d) f g = elim (eqb_tells m k) [
     | inl same ↦ g way e c (ap (λ z. across core nodes z c) same.1 ∙ l) w o d (ap (λ z. list_any (eqb z) way) same.1 ∙ n)
@@ -73,17 +60,17 @@ module _ (core : PlainCore) (nodes : List PlainNode) (fifos : List ℕ) (b : ℕ
   ]
 
   -- each way has one in it that leads over no FIFO twice
-  trail : {P : Type 0} (n a : ℕ) → Joined core nodes fifos b n a → ((way : List ℕ) → Walk way a → AllOne way → AreApart way → P) → P
+  pub trail : {P : Type 0} (n a : ℕ) → Joined core nodes fifos b n a → ((way : List ℕ) → Leads core nodes way a b → AllOne fifos way → AreApart way → P) → P
   trail zero a h k = k [] (eqb-true a b h) tt tt
   trail (suc n) a h k =
       joined_elim core nodes fifos b n a h (λ e. k [] (eqb-true a b e) tt tt)
       (λ m c is e r. trail n c r (λ way w o d. cut m way c w o d
       (λ none. k (m ∷ way) (c, e, w) (is, o) (none, d))
       (λ rest x y step v p q none. two_steps (putter core nodes m) (taker core nodes m) a c y x e step
-      (λ back. k rest (subst (Walk rest) back v) p q)
-      (λ on. k (m ∷ rest) (c, e, subst (Walk rest) on v) (is, p) (none, q)))))
+      (λ back. k rest (subst (λ z. Leads core nodes rest z b) back v) p q)
+      (λ on. k (m ∷ rest) (c, e, subst (λ z. Leads core nodes rest z b) on v) (is, p) (none, q)))))
 
-  walked : (way : List ℕ) (a : ℕ) → Walk way a → AllOne way → Joined core nodes fifos b (length way) a
+  pub walked : (way : List ℕ) (a : ℕ) → Leads core nodes way a b → AllOne fifos way → Joined core nodes fifos b (length way) a
   walked [] a w o = eq-eqb a b w
   walked (m ∷ way) a (c, e, w) (is, o) = joined_on core nodes fifos b (length way) a m c is e (walked way c w o)
 
@@ -97,11 +84,11 @@ module _ (core : PlainCore) (nodes : List PlainNode) (fifos : List ℕ) (b : ℕ
   some_more zero n most a e h = let same : n ≡ most = omega (arith, e) in subst (λ z. Joined core nodes fifos b z a) same h
   some_more (suc k) n most a e h = some_more k (suc n) most a (omega (arith, e)) (one_more n a h)
 
-  among : (way : List ℕ) (q : ℕ) → AllOne way → list_any (eqb q) way ≡ true → list_any (eqb q) fifos ≡ true
+  pub among : (way : List ℕ) (q : ℕ) → AllOne fifos way → list_any (eqb q) way ≡ true → list_any (eqb q) fifos ≡ true
   among [] q o h = absurd (true≢false (sym h))
   among (m ∷ way) q (is, o) h = or_elim (eqb q m) (list_any (eqb q) way) h (λ e. is (eqb q) e) (λ e. among way q o e)
 
-  few : (way : List ℕ) → AllOne way → AreApart way → length way ≤ length fifos
+  few : (way : List ℕ) → AllOne fifos way → AreApart way → length way ≤ length fifos
   few way o d = length-le_from_is_member nat_eq_equiv way fifos (distinct way d) (λ q h. among way q o h)
 
   pub enough : (n a : ℕ) → Joined core nodes fifos b n a → Joined core nodes fifos b (length fifos) a

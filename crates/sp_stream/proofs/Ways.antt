@@ -3,6 +3,7 @@ use Rattle.std.proofs.Common.{◌≡◌, ℕ, zero, suc, ◌==◌, Bool, true, f
 use Rattle.std.specs.List.{list_any}
 use Rattle.sp_core.specs.PlainCore.{PlainNode, PlainCore}
 use Rattle.sp_stream.specs.Proper.{is_number, leads_on, across, are_joined}
+use Rattle.sp_stream.specs.Circles.{IsOne}
 use Rattle.sp_stream.specs.Search.{steps_on, is_found}
 
 pub or_elim : {P : Type 0} (a b : Bool) → (a || b) ≡ true → (a ≡ true → P) → (b ≡ true → P) → P
@@ -16,11 +17,11 @@ pub or_second : (a b : Bool) → b ≡ true → (a || b) ≡ true
 or_second true b e = refl
 or_second false b e = e
 
-and_elim : {P : Type 0} (a b : Bool) → (a && b) ≡ true → (a ≡ true → b ≡ true → P) → P
+pub and_elim : {P : Type 0} (a b : Bool) → (a && b) ≡ true → (a ≡ true → b ≡ true → P) → P
 and_elim true b e f = f refl e
 and_elim false b e f = absurd (true≢false (sym e))
 
-both_true : (a b : Bool) → a ≡ true → b ≡ true → (a && b) ≡ true
+pub both_true : (a b : Bool) → a ≡ true → b ≡ true → (a && b) ≡ true
 both_true a b e f = ap (λ x. x && b) e ∙ f
 
 same_answer : (a b : Bool) → (a ≡ true → b ≡ true) → (b ≡ true → a ≡ true) → a ≡ b
@@ -28,15 +29,11 @@ same_answer true b f g = sym (f refl)
 same_answer false true f g = g refl
 same_answer false false f g = refl
 
-by_cases : {P : Type 0} (a : Bool) → (a ≡ true → P) → (not a ≡ true → P) → P
+pub by_cases : {P : Type 0} (a : Bool) → (a ≡ true → P) → (not a ≡ true → P) → P
 by_cases true f g = f refl
 by_cases false f g = g refl
 
--- each test that it passes is passed by one of a list
-abbrev pub IsOne : List ℕ → ℕ → Type 0
-IsOne xs m = (test : ℕ → Bool) → test m ≡ true → list_any test xs ≡ true
-
-any_elim : {P : Type 0} (test : ℕ → Bool) (xs : List ℕ) → list_any test xs ≡ true → ((m : ℕ) → test m ≡ true → IsOne xs m → P) → P
+pub any_elim : {P : Type 0} (test : ℕ → Bool) (xs : List ℕ) → list_any test xs ≡ true → ((m : ℕ) → test m ≡ true → IsOne xs m → P) → P
 any_elim test [] e f = absurd (true≢false (sym e))
 any_elim test (x ∷ xs) e f =
     or_elim (test x) (list_any test xs) e

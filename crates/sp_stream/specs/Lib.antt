@@ -1,3 +1,4 @@
+pub mod Circles
 pub mod ExampleStreams
 pub mod Laws
 pub mod Parts

@@ -11,4 +11,4 @@ mod tests;
 
 pub use block::proper;
 pub use examples::{worked_blocks_are_cores, worked_broken_blocks, worked_proper_blocks};
-pub use laws::steps_suffice;
+pub use laws::{forests_have_no_circle, steps_suffice};
