@@ -3,24 +3,25 @@ use Rattle.std.proofs.Common.{◌≡◌, ℕ, zero, suc, ◌==◌, Bool, true, f
 use Rattle.std.specs.List.{list_any}
 use Rattle.sp_core.specs.PlainCore.{PlainNode, PlainCore}
 use Rattle.sp_stream.specs.Proper.{is_number, leads_on, across, are_joined}
+use Rattle.sp_stream.specs.Circles.{IsOne}
 use Rattle.sp_stream.specs.Search.{steps_on, is_found}
 
-or_elim : {P : Type 0} (a b : Bool) → (a || b) ≡ true → (a ≡ true → P) → (b ≡ true → P) → P
+pub or_elim : {P : Type 0} (a b : Bool) → (a || b) ≡ true → (a ≡ true → P) → (b ≡ true → P) → P
 or_elim true b e f g = f refl
 or_elim false b e f g = g e
 
-or_first : (a b : Bool) → a ≡ true → (a || b) ≡ true
+pub or_first : (a b : Bool) → a ≡ true → (a || b) ≡ true
 or_first a b e = ap (λ x. x || b) e
 
-or_second : (a b : Bool) → b ≡ true → (a || b) ≡ true
+pub or_second : (a b : Bool) → b ≡ true → (a || b) ≡ true
 or_second true b e = refl
 or_second false b e = e
 
-and_elim : {P : Type 0} (a b : Bool) → (a && b) ≡ true → (a ≡ true → b ≡ true → P) → P
+pub and_elim : {P : Type 0} (a b : Bool) → (a && b) ≡ true → (a ≡ true → b ≡ true → P) → P
 and_elim true b e f = f refl e
 and_elim false b e f = absurd (true≢false (sym e))
 
-both_true : (a b : Bool) → a ≡ true → b ≡ true → (a && b) ≡ true
+pub both_true : (a b : Bool) → a ≡ true → b ≡ true → (a && b) ≡ true
 both_true a b e f = ap (λ x. x && b) e ∙ f
 
 same_answer : (a b : Bool) → (a ≡ true → b ≡ true) → (b ≡ true → a ≡ true) → a ≡ b
@@ -28,15 +29,11 @@ same_answer true b f g = sym (f refl)
 same_answer false true f g = g refl
 same_answer false false f g = refl
 
-by_cases : {P : Type 0} (a : Bool) → (a ≡ true → P) → (not a ≡ true → P) → P
+pub by_cases : {P : Type 0} (a : Bool) → (a ≡ true → P) → (not a ≡ true → P) → P
 by_cases true f g = f refl
 by_cases false f g = g refl
 
--- each test that it passes is passed by one of a list
-abbrev IsOne : List ℕ → ℕ → Type 0
-IsOne xs m = (test : ℕ → Bool) → test m ≡ true → list_any test xs ≡ true
-
-any_elim : {P : Type 0} (test : ℕ → Bool) (xs : List ℕ) → list_any test xs ≡ true → ((m : ℕ) → test m ≡ true → IsOne xs m → P) → P
+pub any_elim : {P : Type 0} (test : ℕ → Bool) (xs : List ℕ) → list_any test xs ≡ true → ((m : ℕ) → test m ≡ true → IsOne xs m → P) → P
 any_elim test [] e f = absurd (true≢false (sym e))
 any_elim test (x ∷ xs) e f =
     or_elim (test x) (list_any test xs) e
@@ -54,7 +51,7 @@ module _ (core : PlainCore) (nodes : List PlainNode) (fifos : List ℕ) (b : ℕ
   abbrev Found : ℕ → Option ℕ → ℕ → Type 0
   Found n before a = is_found core nodes fifos n before a b ≡ true
 
-  abbrev Joined : ℕ → ℕ → Type 0
+  abbrev pub Joined : ℕ → ℕ → Type 0
   Joined n a = are_joined core nodes fifos n a b ≡ true
 
   found_here : (n : ℕ) (before : Option ℕ) (a : ℕ) → (a == b) ≡ true → Found n before a
@@ -75,13 +72,13 @@ module _ (core : PlainCore) (nodes : List PlainNode) (fifos : List ℕ) (b : ℕ
       (λ m l is. leads_elim (steps_on before (λ d. is_found core nodes fifos n (Some a) d b)) (across core nodes m a) l
       (λ c e s. and_elim (not (is_number c before)) _ s (λ x y. g m c is e x y))))
 
-  joined_on : (n a m c : ℕ) → IsOne fifos m → across core nodes m a ≡ Some c → Joined n c → Joined (suc n) a
+  pub joined_on : (n a m c : ℕ) → IsOne fifos m → across core nodes m a ≡ Some c → Joined n c → Joined (suc n) a
   joined_on n a m c is e h =
       or_second (a == b) _
       (is (λ r. leads_on (λ d. are_joined core nodes fifos n d b) (across core nodes r a))
       (leads_by (λ d. are_joined core nodes fifos n d b) (across core nodes m a) c e h))
 
-  joined_elim : {P : Type 0} (n a : ℕ) → Joined (suc n) a → ((a == b) ≡ true → P)
+  pub joined_elim : {P : Type 0} (n a : ℕ) → Joined (suc n) a → ((a == b) ≡ true → P)
       → ((m c : ℕ) → IsOne fifos m → across core nodes m a ≡ Some c → Joined n c → P) → P
   joined_elim n a h f g =
       or_elim (a == b) _ h f

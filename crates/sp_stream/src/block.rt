@@ -4,7 +4,7 @@ ghost use Rattle.std.specs.Prelude.{◌≡◌, ◌&&◌, map};
 ghost use Rattle.std.specs.List.{list_all};
 ghost use Rattle.sp_core.specs.CoreParts.{plain_core};
 ghost use Rattle.sp_core.specs.Declarations.{is_among};
-ghost use Rattle.sp_core.specs.Plain.{plain_counter, plain_mem, plain_node, plain_stage_list};
+ghost use Rattle.sp_core.specs.Plain.{plain_counter, plain_node, plain_stage_list};
 ghost use Rattle.sp_plan.specs.Slots.{is_once};
 ghost use Rattle.sp_stream.specs.Proper.{nodes_of, has_one_at_each_end, is_shared_unchanged, is_end_right, is_mem_right, are_mems_right, is_proper_block, is_proper_node, is_proper};
 

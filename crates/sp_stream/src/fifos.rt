@@ -1,6 +1,6 @@
 //! The graph that the FIFOs of a block make of its stages.
 
-ghost use Rattle.std.specs.Prelude.{◌≡◌, length, map};
+ghost use Rattle.std.specs.Prelude.{◌≡◌};
 ghost use Rattle.sp_core.specs.CoreParts.{plain_core};
 ghost use Rattle.sp_core.specs.OperationRules.{is_fifo};
 ghost use Rattle.sp_core.specs.Declarations.{mem};
@@ -114,7 +114,7 @@ fn is_found(
     false
 }
 
-/// Whether a FIFO closes a circle with these, which make a forest.
+/// Whether a FIFO closes a circle with these. Where they make a forest, there are few ways to look at.
 #[tactic(auto, using(crate::proofs::Ways::found_is))]
 fn closes(core: &Core, stages: &[Stage], fifos: &[u32], m: u32) -> bool
     ensures { result ≡ closes (plain_core core.now) (nodes_of (plain_stage_list stages.now)) fifos.now m }

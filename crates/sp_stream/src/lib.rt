@@ -4,9 +4,11 @@
 mod block;
 mod examples;
 mod fifos;
+mod laws;
 mod stages;
 #[cfg(test)]
 mod tests;
 
 pub use block::proper;
 pub use examples::{worked_blocks_are_cores, worked_broken_blocks, worked_proper_blocks};
+pub use laws::{forests_have_no_circle, steps_suffice};
