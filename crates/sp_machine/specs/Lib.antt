@@ -1,4 +1,5 @@
 pub mod Examples
+pub mod InOrder
 pub mod Laws
 pub mod Stamps
 pub mod Timeline

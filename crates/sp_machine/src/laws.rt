@@ -2,6 +2,7 @@
 
 ghost use Rattle.std.specs.Prelude.{ℕ};
 ghost use Rattle.sp_core.specs.PlainCore.{PlainCore, PlainNode, PlainStages};
+ghost use Rattle.sp_machine.specs.InOrder.{BodiesInOrder};
 ghost use Rattle.sp_machine.specs.Laws.{EndsInCost, GivesCounted, HappensWithin, KeepsToCost, TellsAll, WorksInBeats};
 ghost use Rattle.sp_machine.specs.Transfers.{Delays};
 ghost use Rattle.sp_plan.specs.PlainPlan.{PlainPlan};
@@ -34,4 +35,10 @@ pub fn runs_happen_within()
 /// In beat b a stage of slot g does all of group b - g: after the beat's first cycle, and before that of the next beat.
 pub fn stages_work_in_beats()
     ensures { (core : PlainCore) (plan : PlainPlan) (delays : Delays) (stages : PlainStages) → WorksInBeats core plan delays stages }
+{}
+
+/// In an inner body an event that touches an element comes after an earlier one that changes it, and no earlier than one that
+/// it changes itself, by times that are right for meets in which the body's events stand; whether or not groups overlap.
+pub fn bodies_come_in_order()
+    ensures { (core : PlainCore) (plan : PlainPlan) (delays : Delays) → BodiesInOrder core plan delays }
 {}
