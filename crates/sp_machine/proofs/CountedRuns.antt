@@ -9,28 +9,9 @@ use Rattle.sp_core.specs.Scope.{in_lanes, Scope, loops_of, counts_of, group_valu
 use Rattle.sp_core.specs.Sequential.{run, run_stages}
 use Rattle.sp_core.specs.Step.{Step, Went, went, stopped, more, pure, ◌>>=◌, out_of_turns, in_order, repeated}
 use Rattle.sp_core.specs.Store.{Store}
+use Rattle.sp_core.proofs.Replays.{not_stopped, not_more, same_value}
 use Rattle.sp_machine.specs.Told.{IsCounted, AreCounted, RunsCounted, TurnsCounted}
 use Rattle.sp_machine.proofs.GroupCounts.{groups_few}
-
-is_went : {A : Type 0} → Went A → Type 0
-is_went (went a s) = Unit {0}
-is_went _ = ⊥
-
-not_stopped : {A B : Type 0} (a : A) (t : Store) → stopped ≡ went a t → B
-unfolding is_went
-not_stopped {A = A} a t e = absurd (subst is_went (sym e) tt)
-
-not_more : {A B : Type 0} (a : A) (t : Store) → more ≡ went a t → B
-unfolding is_went
-not_more a t e = absurd (subst is_went (sym e) tt)
-
-value_or : {A : Type 0} → A → Went A → A
-value_or b (went a t) = a
-value_or b _ = b
-
-same_value : {A : Type 0} (a b : A) (s t : Store) → went a s ≡ went b t → a ≡ b
-unfolding value_or
-same_value a b s t e = ap (value_or a) e
 
 -- what a step gives, where it goes on
 abbrev Gives : {A : Type 0} → (A → Type 0) → Step A → Type 0

@@ -1,9 +1,9 @@
 -- The events of an inner body come in order, by times that are right for meets in which its events stand.
-use Rattle.std.proofs.Common.{◌≡◌, ℕ, zero, suc, ◌+◌, ◌-◌, ◌*◌, ◌<◌, ◌≤◌, ◌⊎◌, inl, inr, Bool, true, false, cond, ℤ, List, [], ◌∷◌, ◌++◌, map, length, append_assoc, arith, refl, sym, subst, ap, ◌∙◌, le-leb}
-use Rattle.std.proofs.lemmas.Bool.{cases_order, and_parts, eq-eqb, eqb-true, leb-true, lt-ltb, ne_eqb, true≢false, false≢true}
+use Rattle.std.proofs.Common.{◌≡◌, ℕ, zero, suc, ◌+◌, ◌-◌, ◌*◌, ◌<◌, ◌≤◌, ◌⊎◌, inl, inr, Bool, true, false, cond, ℤ, List, [], ◌∷◌, ◌++◌, length, append_assoc, arith, refl, sym, subst, ap, ◌∙◌, le-leb}
+use Rattle.std.proofs.lemmas.Bool.{and_parts, eq-eqb, eqb-true, leb-true, lt-ltb, ne_eqb, true≢false, false≢true}
 use Rattle.std.proofs.Math.Nat.{suc-mul, add-mul, mul-le-mul_right}
 use Rattle.std.specs.List.{list_all, list_any}
-use Rattle.std.specs.Prelude.{◌==◌, ◌&&◌, ◌||◌, not, nat_le, nat_lt, max, flat_map, slice_index, slice_index_or, Option, Some, None}
+use Rattle.std.specs.Prelude.{◌==◌, ◌&&◌, ◌||◌, not, nat_le, flat_map, slice_index, Option, Some, None}
 use Rattle.sp_bank.specs.Banking.{Banking}
 use Rattle.sp_core.specs.declared.access.Meet.{Meet}
 use Rattle.sp_core.specs.declared.operation.OpKind.{OpKind}
@@ -11,20 +11,19 @@ use Rattle.sp_core.specs.declared.operation.OpKind.TheVariants as kind
 use Rattle.sp_core.specs.Events.{Act, At, Standing, inside_at, in_group_of, Event, Moment, touches, slices, renews, keeps, act_of, event_of, entry_moments, events_of, renewal_in_body}
 use Rattle.sp_core.specs.History.{Entry, left_out, gave, touched}
 use Rattle.sp_core.specs.Latency.{latency_by, read_of, latency}
-use Rattle.sp_core.specs.Meeting.{changes, is_one_element, is_group, go_on, together_at, together, Together, in_loop, in_one_turn, nowhere, is_in_stream, owns, share_port, least_of, stand, stand_apart, do_stand, is_met, are_met}
+use Rattle.sp_core.specs.Meeting.{changes, is_one_element, is_group, go_on, together_at, together, in_loop, nowhere, is_in_stream, owns, share_port, least_of, stand, stand_apart, do_stand, is_met, are_met}
 use Rattle.sp_core.specs.PlainCore.{PlainOp, PlainCore}
 use Rattle.sp_core.specs.Sequential.{has_reset}
 use Rattle.sp_core.specs.Declarations.{mem}
-use Rattle.sp_modulo.specs.declared.order.Order.{Order}
 use Rattle.sp_modulo.specs.Times.{end_of}
 use Rattle.sp_plan.specs.Bodies.{is_kept, latencies, are_in_turn, keep_orders, are_times_right}
-use Rattle.sp_plan.specs.Orders.{op_at, change_gap, is_in_body, meet_order, meet_orders, body_orders}
+use Rattle.sp_plan.specs.Orders.{op_at, change_gap, is_in_body, meet_order, meet_orders}
 use Rattle.sp_plan.specs.PlainPlan.{PlainNodePlan, inner_plan, PlainPlan}
 use Rattle.sp_plan.specs.Ports.{is_change}
 use Rattle.sp_time.specs.Lists.{Each, Pairs}
 use Rattle.sp_machine.specs.InOrder.{Waits, MomentsWait, AreInOrder, IsPlaced, BodiesInOrder}
 use Rattle.sp_machine.specs.Laws.{told}
-use Rattle.sp_machine.specs.Stamps.{Stamped, Copies, stamp, stamped, list_stamped}
+use Rattle.sp_machine.specs.Stamps.{Stamped, Copies, stamped, list_stamped}
 use Rattle.sp_machine.specs.Timeline.{body_events, issued}
 use Rattle.sp_machine.specs.Transfers.{Delays}
 
@@ -405,15 +404,21 @@ module _ (core : PlainCore) (schemes : List (Option Banking)) (meets : List Meet
       by_mem : (m : Option ℕ) (act : Option Act) → ((a : Act) → act ≡ Some a → changes a ≡ is_change op.kind) → Rising g i (stamped copies (1 + g * ii + slice_index times i) (event_of n (at_group g v) m is act) ++ rest)
       by_mem None act q = rising_from g i g (suc i) (inr (refl, omega arith)) rest r
       by_mem (Some m) None q = rising_from g i g (suc i) (inr (refl, omega arith)) rest r
-      by_mem (Some m) (Some a) q = inr (g, i, inr (refl, omega arith), record {
-        event = record { number = n; standing = at_group g v; mem = m; indices = is; act = a };
-        is = refl;
-        numbered = en;
-        path = refl;
-        cycle = refl;
-        inside = l;
-        change = q a refl ∙ ap (λ (o : PlainOp). is_change o.kind) (sym same);
-      }, r)
+      by_mem (Some m) (Some a) q = inr (
+        g,
+        i,
+        inr (refl, omega arith),
+        record {
+          event = record { number = n; standing = at_group g v; mem = m; indices = is; act = a };
+          is = refl;
+          numbered = en;
+          path = refl;
+          cycle = refl;
+          inside = l;
+          change = q a refl ∙ ap (λ (o : PlainOp). is_change o.kind) (sym same);
+        },
+        r,
+      )
 
   list_rises : (copies : Copies) (g i n : ℕ) (v : List ℤ) (left : List PlainOp) (es : List Entry) → n ≡ number + i → i + length left ≡ length ops → ((m : ℕ) → op_at core ops (i + m) ≡ op_at core left m) → (rest : List Stamped) → Rising (suc g) 0 rest
       → Rising g i (list_stamped copies (λ j. 1 + g * ii + slice_index times j) i n (at_group g v) left es ++ rest)

@@ -1,6 +1,5 @@
 -- What happens in a run happens within it.
-use Rattle.std.proofs.Common.{◌≡◌, ℕ, zero, suc, ◌+◌, ◌*◌, ◌<◌, ◌≤◌, Bool, true, false, cond, ℤ, List, [], ◌∷◌, ◌++◌, map, take, length, max, inl, inr, arith, refl, sym, subst, ap, ◌∙◌}
-use Rattle.std.proofs.lemmas.Bool.{cases_order}
+use Rattle.std.proofs.Common.{◌≡◌, ℕ, zero, suc, ◌+◌, ◌*◌, ◌<◌, ◌≤◌, Bool, true, false, cond, ℤ, List, [], ◌∷◌, ◌++◌, map, take, length, max, arith, refl, sym, subst, ap, ◌∙◌}
 use Rattle.std.proofs.Math.Nat.{mul-le-mul_right}
 use Rattle.std.specs.Prelude.{◌/◌, flat_map, slice_index, slice_index_or}
 use Rattle.sp_core.specs.Cost.{waits, greatest_of}
@@ -22,6 +21,7 @@ use Rattle.sp_machine.specs.Stamps.{Stamped, Copies, stamped, later, list_stampe
 use Rattle.sp_machine.specs.Timeline.{timed, group_runs, stage_runs, turn_runs, body_events, issued, inner_took, interval_of, latency_of, times_of, least, slots_from, slots_of, first_slot, fresh_events, stage_events, group_events, in_copies}
 use Rattle.sp_machine.specs.Told.{HasSlots, IsPlanned, ArePlanned, AreTimesKept, IsKept, AreKept}
 use Rattle.sp_machine.specs.Transfers.{Delays, word_cycle, look_cycle, transfer_took, load_stamped, store_stamped, slice_stamped}
+use Rattle.sp_time.proofs.ListLemmas.{total_mono, greatest_ge}
 use Rattle.sp_time.proofs.Whole.{beats_in_order}
 use Rattle.sp_machine.proofs.Beats.{slots_length, slot_of_stage}
 
@@ -71,21 +71,12 @@ module _ (core : PlainCore) where
   before_kept copies number st ops es state word = before_append _ _ _ (before_row copies number st ops es) (omega arith, tt)
 
 -- the words of a transfer
-total_rises : (f : ℕ → ℕ) (a b : ℕ) → a ≤ b → total f a ≤ total f b
-total_rises f zero b l = omega arith
-total_rises f (suc a) zero l = absurd (omega (arith, l))
-total_rises f (suc a) (suc b) l = elim (cases_order (suc a) (suc b)) [
-  | inl e ↦ subst (λ n. total f (suc a) ≤ total f n) e (omega arith)
-  | inr (inl q) ↦ let h : total f (suc a) ≤ total f b = total_rises f (suc a) b (omega arith) in omega arith
-  | inr (inr q) ↦ absurd (omega arith)
-]
-
 module _ (delay : ℕ → ℕ) (w : ℕ) where
   asks_enough : (j : ℕ) → j < w → j / 16 + 1 ≤ max 1 (waits w)
   asks_enough j l = omega arith
 
   word_before : (j : ℕ) → j < w → suc (word_cycle delay j) < transfer_took delay w
-  word_before j l = let a : total delay (j / 16 + 1) ≤ total delay (max 1 (waits w)) = total_rises delay _ _ (asks_enough j l) in omega arith
+  word_before j l = let a : total delay (j / 16 + 1) ≤ total delay (max 1 (waits w)) = total_mono delay _ _ (asks_enough j l) in omega arith
 
   look_before : (j : ℕ) → j < w → look_cycle delay j < transfer_took delay w
   look_before zero l = omega arith
@@ -156,21 +147,13 @@ greatest_of_under (n ∷ ns) top h =
     let b : greatest_of ns ≤ top = greatest_of_under ns top (λ i l. h (suc i) (omega arith)) in
     omega arith
 
-greatest_reaches : (f : ℕ → ℕ) (n i : ℕ) → i < n → f i ≤ greatest f n
-greatest_reaches f zero i l = absurd (omega arith)
-greatest_reaches f (suc n) i l = elim (cases_order i n) [
-  | inl e ↦ subst (λ j. f j ≤ greatest f (suc n)) (sym e) (omega arith)
-  | inr (inl q) ↦ let a : f i ≤ greatest f n = greatest_reaches f n i q in omega arith
-  | inr (inr q) ↦ absurd (omega arith)
-]
-
 abbrev last_slot : List Slot → ℕ
 last_slot slots = greatest (λ s. (slot_at slots s).slot) (length slots)
 
 slots_reach : (slots chains : List ℕ) → length slots ≡ length chains → greatest_of slots ≤ last_slot (slots_from slots chains)
 slots_reach slots chains e = greatest_of_under slots _ (λ i l.
     subst (λ n. n ≤ last_slot (slots_from slots chains)) (slot_of_stage slots chains i e l)
-    (greatest_reaches (λ s. (slot_at (slots_from slots chains) s).slot) (length (slots_from slots chains)) i (subst (λ n. i < n) (sym (slots_length slots chains e)) l)))
+    (greatest_ge (λ s. (slot_at (slots_from slots chains) s).slot) (length (slots_from slots chains)) i (subst (λ n. i < n) (sym (slots_length slots chains e)) l)))
 
 module _ (core : PlainCore) where
   used_under : (m : ℕ) (stages : PlainStages) (slots : List ℕ) → Each (λ n. n ≤ greatest_of slots) (used_slots core m stages slots)
@@ -193,7 +176,7 @@ least_under (n ∷ ns) top h = let a : least (n ∷ ns) ≤ n = least_first n ns
 -- a beat that is one of a loop's begins within it
 beat_within : (slots : List Slot) (took : ℕ → ℕ → ℕ) (groups b : ℕ) → b < groups + last_slot slots → 0 < groups → first_cycle slots took b < whole slots took groups
 beat_within slots took zero b l p = absurd (omega arith)
-beat_within slots took (suc n) b l p = let a : begins slots took b ≤ begins slots took (suc n + last_slot slots) = total_rises _ b (suc n + last_slot slots) (omega arith) in omega arith
+beat_within slots took (suc n) b l p = let a : begins slots took b ≤ begins slots took (suc n + last_slot slots) = total_mono _ b (suc n + last_slot slots) (omega arith) in omega arith
 
 -- the first slot of a memory is one of the plan's
 first_under : (core : PlainCore) (plan : PlainPlan) (delays : Delays) (p : PlainNodePlan) (n : ℕ) → HasSlots p n → (stages : PlainStages) (m : ℕ) → first_slot core plan delays p stages m ≤ last_slot (slots_of p)

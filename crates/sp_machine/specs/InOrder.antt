@@ -1,6 +1,6 @@
 -- When what happens in a run comes in order: of two events at one element of one copy of a memory, of which the first one
 -- in the order of the text changes it, the second one comes in a later cycle; where only the second one does, in no earlier one.
-use Rattle.std.specs.Prelude.{◌≡◌, ℕ, ◌+◌, ◌<◌, ◌≤◌, Bool, true, false, ℤ, List, Option}
+use Rattle.std.specs.Prelude.{◌≡◌, ℕ, ◌<◌, ◌≤◌, Bool, true, false, ℤ, List, Option}
 use Rattle.sp_bank.specs.Banking.{Banking}
 use Rattle.sp_core.specs.declared.access.Meet.{Meet}
 use Rattle.sp_core.specs.Events.{At, Standing, Event, Moment, touches, events_of}
