@@ -21,7 +21,7 @@ use Rattle.sp_plan.specs.Orders.{op_at, change_gap, is_in_body, meet_order, meet
 use Rattle.sp_plan.specs.PlainPlan.{PlainNodePlan, inner_plan, PlainPlan}
 use Rattle.sp_plan.specs.Ports.{is_change}
 use Rattle.sp_time.specs.Lists.{Each, Pairs}
-use Rattle.sp_machine.specs.InOrder.{Waits, MomentsWait, AreInOrder, IsPlaced, BodiesInOrder}
+use Rattle.sp_machine.specs.InOrder.{is_done, does_change, share_place, Clash, AreInOrder, IsPlaced, BodiesInOrder}
 use Rattle.sp_machine.specs.Laws.{told}
 use Rattle.sp_machine.specs.Stamps.{Stamped, Copies, stamped, list_stamped}
 use Rattle.sp_machine.specs.Timeline.{body_events, issued}
@@ -138,11 +138,6 @@ later_on g i h j a b (inl p) (inr q) = inl (let e : h ≡ a = q.0 in omega arith
 later_on g i h j a b (inr p) (inl q) = inl (let e : g ≡ h = p.0 in omega arith)
 later_on g i h j a b (inr p) (inr q) = inr (p.0 ∙ q.0, (let x : i ≤ j = p.1 in let y : j ≤ b = q.1 in omega arith))
 
-abbrev NoTouch : Moment → Type 0
-NoTouch (touches e) = ⊥
-NoTouch _ = Unit {0}
-
--- an act changes what its operation does
 abbrev changes_of : Option Act → Bool
 changes_of None = false
 changes_of (Some b) = changes b
@@ -210,7 +205,7 @@ module _ (core : PlainCore) (schemes : List (Option Banking)) (meets : List Meet
   -- touches whose groups and places rise
   abbrev Rising : (g i : ℕ) → List Stamped → Type 0
   Rising g i [] = Unit {0}
-  Rising g i (s ∷ rest) = (NoTouch s.moment × Rising g i rest) ⊎ ((h : ℕ) × (j : ℕ) × Later g i h j × IsTouch h j s × Rising h (suc j) rest)
+  Rising g i (s ∷ rest) = ((is_done core s.moment ≡ false) × Rising g i rest) ⊎ ((h : ℕ) × (j : ℕ) × Later g i h j × IsTouch h j s × Rising h (suc j) rest)
 
   rising_from : (g i h j : ℕ) → Later g i h j → (xs : List Stamped) → Rising h j xs → Rising g i xs
   rising_from g i h j l [] r = tt
@@ -218,7 +213,7 @@ module _ (core : PlainCore) (schemes : List (Option Banking)) (meets : List Meet
   rising_from g i h j l (x ∷ xs) (inr r) = inr (r.0, r.1, later_on g i h j r.0 r.1 l r.2, r.3, r.4)
 
   abbrev LaterTouch : (g i : ℕ) → Stamped → Type 0
-  LaterTouch g i t = NoTouch t.moment ⊎ ((h : ℕ) × (j : ℕ) × Later g i h j × IsTouch h j t)
+  LaterTouch g i t = (is_done core t.moment ≡ false) ⊎ ((h : ℕ) × (j : ℕ) × Later g i h j × IsTouch h j t)
 
   each_weaker : (g i h j : ℕ) → Later g i h j → (xs : List Stamped) → Each (LaterTouch h j) xs → Each (LaterTouch g i) xs
   each_weaker g i h j l [] e = tt
@@ -325,18 +320,18 @@ module _ (core : PlainCore) (schemes : List (Option Banking)) (meets : List Meet
             gap_under false e = omega arith
 
     -- so two touches of the body are in order
-    two_touches : (h j g r : ℕ) → Later h (suc j) g r → (s t : Stamped) → (a : IsTouch h j s) → (b : IsTouch g r t) → is_met core meets a.event b.event ≡ true → Waits core s.cycle a.event t.cycle b.event
+    two_touches : (h j g r : ℕ) → Later h (suc j) g r → (s t : Stamped) → (a : IsTouch h j s) → (b : IsTouch g r t) → is_met core meets a.event b.event ≡ true → AreInOrder core s t
     two_touches h j g r later s t a b met = record {
-      for_change = λ same one some.
-          let st2 : stand_apart core meets a.event b.event (g - h) ≡ true = stands core k st placed meets a.event b.event h g a.path b.path met same one (ap (λ x. x || changes b.event.act) some) in
-          let c : h * ii + slice_index times j + gap_at j ≤ g * ii + slice_index times r = apart h j g r a.inside b.inside later a.event b.event a.numbered b.numbered st2 in
-          let e : gap_at j ≡ 1 = ap (λ x. cond x 1 0) (sym a.change ∙ some) in
+      for_change = λ c some.
+          let e : changes a.event.act ≡ true = ap does_change (sym a.is) ∙ some in
+          let l : h * ii + slice_index times j + gap_at j ≤ g * ii + slice_index times r = least c (ap (λ x. x || changes b.event.act) e) in
+          let one : gap_at j ≡ 1 = ap (λ x. cond x 1 0) (sym a.change ∙ e) in
           let x : s.cycle ≡ 1 + h * ii + slice_index times j = a.cycle in
           let y : t.cycle ≡ 1 + g * ii + slice_index times r = b.cycle in
           omega arith;
-      for_look = λ same one some.
-          let st2 : stand_apart core meets a.event b.event (g - h) ≡ true = stands core k st placed meets a.event b.event h g a.path b.path met same one (or_true (changes a.event.act) (changes b.event.act) some) in
-          let c : h * ii + slice_index times j + gap_at j ≤ g * ii + slice_index times r = apart h j g r a.inside b.inside later a.event b.event a.numbered b.numbered st2 in
+      for_look = λ c some.
+          let e : changes b.event.act ≡ true = ap does_change (sym b.is) ∙ some in
+          let l : h * ii + slice_index times j + gap_at j ≤ g * ii + slice_index times r = least c (or_true (changes a.event.act) (changes b.event.act) e) in
           let x : s.cycle ≡ 1 + h * ii + slice_index times j = a.cycle in
           let y : t.cycle ≡ 1 + g * ii + slice_index times r = b.cycle in
           omega arith;
@@ -346,51 +341,52 @@ module _ (core : PlainCore) (schemes : List (Option Banking)) (meets : List Meet
         or_true true y e = refl
         or_true false y e = e
 
-    -- a touch and what comes later
+        least : Clash core s t → (changes a.event.act || changes b.event.act) ≡ true → h * ii + slice_index times j + gap_at j ≤ g * ii + slice_index times r
+        least c some =
+            let place : share_place core (touches a.event) (touches b.event) ≡ true = ap (λ m. share_place core m (touches b.event)) (sym a.is) ∙ ap (λ m. share_place core s.moment m) (sym b.is) ∙ c.place in
+            let parts = and_parts (a.event.mem == b.event.mem) (is_one_element core a.event b.event) place in
+            apart h j g r a.inside b.inside later a.event b.event a.numbered b.numbered
+            (stands core k st placed meets a.event b.event h g a.path b.path met (eqb-true _ _ parts.0) parts.1 some)
+
+    -- a touch and what comes later; a moment at which there is nothing to do
+    nothing_later : (s t : Stamped) → is_done core t.moment ≡ false → AreInOrder core s t
+    nothing_later s t n = record { for_change = λ c x. absurd (true≢false (sym c.second ∙ n)); for_look = λ c x. absurd (true≢false (sym c.second ∙ n)) }
+
+    nothing_before : (s t : Stamped) → is_done core s.moment ≡ false → AreInOrder core s t
+    nothing_before s t n = record { for_change = λ c x. absurd (true≢false (sym c.first ∙ n)); for_look = λ c x. absurd (true≢false (sym c.first ∙ n)) }
+
     one_later : (h j : ℕ) (s t : Stamped) → IsTouch h j s → LaterTouch h (suc j) t → AreMet core meets s t → AreInOrder core s t
-    one_later h j s t a (inl n) met = subst (λ m. MomentsMet core meets m t.moment → MomentsWait core s.cycle m t.cycle t.moment) (sym a.is) (free t.moment n) met
-      where
-        free : (m : Moment) → NoTouch m → MomentsMet core meets (touches a.event) m → MomentsWait core s.cycle (touches a.event) t.cycle m
-        free (touches e) n met = absurd n
-        free (slices x) n met = tt
-        free (renews m) n met = tt
-        free (keeps m w) n met = tt
+    one_later h j s t a (inl n) met = nothing_later s t n
     one_later h j s t a (inr r) met =
         let b : IsTouch r.0 r.1 t = r.3 in
-        subst (λ m. MomentsMet core meets m t.moment → MomentsWait core s.cycle m t.cycle t.moment) (sym a.is)
-        (subst (λ m. MomentsMet core meets (touches a.event) m → MomentsWait core s.cycle (touches a.event) t.cycle m) (sym b.is) (λ x. two_touches h j r.0 r.1 r.2 s t a b x)) met
+        two_touches h j r.0 r.1 r.2 s t a b (subst (λ m. MomentsMet core meets (touches a.event) m) b.is (subst (λ m. MomentsMet core meets m t.moment) a.is met))
 
     all_later : (h j : ℕ) (s : Stamped) → IsTouch h j s → (xs : List Stamped) → Each (LaterTouch h (suc j)) xs → Each (AreMet core meets s) xs → Each (AreInOrder core s) xs
     all_later h j s a [] l m = tt
     all_later h j s a (x ∷ xs) l m = (one_later h j s x a l.0 m.0, all_later h j s a xs l.1 m.1)
 
-    no_touch_free : (s : Stamped) → NoTouch s.moment → (xs : List Stamped) → Each (AreInOrder core s) xs
-    no_touch_free s n [] = tt
-    no_touch_free s n (x ∷ xs) = (free s.moment n, no_touch_free s n xs)
-      where
-        free : (m : Moment) → NoTouch m → MomentsWait core s.cycle m x.cycle x.moment
-        free (touches e) n = absurd n
-        free (slices y) n = tt
-        free (renews m) n = tt
-        free (keeps m w) n = tt
+    nothing_free : (s : Stamped) → is_done core s.moment ≡ false → (xs : List Stamped) → Each (AreInOrder core s) xs
+    nothing_free s n [] = tt
+    nothing_free s n (x ∷ xs) = (nothing_before s x n, nothing_free s n xs)
 
     pairs_in_order : (g i : ℕ) (xs : List Stamped) → Rising g i xs → Pairs (AreMet core meets) xs → Pairs (AreInOrder core) xs
     pairs_in_order g i [] r m = tt
-    pairs_in_order g i (x ∷ xs) (inl r) m = (no_touch_free x r.0 xs, pairs_in_order g i xs r.1 m.1)
+    pairs_in_order g i (x ∷ xs) (inl r) m = (nothing_free x r.0 xs, pairs_in_order g i xs r.1 m.1)
     pairs_in_order g i (x ∷ xs) (inr r) m = (all_later r.0 r.1 x r.3 xs (each_later r.0 (suc r.1) xs r.4) m.0, pairs_in_order r.0 (suc r.1) xs r.4 m.1)
 
   -- the groups of a body rise
-  rising_skip : (g i : ℕ) (copies : Copies) (cycle : ℕ) (ms : List Moment) → Each NoTouch ms → (rest : List Stamped) → Rising g i rest → Rising g i (stamped copies cycle ms ++ rest)
+  rising_skip : (g i : ℕ) (copies : Copies) (cycle : ℕ) (ms : List Moment) → Each (λ m. is_done core m ≡ false) ms → (rest : List Stamped) → Rising g i rest → Rising g i (stamped copies cycle ms ++ rest)
   rising_skip g i copies cycle [] e rest r = r
   rising_skip g i copies cycle (m ∷ ms) e rest r = inl (e.0, rising_skip g i copies cycle ms e.1 rest r)
 
-  renewals_free : (owned : List ℕ) → Each NoTouch (flat_map (renewal_in_body core) owned)
+  renewals_free : (owned : List ℕ) → Each (λ m. is_done core m ≡ false) (flat_map (renewal_in_body core) owned)
   renewals_free [] = tt
-  renewals_free (m ∷ owned) = go (has_reset (mem core m).kind (mem core m).start) (renewals_free owned)
+  renewals_free (m ∷ owned) = go (has_reset (mem core m).kind (mem core m).start) refl (renewals_free owned)
     where
-      go : (b : Bool) → Each NoTouch (flat_map (renewal_in_body core) owned) → Each NoTouch (elim b as (λ _. List Moment) [ true ↦ [] | false ↦ renews m ∷ [] ] ++ flat_map (renewal_in_body core) owned)
-      go true e = e
-      go false e = (tt, e)
+      go : (b : Bool) → has_reset (mem core m).kind (mem core m).start ≡ b → Each (λ x. is_done core x ≡ false) (flat_map (renewal_in_body core) owned)
+          → Each (λ x. is_done core x ≡ false) (elim b as (λ _. List Moment) [ true ↦ [] | false ↦ renews m ∷ [] ] ++ flat_map (renewal_in_body core) owned)
+      go true q e = e
+      go false q e = (q, e)
 
   abbrev at_group : ℕ → List ℤ → Standing
   at_group g v = inside_at st k (in_group_of g 0) v

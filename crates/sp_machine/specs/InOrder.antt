@@ -1,12 +1,14 @@
--- When what happens in a run comes in order: of two events at one element of one copy of a memory, of which the first one
--- in the order of the text changes it, the second one comes in a later cycle; where only the second one does, in no earlier one.
-use Rattle.std.specs.Prelude.{◌≡◌, ℕ, ◌<◌, ◌≤◌, Bool, true, false, ℤ, List, Option}
+-- When what happens in a run comes in order: of two moments at one place, of which the first one in the order of the text
+-- changes it, the second one comes in a later cycle; where only the second one does, in no earlier one.
+use Rattle.std.specs.Prelude.{◌≡◌, ℕ, ◌<◌, ◌≤◌, ◌==◌, ◌&&◌, Bool, true, false, ℤ, List, Option}
 use Rattle.sp_bank.specs.Banking.{Banking}
 use Rattle.sp_core.specs.declared.access.Meet.{Meet}
-use Rattle.sp_core.specs.Events.{At, Standing, Event, Moment, touches, events_of}
+use Rattle.sp_core.specs.Declarations.{mem}
+use Rattle.sp_core.specs.Events.{At, Standing, Event, Moment, touches, slices, renews, keeps, events_of}
 use Rattle.sp_core.specs.Meeting.{changes, is_one_element, is_group, is_in_stream, owns, are_met}
 use Rattle.sp_core.specs.PlainCore.{PlainOp, PlainCore}
 use Rattle.sp_core.specs.History.{Entry}
+use Rattle.sp_core.specs.Sequential.{has_reset}
 use Rattle.sp_plan.specs.Bodies.{are_times_right}
 use Rattle.sp_plan.specs.PlainPlan.{inner_plan, PlainPlan}
 use Rattle.sp_time.specs.Lists.{Each, Pairs}
@@ -15,18 +17,41 @@ use Rattle.sp_machine.specs.Stamps.{Stamped, Copies}
 use Rattle.sp_machine.specs.Timeline.{body_events}
 use Rattle.sp_machine.specs.Transfers.{Delays}
 
-pub record Waits (core : PlainCore) (c : ℕ) (e : Event) (d : ℕ) (f : Event) : Type 0 where
-  pub for_change : e.mem ≡ f.mem → is_one_element core e f ≡ true → changes e.act ≡ true → c < d
-  pub for_look : e.mem ≡ f.mem → is_one_element core e f ≡ true → changes f.act ≡ true → c ≤ d
+-- whether there is anything to do: a memory that has no reset holds what it held until it is written
+abbrev pub is_done : PlainCore → Moment → Bool
+is_done core (touches e) = true
+is_done core (slices x) = false
+is_done core (renews m) = has_reset (mem core m).kind (mem core m).start
+is_done core (keeps m w) = true
 
--- of two moments of one run of an inner body, each of whose memories is in one copy then
-abbrev pub MomentsWait : PlainCore → (c : ℕ) → Moment → (d : ℕ) → Moment → Type 0
-MomentsWait core c (touches e) d (touches f) = Waits core c e d f
-MomentsWait core c (touches e) d _ = Unit {0}
-MomentsWait core c _ d _ = Unit {0}
+abbrev pub memory_of : Moment → ℕ
+memory_of (touches e) = e.mem
+memory_of (slices x) = 0
+memory_of (renews m) = m
+memory_of (keeps m w) = m
 
-abbrev pub AreInOrder : PlainCore → Stamped → Stamped → Type 0
-AreInOrder core s t = MomentsWait core s.cycle s.moment t.cycle t.moment
+abbrev pub does_change : Moment → Bool
+does_change (touches e) = changes e.act
+does_change (slices x) = false
+does_change (renews m) = true
+does_change (keeps m w) = true
+
+-- at one element of one memory; what is done to all of a memory is at each of its elements
+abbrev pub share_place : PlainCore → Moment → Moment → Bool
+share_place core (touches e) (touches f) = (e.mem == f.mem) && is_one_element core e f
+share_place core m n = memory_of m == memory_of n
+
+-- two moments are at one place of one copy
+pub record Clash (core : PlainCore) (s t : Stamped) : Type 0 where
+  pub first : is_done core s.moment ≡ true
+  pub second : is_done core t.moment ≡ true
+  pub copy : s.copy ≡ t.copy
+  pub place : share_place core s.moment t.moment ≡ true
+
+-- the second of two in the order of the text waits for the first
+pub record AreInOrder (core : PlainCore) (s t : Stamped) : Type 0 where
+  pub for_change : Clash core s t → does_change s.moment ≡ true → s.cycle < t.cycle
+  pub for_look : Clash core s t → does_change t.moment ≡ true → s.cycle ≤ t.cycle
 
 -- a place in a run, in a group or turn of each controller around, none of which is a `Stream` block, and at a node that is no
 -- outer body
