@@ -4,5 +4,6 @@ pub mod CountedRuns
 pub mod GroupCounts
 pub mod InBeats
 pub mod InnerOrder
+pub mod OuterOrder
 pub mod Told
 pub mod Within

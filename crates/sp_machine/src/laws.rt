@@ -2,7 +2,7 @@
 
 ghost use Rattle.std.specs.Prelude.{ℕ};
 ghost use Rattle.sp_core.specs.PlainCore.{PlainCore, PlainNode, PlainStages};
-ghost use Rattle.sp_machine.specs.InOrder.{BodiesInOrder};
+ghost use Rattle.sp_machine.specs.InOrder.{BodiesInOrder, OutersInOrder};
 ghost use Rattle.sp_machine.specs.Laws.{EndsInCost, GivesCounted, HappensWithin, KeepsToCost, TellsAll, WorksInBeats};
 ghost use Rattle.sp_machine.specs.Transfers.{Delays};
 ghost use Rattle.sp_plan.specs.PlainPlan.{PlainPlan};
@@ -41,4 +41,10 @@ pub fn stages_work_in_beats()
 /// it changes itself, by times that are right for meets in which the body's events stand; whether or not groups overlap.
 pub fn bodies_come_in_order()
     ensures { (core : PlainCore) (plan : PlainPlan) (delays : Delays) → BodiesInOrder core plan delays }
+{}
+
+/// In an outer body what happens comes in order where runs that clash come one after the other, by beats or in a chain, and
+/// memories are made fresh between the groups that use one copy.
+pub fn outer_bodies_come_in_order()
+    ensures { (core : PlainCore) (plan : PlainPlan) (delays : Delays) → OutersInOrder core plan delays }
 {}
