@@ -138,15 +138,15 @@ later_on g i h j a b (inl p) (inr q) = inl (let e : h ≡ a = q.0 in omega arith
 later_on g i h j a b (inr p) (inl q) = inl (let e : g ≡ h = p.0 in omega arith)
 later_on g i h j a b (inr p) (inr q) = inr (p.0 ∙ q.0, (let x : i ≤ j = p.1 in let y : j ≤ b = q.1 in omega arith))
 
-abbrev changes_of : Option Act → Bool
+abbrev pub changes_of : Option Act → Bool
 changes_of None = false
 changes_of (Some b) = changes b
 
-abbrev is_none_of : Option Act → Type 0
+abbrev pub is_none_of : Option Act → Type 0
 is_none_of None = Unit {0}
 is_none_of (Some b) = ⊥
 
-act_changes : (kd : OpKind) (w : ℕ) (a : Act) → act_of kd w ≡ Some a → changes a ≡ is_change kd
+pub act_changes : (kd : OpKind) (w : ℕ) (a : Act) → act_of kd w ≡ Some a → changes a ≡ is_change kd
 act_changes kind.Read w a e = ap changes_of (sym e)
 act_changes kind.Write w a e = ap changes_of (sym e)
 act_changes kind.Enq w a e = ap changes_of (sym e)
@@ -155,7 +155,7 @@ act_changes kind.Reset w a e = ap changes_of (sym e)
 act_changes kd w a e = absurd (subst is_none_of e tt)
 
 -- what a change takes
-change_takes : (kd : OpKind) (read : ℕ) → is_change kd ≡ true → 1 ≤ latency_by kd read
+pub change_takes : (kd : OpKind) (read : ℕ) → is_change kd ≡ true → 1 ≤ latency_by kd read
 change_takes kind.Write read e = omega arith
 change_takes kind.Enq read e = omega arith
 change_takes kind.Deq read e = omega arith

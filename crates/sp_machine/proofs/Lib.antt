@@ -5,5 +5,6 @@ pub mod GroupCounts
 pub mod InBeats
 pub mod InnerOrder
 pub mod OuterOrder
+pub mod PartsOrder
 pub mod Told
 pub mod Within

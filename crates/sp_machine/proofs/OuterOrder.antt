@@ -14,28 +14,28 @@ use Rattle.sp_machine.specs.Stamps.{Stamped, Copies, later}
 use Rattle.sp_machine.specs.Timeline.{in_copies, stage_events, fresh_events, group_events}
 use Rattle.sp_machine.specs.Transfers.{Delays}
 
-each_append : (Q : Stamped → Type 0) (a b : List Stamped) → Each Q a → Each Q b → Each Q (a ++ b)
+pub each_append : (Q : Stamped → Type 0) (a b : List Stamped) → Each Q a → Each Q b → Each Q (a ++ b)
 each_append Q [] b h k = k
 each_append Q (x ∷ a) b h k = (h.0, each_append Q a b h.1 k)
 
-two_right : (P : Stamped → Stamped → Type 0) (xs a b : List Stamped) → EachTwo P xs a → EachTwo P xs b → EachTwo P xs (a ++ b)
+pub two_right : (P : Stamped → Stamped → Type 0) (xs a b : List Stamped) → EachTwo P xs a → EachTwo P xs b → EachTwo P xs (a ++ b)
 two_right P [] a b h k = tt
 two_right P (x ∷ xs) a b h k = (each_append (P x) a b h.0 k.0, two_right P xs a b h.1 k.1)
 
-two_left : (P : Stamped → Stamped → Type 0) (a b ys : List Stamped) → EachTwo P a ys → EachTwo P b ys → EachTwo P (a ++ b) ys
+pub two_left : (P : Stamped → Stamped → Type 0) (a b ys : List Stamped) → EachTwo P a ys → EachTwo P b ys → EachTwo P (a ++ b) ys
 two_left P [] b ys h k = k
 two_left P (x ∷ a) b ys h k = (h.0, two_left P a b ys h.1 k)
 
-two_none : (P : Stamped → Stamped → Type 0) (xs : List Stamped) → EachTwo P xs []
+pub two_none : (P : Stamped → Stamped → Type 0) (xs : List Stamped) → EachTwo P xs []
 two_none P [] = tt
 two_none P (x ∷ xs) = (tt, two_none P xs)
 
-pairs_append : (P : Stamped → Stamped → Type 0) (a b : List Stamped) → Pairs P a → Pairs P b → EachTwo P a b → Pairs P (a ++ b)
+pub pairs_append : (P : Stamped → Stamped → Type 0) (a b : List Stamped) → Pairs P a → Pairs P b → EachTwo P a b → Pairs P (a ++ b)
 pairs_append P [] b h k c = k
 pairs_append P (x ∷ a) b h k c = (each_append (P x) a b h.0 c.0, pairs_append P a b h.1 k c.1)
 
 -- what is moved by the same cycles keeps its order
-order_later : (core : PlainCore) (n : ℕ) (xs : List Stamped) → Pairs (AreInOrder core) xs → Pairs (AreInOrder core) (later n xs)
+pub order_later : (core : PlainCore) (n : ℕ) (xs : List Stamped) → Pairs (AreInOrder core) xs → Pairs (AreInOrder core) (later n xs)
 order_later core n [] h = tt
 order_later core n (x ∷ xs) h = (each xs h.0, order_later core n xs h.1)
   where
