@@ -7,4 +7,5 @@ pub mod InnerOrder
 pub mod OuterOrder
 pub mod PartsOrder
 pub mod Told
+pub mod TreeOrder
 pub mod Within

@@ -1,7 +1,6 @@
 -- What happens in the groups of an outer body comes in order, where runs that clash come one after the other.
-use Rattle.std.proofs.Common.{◌≡◌, ℕ, zero, suc, ◌+◌, ◌<◌, ◌≤◌, ◌⊎◌, inl, inr, true, List, [], ◌∷◌, ◌++◌, length, arith, refl, sym, subst, ap, ◌∙◌}
+use Rattle.std.proofs.Common.{◌≡◌, ℕ, zero, suc, ◌+◌, ◌<◌, ◌≤◌, ◌⊎◌, inl, inr, List, [], ◌∷◌, ◌++◌, length, arith, refl, subst, ap, ◌∙◌}
 use Rattle.std.specs.Prelude.{slice_index_or}
-use Rattle.sp_core.specs.Events.{renews}
 use Rattle.sp_core.specs.PlainCore.{PlainStages, PlainCore}
 use Rattle.sp_plan.specs.PlainPlan.{PlainNodePlan, PlainPlan}
 use Rattle.sp_time.specs.Beats.{Slot, Run, slot_at, no_time, run_at, took_at, begins, first_cycle, starts}
@@ -9,7 +8,7 @@ use Rattle.sp_time.specs.Lists.{Each, Pairs}
 use Rattle.sp_time.specs.Orders.{Precedes}
 use Rattle.sp_time.proofs.ListLemmas.{total_mono}
 use Rattle.sp_time.proofs.Whole.{beats_in_order}
-use Rattle.sp_machine.specs.InOrder.{Clash, AreInOrder, EachTwo, Conflicts, fresh_beat, fresh, IsLaterRun, RunsPrecede, OutersInOrder}
+use Rattle.sp_machine.specs.InOrder.{Clash, AreInOrder, EachTwo, Conflicts, fresh_beat, fresh, RunsPrecede, OutersInOrder}
 use Rattle.sp_machine.specs.Stamps.{Stamped, Copies, later}
 use Rattle.sp_machine.specs.Timeline.{in_copies, stage_events, fresh_events, group_events}
 use Rattle.sp_machine.specs.Transfers.{Delays}
@@ -41,10 +40,13 @@ order_later core n (x ∷ xs) h = (each xs h.0, order_later core n xs h.1)
   where
     each : (ys : List Stamped) → Each (AreInOrder core x) ys → Each (AreInOrder core (record x { cycle = n + x.cycle })) (later n ys)
     each [] k = tt
-    each (y ∷ ys) k = (record {
-      for_change = λ c e. let a : x.cycle < y.cycle = k.0.for_change (record { first = c.first; second = c.second; copy = c.copy; place = c.place }) e in omega arith;
-      for_look = λ c e. let a : x.cycle ≤ y.cycle = k.0.for_look (record { first = c.first; second = c.second; copy = c.copy; place = c.place }) e in omega arith;
-    }, each ys k.1)
+    each (y ∷ ys) k = (
+      record {
+        for_change = λ c e. let a : x.cycle < y.cycle = k.0.for_change (record { first = c.first; second = c.second; copy = c.copy; place = c.place }) e in omega arith;
+        for_look = λ c e. let a : x.cycle ≤ y.cycle = k.0.for_look (record { first = c.first; second = c.second; copy = c.copy; place = c.place }) e in omega arith;
+      },
+      each ys k.1,
+    )
 
 module _ (core : PlainCore) (plan : PlainPlan) (delays : Delays) (slots : List Slot) (runs : List (List (Run Stamped))) (p : PlainNodePlan) (stages : PlainStages) (copies : Copies) (owned : List ℕ) (precede : RunsPrecede core plan delays slots runs p stages copies owned) where
   abbrev Order : Stamped → Stamped → Type 0
@@ -60,12 +62,15 @@ module _ (core : PlainCore) (plan : PlainPlan) (delays : Delays) (slots : List S
     where
       each : (fs : List Stamped) → Each (λ f. Conflicts core e f → Precedes slots k s l r) fs → Each (Order (record e { cycle = starts slots (took_at runs) k s + e.cycle })) (placed l r fs)
       each [] h = tt
-      each (f ∷ fs) h = (record {
-        for_change = λ c x. let a : starts slots (took_at runs) k s + took_at runs k s ≤ starts slots (took_at runs) l r =
-          (beats_in_order slots (took_at runs)).after_run k s l r q (h.0 (record { first = c.first; second = c.second; copy = c.copy; place = c.place }, inl x)) in let d : e.cycle < took_at runs k s = b.0 in omega arith;
-        for_look = λ c x. let a : starts slots (took_at runs) k s + took_at runs k s ≤ starts slots (took_at runs) l r =
-          (beats_in_order slots (took_at runs)).after_run k s l r q (h.0 (record { first = c.first; second = c.second; copy = c.copy; place = c.place }, inr x)) in let d : e.cycle < took_at runs k s = b.0 in omega arith;
-      }, each fs h.1)
+      each (f ∷ fs) h = (
+        record {
+          for_change = λ c x. let a : starts slots (took_at runs) k s + took_at runs k s ≤ starts slots (took_at runs) l r =
+              (beats_in_order slots (took_at runs)).after_run k s l r q (h.0 (record { first = c.first; second = c.second; copy = c.copy; place = c.place }, inl x)) in let d : e.cycle < took_at runs k s = b.0 in omega arith;
+          for_look = λ c x. let a : starts slots (took_at runs) k s + took_at runs k s ≤ starts slots (took_at runs) l r =
+              (beats_in_order slots (took_at runs)).after_run k s l r q (h.0 (record { first = c.first; second = c.second; copy = c.copy; place = c.place }, inr x)) in let d : e.cycle < took_at runs k s = b.0 in omega arith;
+        },
+        each fs h.1,
+      )
 
   -- a fresh memory and a run
   fresh_run : (g m l r : ℕ) (fs : List Stamped) → Each (λ f. Clash core (fresh core plan delays slots runs p stages copies owned g m) f → fresh_beat core plan delays slots runs p stages copies owned g m ≤ l + (slot_at slots r).slot) fs
@@ -170,11 +175,13 @@ module _ (core : PlainCore) (plan : PlainPlan) (delays : Delays) (slots : List S
 
     fresh_freshes : (g m h : ℕ) (ns : List ℕ) → g < h → Each (Order (fresh_at g m)) (freshes h ns)
     fresh_freshes g m h [] l = tt
-    fresh_freshes g m h (n ∷ ns) l =
-        (record {
-          for_change = λ c x. beat_before _ _ (precede.fresh_apart g m h n l c);
-          for_look = λ c x. let a : (fresh_at g m).cycle < (fresh_at h n).cycle = beat_before _ _ (precede.fresh_apart g m h n l c) in omega arith;
-        }, fresh_freshes g m h ns l)
+    fresh_freshes g m h (n ∷ ns) l = (
+      record {
+        for_change = λ c x. beat_before _ _ (precede.fresh_apart g m h n l c);
+        for_look = λ c x. let a : (fresh_at g m).cycle < (fresh_at h n).cycle = beat_before _ _ (precede.fresh_apart g m h n l c) in omega arith;
+      },
+      fresh_freshes g m h ns l,
+    )
 
     freshes_freshes : (g h : ℕ) (ms ns : List ℕ) → g < h → EachTwo Order (freshes g ms) (freshes h ns)
     freshes_freshes g h [] ns l = tt
@@ -186,11 +193,13 @@ module _ (core : PlainCore) (plan : PlainPlan) (delays : Delays) (slots : List S
       where
         each : (ns : List ℕ) → Each (λ n. Clash core (fresh_at g m) (fresh_at g n) → fresh_beat core plan delays slots runs p stages copies owned g m < fresh_beat core plan delays slots runs p stages copies owned g n) ns → Each (Order (fresh_at g m)) (freshes g ns)
         each [] k = tt
-        each (n ∷ ns) k =
-            (record {
-              for_change = λ c x. beat_before _ _ (k.0 c);
-              for_look = λ c x. let a : (fresh_at g m).cycle < (fresh_at g n).cycle = beat_before _ _ (k.0 c) in omega arith;
-            }, each ns k.1)
+        each (n ∷ ns) k = (
+          record {
+            for_change = λ c x. beat_before _ _ (k.0 c);
+            for_look = λ c x. let a : (fresh_at g m).cycle < (fresh_at g n).cycle = beat_before _ _ (k.0 c) in omega arith;
+          },
+          each ns k.1,
+        )
 
     -- groups
     abbrev groups_of : (g : ℕ) → List (List (Run Stamped)) → List Stamped

@@ -1,12 +1,12 @@
 -- What happens in the parts of a run comes in order: lists one operation after another, parts one after another, transfers.
-use Rattle.std.proofs.Common.{◌≡◌, ℕ, zero, suc, ◌+◌, ◌<◌, ◌≤◌, inl, inr, Bool, true, false, List, [], ◌∷◌, ◌++◌, map, take, length, arith, refl, sym, subst, ap, ◌∙◌}
+use Rattle.std.proofs.Common.{◌≡◌, ℕ, suc, ◌+◌, ◌<◌, ◌≤◌, Bool, true, false, List, [], ◌∷◌, ◌++◌, map, take, length, arith, refl, sym, subst, ap, ◌∙◌}
 use Rattle.std.proofs.lemmas.Bool.{and_parts, eqb-true, true≢false, false≢true}
 use Rattle.std.specs.Prelude.{◌/◌, ◌==◌, Option, Some, None}
 use Rattle.sp_words.specs.declared.kind.Kind.TheVariants.{LineBuf}
 use Rattle.sp_core.specs.Declarations.{kind_of, dram_number}
-use Rattle.sp_core.specs.Events.{Act, Standing, Moment, touches, slices, renews, keeps, reads, writes, turns, act_of, event_of, entry_moments, dram_event, mem_event, rows_turn, first_of}
+use Rattle.sp_core.specs.Events.{Act, Standing, Moment, slices, keeps, reads, writes, turns, act_of, event_of, entry_moments, dram_event, mem_event, rows_turn, first_of}
 use Rattle.sp_core.specs.History.{Entry, left_out, gave, touched}
-use Rattle.sp_core.specs.Latency.{latency_by, read_of, latency, latency_of_all}
+use Rattle.sp_core.specs.Latency.{read_of, latency, latency_of_all}
 use Rattle.sp_core.specs.Meeting.{changes}
 use Rattle.sp_core.specs.PlainCore.{PlainOp, PlainCore}
 use Rattle.sp_core.specs.Transfers.{Part, lengths, has_none, places_of, all_offsets, loaded_at}
@@ -14,16 +14,16 @@ use Rattle.sp_plan.specs.Ports.{is_change}
 use Rattle.sp_time.specs.Beats.{Run}
 use Rattle.sp_time.specs.Lists.{Each, Pairs, total}
 use Rattle.sp_time.proofs.ListLemmas.{total_mono}
-use Rattle.sp_machine.specs.InOrder.{is_done, memory_of, does_change, share_place, Clash, AreInOrder, EachTwo}
+use Rattle.sp_machine.specs.InOrder.{does_change, share_place, AreInOrder, EachTwo}
 use Rattle.sp_machine.specs.Sound.{AreLooks}
 use Rattle.sp_machine.specs.Stamps.{Stamped, Copies, stamp, stamped, later, list_stamped, in_a_row, ◌▸◌, inside_of, list_run, kept_run}
 use Rattle.sp_machine.specs.Transfers.{word_cycle, look_cycle, load_stamped, store_stamped, slice_stamped, load_run, store_run}
 use Rattle.sp_machine.proofs.InnerOrder.{act_changes, change_takes}
-use Rattle.sp_machine.proofs.OuterOrder.{each_append, two_right, two_left, two_none, pairs_append, order_later}
+use Rattle.sp_machine.proofs.OuterOrder.{each_append, pairs_append, order_later}
 use Rattle.sp_machine.proofs.Within.{Before}
 
 module _ (core : PlainCore) where
-  abbrev Order : Stamped → Stamped → Type 0
+  abbrev pub Order : Stamped → Stamped → Type 0
   Order s t = AreInOrder core s t
 
   -- what comes in a later cycle is in order
@@ -35,7 +35,7 @@ module _ (core : PlainCore) where
   look_in_order s t n l = record { for_change = λ c x. absurd (true≢false (sym x ∙ n)); for_look = λ c x. l }
 
   -- each of a list is before a cycle, and each of another one no earlier
-  abbrev From : ℕ → List Stamped → Type 0
+  abbrev pub From : ℕ → List Stamped → Type 0
   From n es = Each (λ e. n ≤ e.cycle) es
 
   before_from : (n : ℕ) (xs ys : List Stamped) → Before n xs → From n ys → EachTwo Order xs ys
@@ -51,14 +51,14 @@ module _ (core : PlainCore) where
   from_later n (e ∷ es) = (omega arith, from_later n es)
 
   -- parts one after another, and inside of a controller
-  then_in_order : (a b : Run Stamped) → Before a.took a.events → Pairs Order a.events → Pairs Order b.events → Pairs Order (a ▸ b).events
+  pub then_in_order : (a b : Run Stamped) → Before a.took a.events → Pairs Order a.events → Pairs Order b.events → Pairs Order (a ▸ b).events
   then_in_order a b w p q = pairs_append Order a.events (later a.took b.events) p (order_later core a.took b.events q) (before_from a.took a.events (later a.took b.events) w (from_later a.took b.events))
 
-  inside_in_order : (r : Run Stamped) → Pairs Order r.events → Pairs Order (inside_of r).events
+  pub inside_in_order : (r : Run Stamped) → Pairs Order r.events → Pairs Order (inside_of r).events
   inside_in_order r p = order_later core 1 r.events p
 
   -- looks of one cycle
-  looks_in_order : (copies : Copies) (cycle : ℕ) (ms : List Moment) → AreLooks ms → Pairs Order (stamped copies cycle ms)
+  pub looks_in_order : (copies : Copies) (cycle : ℕ) (ms : List Moment) → AreLooks ms → Pairs Order (stamped copies cycle ms)
   looks_in_order copies cycle [] h = tt
   looks_in_order copies cycle (m ∷ ms) h = (each ms, looks_in_order copies cycle ms h.1)
     where
@@ -66,7 +66,7 @@ module _ (core : PlainCore) where
       each [] = tt
       each (n ∷ ns) = (look_in_order (stamp copies cycle m) (stamp copies cycle n) h.0 (omega arith), each ns)
 
-  looks_first : (copies : Copies) (ms : List Moment) → AreLooks ms → (ys : List Stamped) → EachTwo Order (stamped copies 0 ms) ys
+  pub looks_first : (copies : Copies) (ms : List Moment) → AreLooks ms → (ys : List Stamped) → EachTwo Order (stamped copies 0 ms) ys
   looks_first copies [] h ys = tt
   looks_first copies (m ∷ ms) h ys = (each ys, looks_first copies ms h.1 ys)
     where
@@ -84,10 +84,13 @@ module _ (core : PlainCore) where
     where
       each : (ys : List Stamped) → From n ys → Each (Order x) ys
       each [] f = tt
-      each (y ∷ ys) f = (record {
-        for_change = λ c e. let a : x.cycle < n = h.0.1 e in let b : n ≤ y.cycle = f.0 in omega arith;
-        for_look = λ c e. let a : x.cycle ≤ n = h.0.0 in let b : n ≤ y.cycle = f.0 in omega arith;
-      }, each ys f.1)
+      each (y ∷ ys) f = (
+        record {
+          for_change = λ c e. let a : x.cycle < n = h.0.1 e in let b : n ≤ y.cycle = f.0 in omega arith;
+          for_look = λ c e. let a : x.cycle ≤ n = h.0.0 in let b : n ≤ y.cycle = f.0 in omega arith;
+        },
+        each ys f.1,
+      )
 
   entry_alone : (copies : Copies) (cycle n : ℕ) (st : Standing) (op : PlainOp) (e : Entry)
       → Pairs Order (stamped copies cycle (entry_moments n st op.kind op.mem e))
@@ -141,7 +144,7 @@ module _ (core : PlainCore) where
   whole_row : (ops : List PlainOp) → IsRest ops 0 ops
   whole_row ops j = ap (in_a_row core ops) (let q : 0 + j ≡ j = omega arith in q) ∙ omega arith
 
-  row_in_order : (copies : Copies) (n : ℕ) (st : Standing) (ops : List PlainOp) (es : List Entry) → Pairs Order (list_run core copies n st ops es).events
+  pub row_in_order : (copies : Copies) (n : ℕ) (st : Standing) (ops : List PlainOp) (es : List Entry) → Pairs Order (list_run core copies n st ops es).events
   row_in_order copies n st ops es = list_in_order copies ops 0 n st ops es (whole_row ops)
 
   -- what is done in a list is over at its end
@@ -159,7 +162,7 @@ module _ (core : PlainCore) where
       wider a b l [] h = tt
       wider a b l (x ∷ xs) h = ((let c : x.cycle ≤ a = h.0.0 in omega arith, (λ y. let c : x.cycle < a = h.0.1 y in omega arith)), wider a b l xs h.1)
 
-  kept_in_order : (copies : Copies) (n : ℕ) (st : Standing) (ops : List PlainOp) (es : List Entry) (state word : ℕ) → Pairs Order (kept_run core copies n st ops es state word).events
+  pub kept_in_order : (copies : Copies) (n : ℕ) (st : Standing) (ops : List PlainOp) (es : List Entry) (state word : ℕ) → Pairs Order (kept_run core copies n st ops es state word).events
   kept_in_order copies n st ops es state word =
       pairs_append Order (list_run core copies n st ops es).events (stamped copies (1 + latency_of_all core ops) (keeps state word ∷ [])) (row_in_order copies n st ops es) (tt, tt)
       (once_later (in_a_row core ops 0 + latency_of_all core ops) (list_run core copies n st ops es).events (stamped copies (1 + latency_of_all core ops) (keeps state word ∷ [])) (list_over copies ops 0 n st ops es (whole_row ops)) (omega arith, tt))
@@ -200,10 +203,13 @@ module _ (core : PlainCore) where
 
     load_after : (j k : ℕ) → j < k → (q : List ℕ) (x : ℕ) (offsets : List (List ℕ)) (words : List ℕ) → Each (Order (mem_at (suc (word_cycle delay j)) q (writes x))) (load_stamped delay core copies n st r m parts k offsets words)
     load_after j k l q x (o ∷ offsets) (w ∷ words) =
-        let a : word_cycle delay j < word_cycle delay k = rises j k l in
-        (apart (suc (word_cycle delay j)) (word_cycle delay k) q (places_of parts o) (writes x) (reads w),
-        (later_in_order (mem_at (suc (word_cycle delay j)) q (writes x)) (mem_at (suc (word_cycle delay k)) (loaded_at core (kind_of core m) m o) (writes w)) (omega arith),
-        load_after j (suc k) (omega arith) q x offsets words))
+        let a : word_cycle delay j < word_cycle delay k = rises j k l in (
+          apart (suc (word_cycle delay j)) (word_cycle delay k) q (places_of parts o) (writes x) (reads w),
+          (
+            later_in_order (mem_at (suc (word_cycle delay j)) q (writes x)) (mem_at (suc (word_cycle delay k)) (loaded_at core (kind_of core m) m o) (writes w)) (omega arith),
+            load_after j (suc k) (omega arith) q x offsets words,
+          ),
+        )
     load_after j k l q x [] words = tt
     load_after j k l q x (o ∷ offsets) [] = tt
 
@@ -215,17 +221,19 @@ module _ (core : PlainCore) where
     loads_in_order j (o ∷ offsets) (w ∷ words) =
         let rest : List Stamped = load_stamped delay core copies n st r m parts (suc j) offsets words in
         let read : Stamped = dram_at (word_cycle delay j) (places_of parts o) (reads w) in
-        let written : Stamped = mem_at (suc (word_cycle delay j)) (loaded_at core (kind_of core m) m o) (writes w) in
-        ((look_in_order read written refl (omega arith), look_before_all read refl rest (loads_from j (suc j) (omega arith) offsets words)),
-        (load_after j (suc j) (omega arith) (loaded_at core (kind_of core m) m o) w offsets words, loads_in_order (suc j) offsets words))
+        let written : Stamped = mem_at (suc (word_cycle delay j)) (loaded_at core (kind_of core m) m o) (writes w) in (
+          (look_in_order read written refl (omega arith), look_before_all read refl rest (loads_from j (suc j) (omega arith) offsets words)),
+          (load_after j (suc j) (omega arith) (loaded_at core (kind_of core m) m o) w offsets words, loads_in_order (suc j) offsets words),
+        )
     loads_in_order j [] words = tt
     loads_in_order j (o ∷ offsets) [] = tt
 
     -- the rows of a line buffer turn before its first word
     turn_first : (k : ℕ) (offsets : List (List ℕ)) (words : List ℕ) → Each (Order (mem_at 1 [] turns)) (load_stamped delay core copies n st r m parts k offsets words)
-    turn_first k (o ∷ offsets) (w ∷ words) =
-        (apart 1 (word_cycle delay k) [] (places_of parts o) turns (reads w),
-        (later_in_order (mem_at 1 [] turns) (mem_at (suc (word_cycle delay k)) (loaded_at core (kind_of core m) m o) (writes w)) (omega arith), turn_first (suc k) offsets words))
+    turn_first k (o ∷ offsets) (w ∷ words) = (
+      apart 1 (word_cycle delay k) [] (places_of parts o) turns (reads w),
+      (later_in_order (mem_at 1 [] turns) (mem_at (suc (word_cycle delay k)) (loaded_at core (kind_of core m) m o) (writes w)) (omega arith), turn_first (suc k) offsets words),
+    )
     turn_first k [] words = tt
     turn_first k (o ∷ offsets) [] = tt
 
@@ -251,30 +259,33 @@ module _ (core : PlainCore) where
         go true = tt
         go false = (free es, h)
 
-    load_in_order : (words : List ℕ) → Pairs Order (load_run delay core copies n st r m parts words)
+    pub load_in_order : (words : List ℕ) → Pairs Order (load_run delay core copies n st r m parts words)
     load_in_order words = slice_in_order _ (rows_in_order words)
 
     -- a store
     store_after : (j k : ℕ) → j < k → (q : List ℕ) (x : ℕ) (offsets : List (List ℕ)) (words : List ℕ) → Each (Order (dram_at (word_cycle delay j) q (writes x))) (store_stamped delay core copies n st r m parts k offsets words)
-    store_after j k l q x (o ∷ offsets) (w ∷ words) =
-        (apart_back (word_cycle delay j) (look_cycle delay k) q o (writes x) (reads w),
-        (later_in_order (dram_at (word_cycle delay j) q (writes x)) (dram_at (word_cycle delay k) (places_of parts o) (writes w)) (rises j k l), store_after j (suc k) (omega arith) q x offsets words))
+    store_after j k l q x (o ∷ offsets) (w ∷ words) = (
+      apart_back (word_cycle delay j) (look_cycle delay k) q o (writes x) (reads w),
+      (later_in_order (dram_at (word_cycle delay j) q (writes x)) (dram_at (word_cycle delay k) (places_of parts o) (writes w)) (rises j k l), store_after j (suc k) (omega arith) q x offsets words),
+    )
     store_after j k l q x [] words = tt
     store_after j k l q x (o ∷ offsets) [] = tt
 
     store_looks : (c : ℕ) (q : List ℕ) (x k : ℕ) (offsets : List (List ℕ)) (words : List ℕ) → Each (Order (mem_at c q (reads x))) (store_stamped delay core copies n st r m parts k offsets words)
-    store_looks c q x k (o ∷ offsets) (w ∷ words) =
-        (looks_alone (mem_at c q (reads x)) (mem_at (look_cycle delay k) o (reads w)) refl refl,
-        (apart c (word_cycle delay k) q (places_of parts o) (reads x) (writes w), store_looks c q x (suc k) offsets words))
+    store_looks c q x k (o ∷ offsets) (w ∷ words) = (
+      looks_alone (mem_at c q (reads x)) (mem_at (look_cycle delay k) o (reads w)) refl refl,
+      (apart c (word_cycle delay k) q (places_of parts o) (reads x) (writes w), store_looks c q x (suc k) offsets words),
+    )
     store_looks c q x k [] words = tt
     store_looks c q x k (o ∷ offsets) [] = tt
 
     stores_in_order : (j : ℕ) (offsets : List (List ℕ)) (words : List ℕ) → Pairs Order (store_stamped delay core copies n st r m parts j offsets words)
-    stores_in_order j (o ∷ offsets) (w ∷ words) =
-        ((apart (look_cycle delay j) (word_cycle delay j) o (places_of parts o) (reads w) (writes w), store_looks (look_cycle delay j) o w (suc j) offsets words),
-        (store_after j (suc j) (omega arith) (places_of parts o) w offsets words, stores_in_order (suc j) offsets words))
+    stores_in_order j (o ∷ offsets) (w ∷ words) = (
+      (apart (look_cycle delay j) (word_cycle delay j) o (places_of parts o) (reads w) (writes w), store_looks (look_cycle delay j) o w (suc j) offsets words),
+      (store_after j (suc j) (omega arith) (places_of parts o) w offsets words, stores_in_order (suc j) offsets words),
+    )
     stores_in_order j [] words = tt
     stores_in_order j (o ∷ offsets) [] = tt
 
-    store_in_order : (words : List ℕ) → Pairs Order (store_run delay core copies n st r m parts words)
+    pub store_in_order : (words : List ℕ) → Pairs Order (store_run delay core copies n st r m parts words)
     store_in_order words = slice_in_order _ (stores_in_order 0 (all_offsets parts) words)

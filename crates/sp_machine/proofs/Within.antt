@@ -64,10 +64,10 @@ module _ (core : PlainCore) where
   front_less [] (suc i) = omega arith
   front_less (op ∷ ops) (suc i) = let a : latency_of_all core (take i ops) ≤ latency_of_all core ops = front_less ops i in omega arith
 
-  before_row : (copies : Copies) (number : ℕ) (st : Standing) (ops : List PlainOp) (es : List Entry) → Before (list_run core copies number st ops es).took (list_run core copies number st ops es).events
+  pub before_row : (copies : Copies) (number : ℕ) (st : Standing) (ops : List PlainOp) (es : List Entry) → Before (list_run core copies number st ops es).took (list_run core copies number st ops es).events
   before_row copies number st ops es = before_list _ copies (in_a_row core ops) 0 number st ops es (λ j. let a : latency_of_all core (take j ops) ≤ latency_of_all core ops = front_less ops j in omega arith)
 
-  before_kept : (copies : Copies) (number : ℕ) (st : Standing) (ops : List PlainOp) (es : List Entry) (state word : ℕ) → Before (kept_run core copies number st ops es state word).took (kept_run core copies number st ops es state word).events
+  pub before_kept : (copies : Copies) (number : ℕ) (st : Standing) (ops : List PlainOp) (es : List Entry) (state word : ℕ) → Before (kept_run core copies number st ops es state word).took (kept_run core copies number st ops es state word).events
   before_kept copies number st ops es state word = before_append _ _ _ (before_row copies number st ops es) (omega arith, tt)
 
 -- the words of a transfer

@@ -4,7 +4,7 @@ use Rattle.std.specs.Prelude.{◌≡◌, ℕ, ◌+◌, ◌<◌, ◌≤◌, ◌==
 use Rattle.sp_bank.specs.Banking.{Banking}
 use Rattle.sp_core.specs.declared.access.Meet.{Meet}
 use Rattle.sp_core.specs.Declarations.{mem}
-use Rattle.sp_core.specs.Events.{At, Standing, Event, Moment, touches, slices, renews, keeps, events_of}
+use Rattle.sp_core.specs.Events.{At, Standing, Moment, touches, slices, renews, keeps, events_of}
 use Rattle.sp_core.specs.Meeting.{changes, is_one_element, is_group, is_in_stream, owns, are_met}
 use Rattle.sp_core.specs.PlainCore.{PlainOp, PlainStages, PlainCore}
 use Rattle.sp_core.specs.History.{Entry}

@@ -3,18 +3,19 @@ use Rattle.std.specs.Prelude.{◌≡◌, ℕ, suc, ◌+◌, ◌<◌, true, false
 use Rattle.sp_bank.specs.Banking.{Banking}
 use Rattle.sp_core.specs.declared.access.Meet.{Meet}
 use Rattle.sp_core.specs.Events.{Standing, inside_at, before, in_group_of, in_turn, Moment, events_of, bounds_moments, spans_moments}
-use Rattle.sp_core.specs.History.{Entry, History, Groups, Runs, Turns, inner_ran, outer_ran, fsm_ran, branch_ran, moved, no_group, more_group, no_run, masked_run, more_run, no_turn, more_turn}
+use Rattle.sp_core.specs.History.{History, Groups, Runs, Turns, inner_ran, outer_ran, fsm_ran, branch_ran, moved, more_group, masked_run, more_run, no_turn, more_turn}
 use Rattle.sp_core.specs.Meeting.{are_met}
-use Rattle.sp_core.specs.Numbering.{counters_size, spans_size, node_count, number_count}
-use Rattle.sp_core.specs.PlainCore.{PlainOp, PlainNode, PlainStages, inner, outer, fsm, branch, load, store, sparse, no_stage, more_stage, PlainCore}
+use Rattle.sp_core.specs.Numbering.{counters_size, node_count, number_count}
+use Rattle.sp_core.specs.PlainCore.{PlainOp, PlainNode, PlainStages, inner, outer, fsm, branch, load, store, more_stage, PlainCore}
 use Rattle.sp_core.specs.Scope.{in_lanes, loops_of, group_values}
 use Rattle.sp_plan.specs.Bodies.{are_times_right}
-use Rattle.sp_plan.specs.PlainPlan.{PlainNodePlan, inner_plan, outer_plan, other_plan, PlainPlan, node_plan}
-use Rattle.sp_time.specs.Lists.{Each}
-use Rattle.sp_machine.specs.InOrder.{does_change, IsPlaced, RunsPrecede}
+use Rattle.sp_plan.specs.PlainPlan.{PlainNodePlan, inner_plan, PlainPlan, node_plan}
+use Rattle.sp_time.specs.Lists.{Each, Pairs}
+use Rattle.sp_machine.specs.InOrder.{does_change, AreInOrder, IsPlaced, RunsPrecede}
 use Rattle.sp_machine.specs.Laws.{told}
 use Rattle.sp_machine.specs.Stamps.{Copies}
-use Rattle.sp_machine.specs.Timeline.{body_events, group_runs, in_copies, slots_of}
+use Rattle.sp_machine.specs.Timeline.{timed, body_events, group_runs, in_copies, slots_of}
+use Rattle.sp_machine.specs.Told.{IsPlanned, IsKept}
 use Rattle.sp_machine.specs.Transfers.{Delays}
 
 -- bounds and slices change nothing
@@ -59,3 +60,10 @@ module _ (core : PlainCore) (plan : PlainPlan) (delays : Delays) (schemes : List
     TurnsSound start test body next k n t st copies no_turn = Unit {0}
     TurnsSound start test body next k n t st copies (more_turn es h ns rest) =
         IsSound body (suc k) (n + (length start + length test)) (inside_at st k (in_turn t) []) copies h × TurnsSound start test body next k n (suc t) st copies rest
+
+-- what happens in a run comes in order, where each part of it is sound
+abbrev pub RunsInOrder : PlainCore → PlainPlan → Delays → PlainNode → Type 0
+RunsInOrder core plan delays node =
+    (schemes : List (Option Banking)) (meets : List Meet) (k n : ℕ) (st : Standing) (copies : Copies) (h : History)
+    → IsPlanned plan k node → IsKept plan k node → IsSound core plan delays schemes meets node k n st copies h
+    → Pairs (AreInOrder core) (timed core plan delays node k n st copies h).events

@@ -4,6 +4,7 @@ ghost use Rattle.std.specs.Prelude.{ℕ};
 ghost use Rattle.sp_core.specs.PlainCore.{PlainCore, PlainNode, PlainStages};
 ghost use Rattle.sp_machine.specs.InOrder.{BodiesInOrder, OutersInOrder};
 ghost use Rattle.sp_machine.specs.Laws.{EndsInCost, GivesCounted, HappensWithin, KeepsToCost, TellsAll, WorksInBeats};
+ghost use Rattle.sp_machine.specs.Sound.{RunsInOrder};
 ghost use Rattle.sp_machine.specs.Transfers.{Delays};
 ghost use Rattle.sp_plan.specs.PlainPlan.{PlainPlan};
 
@@ -47,4 +48,10 @@ pub fn bodies_come_in_order()
 /// memories are made fresh between the groups that use one copy.
 pub fn outer_bodies_come_in_order()
     ensures { (core : PlainCore) (plan : PlainPlan) (delays : Delays) → OutersInOrder core plan delays }
+{}
+
+/// What happens in a run comes in order, where the times of its inner bodies are right for meets that hold of it, its bounds
+/// and slices change nothing, and in its outer bodies runs that clash come one after the other.
+pub fn runs_come_in_order()
+    ensures { (core : PlainCore) (plan : PlainPlan) (delays : Delays) (node : PlainNode) → RunsInOrder core plan delays node }
 {}
