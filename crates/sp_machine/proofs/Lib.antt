@@ -1,6 +1,7 @@
 pub mod Beats
 pub mod Costs
 pub mod CountedRuns
+pub mod Finding
 pub mod GroupCounts
 pub mod InBeats
 pub mod InnerOrder

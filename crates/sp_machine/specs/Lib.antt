@@ -1,4 +1,5 @@
 pub mod Examples
+pub mod Found
 pub mod InOrder
 pub mod Laws
 pub mod Sound

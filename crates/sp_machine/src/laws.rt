@@ -2,6 +2,7 @@
 
 ghost use Rattle.std.specs.Prelude.{ℕ};
 ghost use Rattle.sp_core.specs.PlainCore.{PlainCore, PlainNode, PlainStages};
+ghost use Rattle.sp_machine.specs.Found.{AreFound};
 ghost use Rattle.sp_machine.specs.InOrder.{BodiesInOrder, OutersInOrder};
 ghost use Rattle.sp_machine.specs.Laws.{EndsInCost, GivesCounted, HappensWithin, KeepsToCost, TellsAll, WorksInBeats};
 ghost use Rattle.sp_machine.specs.Sound.{RunsInOrder};
@@ -54,4 +55,10 @@ pub fn outer_bodies_come_in_order()
 /// and slices change nothing, and in its outer bodies runs that clash come one after the other.
 pub fn runs_come_in_order()
     ensures { (core : PlainCore) (plan : PlainPlan) (delays : Delays) (node : PlainNode) → RunsInOrder core plan delays node }
+{}
+
+/// Moments that are in order are found in time: each finds in its own cycle what it finds in the order of the text, each
+/// cycle makes at most one change at a place, and past the last one there stands what stands after all of them.
+pub fn orders_are_found_in_time()
+    ensures { (core : PlainCore) → AreFound core }
 {}
