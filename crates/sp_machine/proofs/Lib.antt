@@ -5,6 +5,7 @@ pub mod Finding
 pub mod GroupCounts
 pub mod InBeats
 pub mod InnerOrder
+pub mod OneSlot
 pub mod OuterOrder
 pub mod PartsOrder
 pub mod Told

@@ -147,7 +147,7 @@ greatest_of_under (n ∷ ns) top h =
     let b : greatest_of ns ≤ top = greatest_of_under ns top (λ i l. h (suc i) (omega arith)) in
     omega arith
 
-abbrev last_slot : List Slot → ℕ
+abbrev pub last_slot : List Slot → ℕ
 last_slot slots = greatest (λ s. (slot_at slots s).slot) (length slots)
 
 slots_reach : (slots chains : List ℕ) → length slots ≡ length chains → greatest_of slots ≤ last_slot (slots_from slots chains)
@@ -179,7 +179,7 @@ beat_within slots took zero b l p = absurd (omega arith)
 beat_within slots took (suc n) b l p = let a : begins slots took b ≤ begins slots took (suc n + last_slot slots) = total_mono _ b (suc n + last_slot slots) (omega arith) in omega arith
 
 -- the first slot of a memory is one of the plan's
-first_under : (core : PlainCore) (plan : PlainPlan) (delays : Delays) (p : PlainNodePlan) (n : ℕ) → HasSlots p n → (stages : PlainStages) (m : ℕ) → first_slot core plan delays p stages m ≤ last_slot (slots_of p)
+pub first_under : (core : PlainCore) (plan : PlainPlan) (delays : Delays) (p : PlainNodePlan) (n : ℕ) → HasSlots p n → (stages : PlainStages) (m : ℕ) → first_slot core plan delays p stages m ≤ last_slot (slots_of p)
 first_under core plan delays (outer_plan slots chains) n h stages m =
     let a : least (used_slots core m stages slots) ≤ greatest_of slots = least_under _ (greatest_of slots) (used_under core m stages slots) in
     let b : greatest_of slots ≤ last_slot (slots_from slots chains) = slots_reach slots chains (h.0 ∙ sym h.1) in

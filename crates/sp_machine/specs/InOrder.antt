@@ -1,6 +1,6 @@
 -- When what happens in a run comes in order: of two moments at one place, of which the first one in the order of the text
 -- changes it, the second one comes in a later cycle; where only the second one does, in no earlier one.
-use Rattle.std.specs.Prelude.{◌≡◌, ℕ, ◌+◌, ◌<◌, ◌≤◌, ◌==◌, ◌&&◌, ◌⊎◌, Bool, true, false, ℤ, List, length, Option}
+use Rattle.std.specs.Prelude.{◌≡◌, ℕ, ◌+◌, ◌<◌, ◌≤◌, ◌==◌, ◌&&◌, ◌⊎◌, Bool, true, false, ℤ, List, length, replicate, Option}
 use Rattle.sp_bank.specs.Banking.{Banking}
 use Rattle.sp_core.specs.declared.access.Meet.{Meet}
 use Rattle.sp_core.specs.Declarations.{mem}
@@ -10,13 +10,13 @@ use Rattle.sp_core.specs.PlainCore.{PlainOp, PlainStages, PlainCore}
 use Rattle.sp_core.specs.History.{Entry}
 use Rattle.sp_core.specs.Sequential.{has_reset}
 use Rattle.sp_plan.specs.Bodies.{are_times_right}
-use Rattle.sp_plan.specs.PlainPlan.{PlainNodePlan, inner_plan, PlainPlan}
+use Rattle.sp_plan.specs.PlainPlan.{PlainNodePlan, inner_plan, outer_plan, PlainPlan}
 use Rattle.sp_time.specs.Beats.{Slot, Run, slot_at, run_at, took_at, first_cycle}
 use Rattle.sp_time.specs.Orders.{Precedes}
 use Rattle.sp_time.specs.Lists.{Each, Pairs}
 use Rattle.sp_machine.specs.Laws.{told}
 use Rattle.sp_machine.specs.Stamps.{Stamped, Copies, stamp}
-use Rattle.sp_machine.specs.Timeline.{body_events, in_copies, first_slot, group_events}
+use Rattle.sp_machine.specs.Timeline.{body_events, in_copies, first_slot, group_events, slots_of}
 use Rattle.sp_machine.specs.Transfers.{Delays}
 
 -- whether there is anything to do: a memory that has no reset holds what it held until it is written
@@ -105,3 +105,13 @@ OutersInOrder core plan delays =
     → Each (λ row. (length row ≤ length slots) × Each (λ r. Each (λ e. e.cycle < r.took) r.events × Pairs (AreInOrder core) r.events) row) runs
     → RunsPrecede core plan delays slots runs p stages copies owned
     → Pairs (AreInOrder core) (group_events core plan delays slots runs p stages copies owned 0 runs)
+
+-- stages in one slot and one chain, as those of a `Sequential` loop: their runs come one after the other, whatever happens in
+-- them
+abbrev pub one_slot : (stages : ℕ) → PlainNodePlan
+one_slot n = outer_plan (replicate n 0) (replicate n 0)
+
+abbrev pub OneSlotPrecedes : PlainCore → PlainPlan → Delays → Type 0
+OneSlotPrecedes core plan delays =
+    (n : ℕ) (runs : List (List (Run Stamped))) (stages : PlainStages) (copies : Copies) (owned : List ℕ) → Pairs (λ a b. a ≡ b → ⊥) owned
+    → RunsPrecede core plan delays (slots_of (one_slot n)) runs (one_slot n) stages copies owned

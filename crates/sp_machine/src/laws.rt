@@ -3,7 +3,7 @@
 ghost use Rattle.std.specs.Prelude.{ℕ};
 ghost use Rattle.sp_core.specs.PlainCore.{PlainCore, PlainNode, PlainStages};
 ghost use Rattle.sp_machine.specs.Found.{AreFound};
-ghost use Rattle.sp_machine.specs.InOrder.{BodiesInOrder, OutersInOrder};
+ghost use Rattle.sp_machine.specs.InOrder.{BodiesInOrder, OneSlotPrecedes, OutersInOrder};
 ghost use Rattle.sp_machine.specs.Laws.{EndsInCost, GivesCounted, HappensWithin, KeepsToCost, TellsAll, WorksInBeats};
 ghost use Rattle.sp_machine.specs.Sound.{RunsInOrder};
 ghost use Rattle.sp_machine.specs.Transfers.{Delays};
@@ -61,4 +61,9 @@ pub fn runs_come_in_order()
 /// cycle makes at most one change at a place, and past the last one there stands what stands after all of them.
 pub fn orders_are_found_in_time()
     ensures { (core : PlainCore) → AreFound core }
+{}
+
+/// In an outer body whose stages are in one slot and one chain runs come one after the other, whatever happens in them.
+pub fn one_slot_comes_in_turn()
+    ensures { (core : PlainCore) (plan : PlainPlan) (delays : Delays) → OneSlotPrecedes core plan delays }
 {}
