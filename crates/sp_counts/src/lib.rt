@@ -15,4 +15,5 @@ mod tally;
 mod words;
 
 pub use over::{Over, Which, first_over};
+pub use proper::{add_roomy, is_proper};
 pub use std::alloc::AllocError as NoMemory;

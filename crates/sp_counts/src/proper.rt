@@ -140,8 +140,9 @@ fn edges(alloc: Global, stages: &[StreamStage], fifos: &[u32]) -> Result<Vec<Edg
     Ok(all)
 }
 
-/// Whether a Stream block with this body is proper.
-pub(crate) fn is_proper(alloc: Global, mems: &[MemDecl], body: &[Stmt]) -> Result<bool, NoMemory>
+/// Whether a `Stream` block with this body is proper: its stages may work at the same time, each FIFO between two of them.
+/// `mems` are the declarations of the program, in the order of their numbers.
+pub fn is_proper(alloc: Global, mems: &[MemDecl], body: &[Stmt]) -> Result<bool, NoMemory>
     ensures { IfOk result (λ is. is ≡ is_proper (map plain_mem mems.now) (plain_stmts body.now)) }
 {
     let Some(stages) = stream_stages(alloc, body)? else {
@@ -234,9 +235,10 @@ fn add_kind_roomy(
     }
 }
 
-/// The FIFOs to which the proper Stream blocks of a body give more room.
+/// Adds the numbers of the FIFOs to which the proper `Stream` blocks of a body give more room than their depth, in the order
+/// of the text.
 #[cycle(add_roomy)]
-pub(crate) fn add_roomy(
+pub fn add_roomy(
     alloc: Global,
     mems: &[MemDecl],
     into: &mut Vec<u32>,
