@@ -46,7 +46,7 @@ some_of {A = A} p f q (x ∷ xs) h k = choose (q x) refl (all_append p (f x) (fl
     choose true e both rest k = (x, e, both.0)
     choose false e both rest k = rest both.1 (ap (λ b. b || list_any q xs) (sym e) ∙ k)
 
-or_false : (x y : Bool) → x ≡ false → (x || y) ≡ true → y ≡ true
+pub or_false : (x y : Bool) → x ≡ false → (x || y) ≡ true → y ≡ true
 or_false true y e h = absurd (true≢false e)
 or_false false y e h = h
 
@@ -94,12 +94,12 @@ module _ (core : PlainCore) (k : ℕ) (st : Standing) (placed : IsPlaced core k 
         no_reason false y false p q = absurd (false≢true q)
 
 -- of each two, moments that are events are met
-abbrev MomentsMet : PlainCore → List Meet → Moment → Moment → Type 0
+abbrev pub MomentsMet : PlainCore → List Meet → Moment → Moment → Type 0
 MomentsMet core meets (touches e) (touches f) = is_met core meets e f ≡ true
 MomentsMet core meets (touches e) _ = Unit {0}
 MomentsMet core meets _ _ = Unit {0}
 
-abbrev AreMet : PlainCore → List Meet → Stamped → Stamped → Type 0
+abbrev pub AreMet : PlainCore → List Meet → Stamped → Stamped → Type 0
 AreMet core meets s t = MomentsMet core meets s.moment t.moment
 
 each_met : (core : PlainCore) (meets : List Meet) (e : Event) (xs : List Stamped) → list_all (is_met core meets e) (events_of (told xs)) ≡ true → Each (λ t. MomentsMet core meets (touches e) t.moment) xs
@@ -117,7 +117,7 @@ each_free : (core : PlainCore) (meets : List Meet) (m : Moment) (xs : List Stamp
 each_free core meets m [] h = tt
 each_free core meets m (x ∷ xs) h = (h x.moment, each_free core meets m xs h)
 
-pairs_met : (core : PlainCore) (meets : List Meet) (xs : List Stamped) → are_met core meets (events_of (told xs)) ≡ true → Pairs (AreMet core meets) xs
+pub pairs_met : (core : PlainCore) (meets : List Meet) (xs : List Stamped) → are_met core meets (events_of (told xs)) ≡ true → Pairs (AreMet core meets) xs
 pairs_met core meets [] h = tt
 pairs_met core meets (x ∷ xs) h = go (λ h. pairs_met core meets xs h) x.moment h
   where

@@ -1,17 +1,16 @@
 -- Runs of stages in one slot and one chain come one after the other.
-use Rattle.std.proofs.Common.{◌≡◌, ℕ, zero, suc, ◌+◌, ◌<◌, ◌≤◌, inl, inr, List, [], ◌∷◌, length, replicate, arith, refl, sym, ap, ◌∙◌}
+use Rattle.std.proofs.Common.{◌≡◌, ℕ, zero, suc, ◌<◌, ◌≤◌, inl, inr, List, [], ◌∷◌, length, replicate, arith, refl, sym, ap, ◌∙◌}
 use Rattle.std.proofs.lemmas.Bool.{eqb-true}
 use Rattle.std.proofs.lemmas.List.{length-replicate}
-use Rattle.sp_core.specs.PlainCore.{PlainStages, PlainCore}
-use Rattle.sp_plan.specs.PlainPlan.{PlainNodePlan, PlainPlan}
-use Rattle.sp_time.specs.Beats.{Slot, Run, slot_at, run_at}
+use Rattle.sp_core.specs.PlainCore.{PlainCore}
+use Rattle.sp_plan.specs.PlainPlan.{PlainPlan}
+use Rattle.sp_time.specs.Beats.{Slot, slot_at, run_at}
 use Rattle.sp_time.specs.Lists.{Each, Pairs}
 use Rattle.sp_time.specs.Orders.{Precedes}
-use Rattle.sp_machine.specs.InOrder.{Clash, EachTwo, Conflicts, fresh_beat, fresh, IsLaterRun, RunsPrecede, one_slot, OneSlotPrecedes}
-use Rattle.sp_machine.specs.Stamps.{Stamped, Copies}
+use Rattle.sp_machine.specs.InOrder.{Clash, EachTwo, fresh_beat, fresh, IsLaterRun, one_slot, OneSlotPrecedes}
+use Rattle.sp_machine.specs.Stamps.{Stamped}
 use Rattle.sp_machine.specs.Timeline.{slots_from, slots_of, first_slot}
 use Rattle.sp_machine.specs.Transfers.{Delays}
-use Rattle.sp_machine.proofs.OuterOrder.{two_none}
 use Rattle.sp_machine.proofs.Within.{first_under, last_slot}
 use Rattle.sp_machine.proofs.Beats.{greatest_under}
 
@@ -34,8 +33,8 @@ two_of h (e ∷ es) fs = (each_of (h e) fs, two_of h es fs)
 pub one_slot_precedes : (core : PlainCore) (plan : PlainPlan) (delays : Delays) → OneSlotPrecedes core plan delays
 one_slot_precedes core plan delays n runs stages copies owned apart = record {
   in_turn = λ k s l r later. two_of (λ e f c. precedes k s l r later) (run_at runs k s).events (run_at runs l r).events;
-  fresh_first = λ g m l r le. each_of (λ f c. let a : beat_of m ≡ 0 = first_is m in omega arith) (run_at runs l r).events;
-  fresh_after = λ k s g m lt. each_of (λ e c. let a : beat_of m ≡ 0 = first_is m in let b : (slot_at (slots_of (one_slot n)) s).slot ≡ 0 = ap (λ x. x.slot) (all_at_origin n s) in omega arith) (run_at runs k s).events;
+  fresh_first = λ g m l r is le. each_of (λ f c. let a : beat_of m ≡ 0 = first_is m in omega arith) (run_at runs l r).events;
+  fresh_after = λ k s g m is lt in_runs. each_of (λ e c. let a : beat_of m ≡ 0 = first_is m in let b : (slot_at (slots_of (one_slot n)) s).slot ≡ 0 = ap (λ x. x.slot) (all_at_origin n s) in omega arith) (run_at runs k s).events;
   fresh_apart = λ g m h o lt c. let a : beat_of m ≡ 0 = first_is m in let b : beat_of o ≡ 0 = first_is o in omega arith;
   fresh_alone = λ g. alone g owned apart;
 }

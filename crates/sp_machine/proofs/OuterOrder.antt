@@ -1,6 +1,8 @@
 -- What happens in the groups of an outer body comes in order, where runs that clash come one after the other.
-use Rattle.std.proofs.Common.{◌≡◌, ℕ, zero, suc, ◌+◌, ◌<◌, ◌≤◌, ◌⊎◌, inl, inr, List, [], ◌∷◌, ◌++◌, length, arith, refl, subst, ap, ◌∙◌}
-use Rattle.std.specs.Prelude.{slice_index_or}
+use Rattle.std.proofs.Common.{◌≡◌, ℕ, zero, suc, ◌+◌, ◌<◌, ◌≤◌, ◌⊎◌, inl, inr, true, List, [], ◌∷◌, ◌++◌, length, arith, refl, subst, ap, ◌∙◌}
+use Rattle.std.proofs.lemmas.Bool.{eq-eqb, or_right}
+use Rattle.std.specs.Prelude.{◌==◌, ◌||◌, slice_index_or}
+use Rattle.sp_core.specs.Declarations.{is_among}
 use Rattle.sp_core.specs.PlainCore.{PlainStages, PlainCore}
 use Rattle.sp_plan.specs.PlainPlan.{PlainNodePlan, PlainPlan}
 use Rattle.sp_time.specs.Beats.{Slot, Run, slot_at, no_time, run_at, took_at, begins, first_cycle, starts}
@@ -147,31 +149,41 @@ module _ (core : PlainCore) (plan : PlainPlan) (delays : Delays) (slots : List S
         (subst (λ (x : Run Stamped). EachTwo Order (placed g s x.events) (stages_of g (suc s) row)) (head_row g s r row h) (run_stages g s g (suc s) row (omega arith) (next_row g s r row h) (inr (refl, omega arith))))
 
     -- memories that are made fresh
-    fresh_stages : (g m h t : ℕ) (row : List (Run Stamped)) → g ≤ h → IsRow h t row → Each (Order (fresh_at g m)) (stages_of h t row)
-    fresh_stages g m h t [] l a = tt
-    fresh_stages g m h t (r ∷ row) l a =
+    abbrev AreOwned : List ℕ → Type 0
+    AreOwned ms = (m : ℕ) → is_among m ms ≡ true → is_among m owned ≡ true
+
+    head_owned : (m : ℕ) (ms : List ℕ) → AreOwned (m ∷ ms) → is_among m owned ≡ true
+    head_owned m ms o = o m (ap (λ b. b || is_among m ms) (eq-eqb m m refl))
+
+    tail_owned : (m : ℕ) (ms : List ℕ) → AreOwned (m ∷ ms) → AreOwned ms
+    tail_owned m ms o n is = o n (or_right (n == m) (is_among n ms) is)
+
+    fresh_stages : (g m h t : ℕ) (row : List (Run Stamped)) → is_among m owned ≡ true → g ≤ h → IsRow h t row → Each (Order (fresh_at g m)) (stages_of h t row)
+    fresh_stages g m h t [] o l a = tt
+    fresh_stages g m h t (r ∷ row) o l a =
         each_append (Order (fresh_at g m)) (placed h t r.events) (stages_of h (suc t) row)
-        (subst (λ (x : Run Stamped). Each (Order (fresh_at g m)) (placed h t x.events)) (head_row h t r row a) (fresh_run g m h t (events_at h t) (precede.fresh_first g m h t l)))
-        (fresh_stages g m h (suc t) row l (next_row h t r row a))
+        (subst (λ (x : Run Stamped). Each (Order (fresh_at g m)) (placed h t x.events)) (head_row h t r row a) (fresh_run g m h t (events_at h t) (precede.fresh_first g m h t o l)))
+        (fresh_stages g m h (suc t) row o l (next_row h t r row a))
 
-    freshes_stages : (g h t : ℕ) (ms : List ℕ) (row : List (Run Stamped)) → g ≤ h → IsRow h t row → EachTwo Order (freshes g ms) (stages_of h t row)
-    freshes_stages g h t [] row l a = tt
-    freshes_stages g h t (m ∷ ms) row l a = (fresh_stages g m h t row l a, freshes_stages g h t ms row l a)
+    freshes_stages : (g h t : ℕ) (ms : List ℕ) (row : List (Run Stamped)) → AreOwned ms → g ≤ h → IsRow h t row → EachTwo Order (freshes g ms) (stages_of h t row)
+    freshes_stages g h t [] row o l a = tt
+    freshes_stages g h t (m ∷ ms) row o l a = (fresh_stages g m h t row (head_owned m ms o) l a, freshes_stages g h t ms row (tail_owned m ms o) l a)
 
-    stages_fresh : (g s h m : ℕ) (row : List (Run Stamped)) → s + length row ≤ length slots → IsRow g s row → g < h → Each (λ e. Order e (fresh_at h m)) (stages_of g s row)
-    stages_fresh g s h m [] q a l = tt
-    stages_fresh g s h m (r ∷ row) q a l =
+    stages_fresh : (g s h m : ℕ) (row : List (Run Stamped)) → is_among m owned ≡ true → h < length runs → s + length row ≤ length slots → IsRow g s row → g < h → Each (λ e. Order e (fresh_at h m)) (stages_of g s row)
+    stages_fresh g s h m [] o i q a l = tt
+    stages_fresh g s h m (r ∷ row) o i q a l =
         each_append (λ e. Order e (fresh_at h m)) (placed g s r.events) (stages_of g (suc s) row)
-        (subst (λ (x : Run Stamped). Each (λ e. Order e (fresh_at h m)) (placed g s x.events)) (head_row g s r row a) (run_fresh g s h m (omega arith) (events_at g s) (within g s) (precede.fresh_after g s h m l)))
-        (stages_fresh g (suc s) h m row (omega arith) (next_row g s r row a) l)
+        (subst (λ (x : Run Stamped). Each (λ e. Order e (fresh_at h m)) (placed g s x.events)) (head_row g s r row a) (run_fresh g s h m (omega arith) (events_at g s) (within g s) (precede.fresh_after g s h m o l i)))
+        (stages_fresh g (suc s) h m row o i (omega arith) (next_row g s r row a) l)
 
     two_cons : (xs : List Stamped) (y : Stamped) (ys : List Stamped) → Each (λ x. Order x y) xs → EachTwo Order xs ys → EachTwo Order xs (y ∷ ys)
     two_cons [] y ys h k = tt
     two_cons (x ∷ xs) y ys h k = ((h.0, k.0), two_cons xs y ys h.1 k.1)
 
-    stages_freshes : (g s h : ℕ) (row : List (Run Stamped)) (ms : List ℕ) → s + length row ≤ length slots → IsRow g s row → g < h → EachTwo Order (stages_of g s row) (freshes h ms)
-    stages_freshes g s h row [] q a l = two_none Order (stages_of g s row)
-    stages_freshes g s h row (m ∷ ms) q a l = two_cons (stages_of g s row) (fresh_at h m) (freshes h ms) (stages_fresh g s h m row q a l) (stages_freshes g s h row ms q a l)
+    stages_freshes : (g s h : ℕ) (row : List (Run Stamped)) (ms : List ℕ) → AreOwned ms → h < length runs → s + length row ≤ length slots → IsRow g s row → g < h → EachTwo Order (stages_of g s row) (freshes h ms)
+    stages_freshes g s h row [] o i q a l = two_none Order (stages_of g s row)
+    stages_freshes g s h row (m ∷ ms) o i q a l =
+        two_cons (stages_of g s row) (fresh_at h m) (freshes h ms) (stages_fresh g s h m row (head_owned m ms o) i q a l) (stages_freshes g s h row ms (tail_owned m ms o) i q a l)
 
     fresh_freshes : (g m h : ℕ) (ns : List ℕ) → g < h → Each (Order (fresh_at g m)) (freshes h ns)
     fresh_freshes g m h [] l = tt
@@ -206,27 +218,27 @@ module _ (core : PlainCore) (plan : PlainPlan) (delays : Delays) (slots : List S
     groups_of g rows = group_events core plan delays slots runs p stages copies owned g rows
 
     abbrev IsTable : (g : ℕ) → List (List (Run Stamped)) → Type 0
-    IsTable g rows = ((i : ℕ) → slice_index_or runs (g + i) [] ≡ slice_index_or rows i []) × Each (λ row. length row ≤ length slots) rows
+    IsTable g rows = ((i : ℕ) → slice_index_or runs (g + i) [] ≡ slice_index_or rows i []) × Each (λ row. length row ≤ length slots) rows × (g + length rows ≡ length runs)
 
     row_is : (g : ℕ) (row : List (Run Stamped)) (rows : List (List (Run Stamped))) → IsTable g (row ∷ rows) → IsRow g 0 row
     row_is g row rows h i =
         ap (run_at runs g) (let e : 0 + i ≡ i = omega arith in e) ∙ ap (λ x. slice_index_or x i no_time) (ap (λ j. slice_index_or runs j []) (let e : g ≡ g + 0 = omega arith in e) ∙ h.0 0)
 
     next_table : (g : ℕ) (row : List (Run Stamped)) (rows : List (List (Run Stamped))) → IsTable g (row ∷ rows) → IsTable (suc g) rows
-    next_table g row rows h = ((λ i. ap (λ j. slice_index_or runs j []) (let e : suc g + i ≡ g + suc i = omega arith in e) ∙ h.0 (suc i)), h.1.1)
+    next_table g row rows h = ((λ i. ap (λ j. slice_index_or runs j []) (let e : suc g + i ≡ g + suc i = omega arith in e) ∙ h.0 (suc i)), h.1.1, (let e : g + suc (length rows) ≡ length runs = h.2 in omega arith))
 
-    freshes_groups : (g h : ℕ) (ms : List ℕ) (rows : List (List (Run Stamped))) → IsTable h rows → g < h → EachTwo Order (freshes g ms) (groups_of h rows)
-    freshes_groups g h ms [] t l = two_none Order (freshes g ms)
-    freshes_groups g h ms (row ∷ rows) t l =
+    freshes_groups : (g h : ℕ) (ms : List ℕ) (rows : List (List (Run Stamped))) → AreOwned ms → IsTable h rows → g < h → EachTwo Order (freshes g ms) (groups_of h rows)
+    freshes_groups g h ms [] o t l = two_none Order (freshes g ms)
+    freshes_groups g h ms (row ∷ rows) o t l =
         two_right Order (freshes g ms) (freshes h owned ++ stages_of h 0 row) (groups_of (suc h) rows)
-        (two_right Order (freshes g ms) (freshes h owned) (stages_of h 0 row) (freshes_freshes g h ms owned l) (freshes_stages g h 0 ms row (omega arith) (row_is h row rows t)))
-        (freshes_groups g (suc h) ms rows (next_table h row rows t) (omega arith))
+        (two_right Order (freshes g ms) (freshes h owned) (stages_of h 0 row) (freshes_freshes g h ms owned l) (freshes_stages g h 0 ms row o (omega arith) (row_is h row rows t)))
+        (freshes_groups g (suc h) ms rows o (next_table h row rows t) (omega arith))
 
     stages_groups : (g h : ℕ) (row : List (Run Stamped)) (rows : List (List (Run Stamped))) → length row ≤ length slots → IsRow g 0 row → IsTable h rows → g < h → EachTwo Order (stages_of g 0 row) (groups_of h rows)
     stages_groups g h row [] q a t l = two_none Order (stages_of g 0 row)
     stages_groups g h row (other ∷ rows) q a t l =
         two_right Order (stages_of g 0 row) (freshes h owned ++ stages_of h 0 other) (groups_of (suc h) rows)
-        (two_right Order (stages_of g 0 row) (freshes h owned) (stages_of h 0 other) (stages_freshes g 0 h row owned (omega arith) a l) (stages_stages g 0 h 0 row other (omega arith) a (row_is h other rows t) l))
+        (two_right Order (stages_of g 0 row) (freshes h owned) (stages_of h 0 other) (stages_freshes g 0 h row owned (λ m is. is) (let e : h + suc (length rows) ≡ length runs = t.2 in omega arith) (omega arith) a l) (stages_stages g 0 h 0 row other (omega arith) a (row_is h other rows t) l))
         (stages_groups g (suc h) row rows q a (next_table h other rows t) (omega arith))
 
     groups_pairs : (g : ℕ) (rows : List (List (Run Stamped))) → IsTable g rows → Pairs Order (groups_of g rows)
@@ -235,10 +247,10 @@ module _ (core : PlainCore) (plan : PlainPlan) (delays : Delays) (slots : List S
         let a : IsRow g 0 row = row_is g row rows t in
         let q : length row ≤ length slots = t.1.0 in
         pairs_append Order (freshes g owned ++ stages_of g 0 row) (groups_of (suc g) rows)
-        (pairs_append Order (freshes g owned) (stages_of g 0 row) (freshes_alone g owned (precede.fresh_alone g)) (row_pairs g 0 row (omega arith) a) (freshes_stages g g 0 owned row (omega arith) a))
+        (pairs_append Order (freshes g owned) (stages_of g 0 row) (freshes_alone g owned (precede.fresh_alone g)) (row_pairs g 0 row (omega arith) a) (freshes_stages g g 0 owned row (λ m is. is) (omega arith) a))
         (groups_pairs (suc g) rows (next_table g row rows t))
         (two_left Order (freshes g owned) (stages_of g 0 row) (groups_of (suc g) rows)
-        (freshes_groups g (suc g) owned rows (next_table g row rows t) (omega arith)) (stages_groups g (suc g) row rows q a (next_table g row rows t) (omega arith)))
+        (freshes_groups g (suc g) owned rows (λ m is. is) (next_table g row rows t) (omega arith)) (stages_groups g (suc g) row rows q a (next_table g row rows t) (omega arith)))
 
 -- a run of the table, by its place
 module _ (core : PlainCore) (n : ℕ) where
@@ -266,4 +278,4 @@ pub outers_in_order : (core : PlainCore) (plan : PlainPlan) (delays : Delays) �
 outers_in_order core plan delays slots runs p stages copies owned right precede =
     groups_pairs core plan delays slots runs p stages copies owned precede
     (λ k s. (table_at core (length slots) runs right k s).0) (λ k s. (table_at core (length slots) runs right k s).1) 0 runs
-    ((λ i. ap (λ j. slice_index_or runs j []) (let e : 0 + i ≡ i = omega arith in e)), few core (length slots) runs right)
+    ((λ i. ap (λ j. slice_index_or runs j []) (let e : 0 + i ≡ i = omega arith in e)), few core (length slots) runs right, (let e : 0 + length runs ≡ length runs = omega arith in e))

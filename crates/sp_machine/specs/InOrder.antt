@@ -3,7 +3,7 @@
 use Rattle.std.specs.Prelude.{◌≡◌, ℕ, ◌+◌, ◌<◌, ◌≤◌, ◌==◌, ◌&&◌, ◌⊎◌, Bool, true, false, ℤ, List, length, replicate, Option}
 use Rattle.sp_bank.specs.Banking.{Banking}
 use Rattle.sp_core.specs.declared.access.Meet.{Meet}
-use Rattle.sp_core.specs.Declarations.{mem}
+use Rattle.sp_core.specs.Declarations.{mem, is_among}
 use Rattle.sp_core.specs.Events.{At, Standing, Moment, touches, slices, renews, keeps, events_of}
 use Rattle.sp_core.specs.Meeting.{changes, is_one_element, is_group, is_in_stream, owns, are_met}
 use Rattle.sp_core.specs.PlainCore.{PlainOp, PlainStages, PlainCore}
@@ -93,8 +93,8 @@ module _ (core : PlainCore) (plan : PlainPlan) (delays : Delays) (slots : List S
 
   pub record RunsPrecede : Type 0 where
     pub in_turn : (k s l r : ℕ) → IsLaterRun k s l r → EachTwo (λ e f. Conflicts core e f → Precedes slots k s l r) (run_at runs k s).events (run_at runs l r).events
-    pub fresh_first : (g m l r : ℕ) → g ≤ l → Each (λ f. Clash core (fresh g m) f → fresh_beat g m ≤ l + (slot_at slots r).slot) (run_at runs l r).events
-    pub fresh_after : (k s g m : ℕ) → k < g → Each (λ e. Clash core e (fresh g m) → k + (slot_at slots s).slot < fresh_beat g m) (run_at runs k s).events
+    pub fresh_first : (g m l r : ℕ) → is_among m owned ≡ true → g ≤ l → Each (λ f. Clash core (fresh g m) f → fresh_beat g m ≤ l + (slot_at slots r).slot) (run_at runs l r).events
+    pub fresh_after : (k s g m : ℕ) → is_among m owned ≡ true → k < g → g < length runs → Each (λ e. Clash core e (fresh g m) → k + (slot_at slots s).slot < fresh_beat g m) (run_at runs k s).events
     pub fresh_apart : (g m h n : ℕ) → g < h → Clash core (fresh g m) (fresh h n) → fresh_beat g m < fresh_beat h n
     pub fresh_alone : (g : ℕ) → Pairs (λ m n. Clash core (fresh g m) (fresh g n) → fresh_beat g m < fresh_beat g n) owned
 

@@ -1,0 +1,6 @@
+//! Laws of plans: stages that overlap by a valid plan come in order. Each function does nothing: what it ensures is the law.
+#![tactic(auto)]
+
+mod laws;
+
+pub use laws::overlaps_come_in_turn;
