@@ -22,7 +22,7 @@ each_split : (Q : Stamped → Type 0) (a b : List Stamped) → Each Q (a ++ b) �
 each_split Q [] b h = (tt, h)
 each_split Q (x ∷ a) b h = let r = each_split Q a b h.1 in ((h.0, r.0), r.1)
 
-pairs_split : (P : Stamped → Stamped → Type 0) (a b : List Stamped) → Pairs P (a ++ b) → Pairs P a × Pairs P b × EachTwo P a b
+pub pairs_split : (P : Stamped → Stamped → Type 0) (a b : List Stamped) → Pairs P (a ++ b) → Pairs P a × Pairs P b × EachTwo P a b
 pairs_split P [] b h = (tt, h, tt)
 pairs_split P (x ∷ a) b h =
     let e = each_split (P x) a b h.0 in

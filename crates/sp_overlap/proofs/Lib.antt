@@ -6,3 +6,9 @@ pub mod Depths
 pub mod Compared
 pub mod Places
 pub mod Precede
+pub mod Scoped
+pub mod Looked
+pub mod Owners
+pub mod Planned
+pub mod Sound
+pub mod Whole

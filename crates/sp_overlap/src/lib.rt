@@ -3,4 +3,4 @@
 
 mod laws;
 
-pub use laws::overlaps_come_in_turn;
+pub use laws::{overlaps_come_in_turn, planned_runs_come_in_order, plans_are_sound};
