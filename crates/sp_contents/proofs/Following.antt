@@ -29,10 +29,10 @@ cond_same true x = refl
 cond_same false x = refl
 
 -- one number of a function is changed
-changed_same : {A : Type 0} (f : ℕ → A) (m : ℕ) (x : A) → changed f m x m ≡ x
+pub changed_same : {A : Type 0} (f : ℕ → A) (m : ℕ) (x : A) → changed f m x m ≡ x
 changed_same {A} f m x = ap (λ b. elim b as (λ _. A) [ true ↦ x | false ↦ f m ]) (eq-eqb m m refl)
 
-changed_other : {A : Type 0} (f : ℕ → A) (m : ℕ) (x : A) (k : ℕ) → (k ≡ m → ⊥) → changed f m x k ≡ f k
+pub changed_other : {A : Type 0} (f : ℕ → A) (m : ℕ) (x : A) (k : ℕ) → (k ≡ m → ⊥) → changed f m x k ≡ f k
 changed_other {A} f m x k n = ap (λ b. elim b as (λ _. A) [ true ↦ x | false ↦ f k ]) (ne_eqb k m n)
 
 -- kinds of one element

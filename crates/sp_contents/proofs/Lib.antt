@@ -1,2 +1,5 @@
 pub mod ByKind
 pub mod Following
+pub mod Unmade
+pub mod Trees
+pub mod Stay

@@ -1,10 +1,19 @@
 //! Laws of copies.
 
 ghost use Rattle.sp_contents.specs.Laws.{CopiesFollow};
+ghost use Rattle.sp_contents.specs.Trees.{RunsStay};
 ghost use Rattle.sp_core.specs.PlainCore.{PlainCore};
+ghost use Rattle.sp_machine.specs.Transfers.{Delays};
+ghost use Rattle.sp_plan.specs.PlainPlan.{PlainPlan};
 
 /// Moments that happen one after the other in the order of the text find in the copies of memories what they find in the
 /// memories, where between two makings of a memory all that is done to it is done to one copy.
 pub fn copies_follow()
     ensures { (core : PlainCore) → CopiesFollow core }
+{}
+
+/// A run of a core stays with its copies: between two makings of a memory all that is done to it is done to one copy, in which
+/// each loop around has it in that group.
+pub fn runs_stay()
+    ensures { (core : PlainCore) (plan : PlainPlan) (delays : Delays) → RunsStay core plan delays }
 {}

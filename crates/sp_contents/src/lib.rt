@@ -4,4 +4,4 @@
 
 mod laws;
 
-pub use laws::copies_follow;
+pub use laws::{copies_follow, runs_stay};

@@ -210,7 +210,7 @@ module _ (core : PlainCore) where
     within_new (store r x spans) around earlier h m e = absurd (false≢true e)
     within_new (sparse kind r x places spans count par) around earlier h m e = absurd (false≢true e)
 
-    stages_new : (stages : PlainStages) (around : Around) (earlier : List ℕ) → AreRight core around earlier stages → (m : ℕ) → is_among m (owned_in_stages stages) ≡ true → IsNew earlier m
+    pub stages_new : (stages : PlainStages) (around : Around) (earlier : List ℕ) → AreRight core around earlier stages → (m : ℕ) → is_among m (owned_in_stages stages) ≡ true → IsNew earlier m
     stages_new no_stage around earlier r m e = absurd (false≢true e)
     stages_new (more_stage first last comb node rest) around earlier r m e = elim (in_two m (owned_in node) (owned_in_stages rest) e) [
       | inl x ↦ within_new node around earlier r.0 m x
