@@ -4,9 +4,12 @@
 mod combines;
 mod early;
 mod last;
+mod nodes;
+mod owned;
 mod registers;
 mod stages;
 mod transfers;
+mod tree;
 mod uses;
 
 pub use std::alloc::AllocError as NoMemory;
