@@ -78,8 +78,8 @@ module _ (mems : List program.PlainMem) (counters : ℕ) where
   pub stages_after_run : (run : Run) (n place : ℕ) (kind : PlainStmtKind) (rest : PlainStmts) (ending : Ending) (c : Combines) → is_primitive kind ≡ false
       → stages mems counters run n (more_stmt (stmt place kind) rest) ending c
       ≡ run_stage run.ops (early_stages mems run.values.elsewhere n kind (more_stage 0 0 false
-            (node mems counters run.values.elsewhere n (n + length (beside kind rest ending)) kind)
-            (stages mems counters (no_run run.values.elsewhere) (n + length (beside kind rest ending) + length (inside kind)) rest ending c)))
+      (node mems counters run.values.elsewhere n (n + length (beside kind rest ending)) kind)
+      (stages mems counters (no_run run.values.elsewhere) (n + length (beside kind rest ending) + length (inside kind)) rest ending c)))
   unfolding stages
   stages_after_run run n place kind rest ending c h = takes_second (primitive kind) _ _ h
 

@@ -3,6 +3,7 @@ pub mod CombineLemmas
 pub mod LastLemmas
 pub mod NodeLemmas
 pub mod OwnedLemmas
+pub mod ProgramLemmas
 pub mod StageLemmas
 pub mod TreeLemmas
 pub mod UseLemmas

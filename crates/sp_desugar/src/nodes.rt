@@ -20,7 +20,12 @@ use sp_words::Style;
 use std::alloc::Global;
 
 /// The style of a block: one that isn't a proper `Stream` block is a sequence.
-pub(crate) fn style_of(alloc: Global, mems: &[MemDecl], style: Style, body: &[Stmt]) -> Result<Style, NoMemory>
+pub(crate) fn style_of(
+    alloc: Global,
+    mems: &[MemDecl],
+    style: Style,
+    body: &[Stmt],
+) -> Result<Style, NoMemory>
     ensures { IfOk result (λ style'. (counters : ℕ) → style' ≡ style_of (map plain_mem mems.now) counters style (plain_stmts body.now)) }
 {
     match style {

@@ -62,11 +62,7 @@ pub(crate) fn push_run(alloc: Global, out: &mut Vec<Stage>, ops: Vec<Op>) -> Res
 }
 
 /// Appends a run as a stage, where it has an operation, and begins the next one.
-pub(crate) fn end_run(
-    alloc: Global,
-    out: &mut Vec<Stage>,
-    run: &mut Run,
-) -> Result<(), NoMemory>
+pub(crate) fn end_run(alloc: Global, out: &mut Vec<Stage>, run: &mut Run) -> Result<(), NoMemory>
     ensures stages { OnOk result ((rest : PlainStages) → onto out.new.items rest ≡ onto out.old.items (run_stage (run_of run.old).ops rest)) }
     ensures run { OnOk result (run_of run.new ≡ no_run (run_of run.old).values.elsewhere) }
 {

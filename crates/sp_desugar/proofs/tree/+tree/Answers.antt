@@ -70,7 +70,7 @@ add_statement-returns-clause-stages t c = λ place k.
     let m : length after ≡ length before + length b + length (inside kind) =
     made.after_all all after (inside kind) c.in_ok-add_other.ensures.regs ∙ ap (λ x. x + length (inside kind)) n in
     let next : stages M c.args.counters (run_of c.add_other.new.run) (length after) rest ending k
-        ≡ stages M c.args.counters (no_run sources) (length before + length b + length (inside kind)) rest ending k =
+    ≡ stages M c.args.counters (no_run sources) (length before + length b + length (inside kind)) rest ending k =
     ap (λ r. stages M c.args.counters r (length after) rest ending k) c.in_ok-add_other.ensures.run
     ∙ ap (λ x. stages M c.args.counters (no_run sources) x rest ending k) m in
     let shape = λ (f x : ℕ) (s : PlainStages). onto out (run_stage run.ops (early_stages M sources f kind (more_stage 0 0 false (node M c.args.counters sources f x kind) s))) in
