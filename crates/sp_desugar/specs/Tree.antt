@@ -3,11 +3,14 @@ use Rattle.std.specs.Prelude.{ℕ, List, [], ◌∷◌, ◌++◌}
 use Rattle.sp_tree.specs.Plain.{plain_expr}
 use Rattle.sp_tree.specs.PlainExpression.{type_of}
 use Rattle.sp_tree.specs.PlainProgram.{PlainMem}
-use Rattle.sp_core.specs.PlainCore.{PlainStages, no_stage}
+use Rattle.sp_tree.specs.PlainStatement.{PlainStmts}
+use Rattle.sp_words.specs.declared.kind.Style.TheVariants.{Pipe}
+use Rattle.sp_core.specs.PlainCore.{PlainNode, PlainStages, no_stage}
 use Rattle.sp_sugar.specs.Operations.{Code, alone, code, read_op, write_op}
-use Rattle.sp_sugar.specs.Runs.{Run, next_code}
+use Rattle.sp_sugar.specs.Runs.{Run, no_run, next_code}
 use Rattle.sp_sugar.specs.Stages as plain
 use Rattle.sp_sugar.specs.Uses.{Ending, no_more, in_last_run, in_combination}
+use Rattle.sp_sugar.specs.Values.{Sources}
 use Rattle.sp_desugar.specs.declared.combines.Combines.{Combines}
 use Rattle.sp_desugar.specs.declared.combines.Combines.TheVariants.{Nothing, Folds, Reduces, ReducesElements}
 
@@ -24,3 +27,8 @@ module _ (mems : List PlainMem) (counters : ℕ) where
   end_stages run n (in_last_run e) c =
       let x : Code = next_code mems run e in
       plain.run_stage (run.ops ++ x.ops ++ write_op (type_of e) n (x.word ∷ []) ∷ []) (plain.combination_stage mems counters (alone 0 (read_op (type_of e) n [])) c)
+
+  -- a body that is no loop, by its stages
+  abbrev pub alone_node : Sources → (n : ℕ) → PlainStmts → PlainNode
+  alone_node sources n body =
+      plain.body_node mems counters sources n [] Pipe body no_more plain.nothing (plain.stages mems counters (no_run sources) n body no_more plain.nothing)

@@ -4,9 +4,14 @@
 mod combines;
 mod early;
 mod last;
+mod nodes;
+mod owned;
+mod program;
 mod registers;
 mod stages;
 mod transfers;
+mod tree;
 mod uses;
 
+pub use program::desugar;
 pub use std::alloc::AllocError as NoMemory;

@@ -6,16 +6,19 @@ ghost use Rattle.sp_tree.specs.Plain.{plain_expr, plain_mem};
 ghost use Rattle.sp_tree.specs.PlainExpression.{PlainExpr};
 ghost use Rattle.sp_tree.specs.PlainTree.{plain_counter, plain_ctl, plain_span, plain_stmt_kind};
 ghost use Rattle.sp_sugar.specs.Early.{bounds_of, stage_of, bound_stages, slice_stage, early_stages};
+ghost use Rattle.sp_sugar.specs.Runs.{no_run};
 ghost use Rattle.sp_sugar.specs.Stages.{run_stage};
 ghost use Rattle.sp_desugar.specs.Crossings.{onto};
+ghost use Rattle.sp_operations.specs.Running.{run_of};
 ghost use Rattle.sp_operations.specs.Sources.{sources_of};
 
 use crate::NoMemory;
 use crate::early::{Crossing, is_early, is_early_slice, push_into, push_slice};
 use sp_core::{Node, Op, Stage};
-use sp_operations::Source;
+use sp_operations::{Run, Source};
 use sp_tree::{Counter, Ctl, Expr, MemDecl, Span, StmtKind};
 use std::alloc::{AllocError, Global};
+use std::mem;
 
 /// Appends a node as a stage.
 #[tactic(auto, using(crate::proofs::StageLemmas::onto_more))]
@@ -56,6 +59,17 @@ pub(crate) fn push_run(alloc: Global, out: &mut Vec<Stage>, ops: Vec<Op>) -> Res
         return Ok(());
     };
     push_ops_stage(alloc, out, ops)
+}
+
+/// Appends a run as a stage, where it has an operation, and begins the next one.
+pub(crate) fn end_run(alloc: Global, out: &mut Vec<Stage>, run: &mut Run) -> Result<(), NoMemory>
+    ensures stages { OnOk result ((rest : PlainStages) → onto out.new.items rest ≡ onto out.old.items (run_stage (run_of run.old).ops rest)) }
+    ensures run { OnOk result (run_of run.new ≡ no_run (run_of run.old).values.elsewhere) }
+{
+    run.here = Vec::from_slice(alloc, &run.elsewhere)?;
+    let ops = mem::replace(&mut run.ops, Vec::new(alloc));
+    push_run(alloc, out, ops)?;
+    Ok(())
 }
 
 /// Appends the stage of a bound, where it is computed early, and tells the first number after that of its register.

@@ -1,0 +1,94 @@
+//! The core of a program.
+ghost use Rattle.std.specs.Prelude.{◌≡◌, map, length, IfOk};
+ghost use Rattle.sp_words.specs.Ports.{plain_port, plain_ports};
+ghost use Rattle.sp_tree.specs.ProgramParts.{plain_program};
+ghost use Rattle.sp_core.specs.CoreParts.{plain_core};
+ghost use Rattle.sp_core.specs.Invariant.{IsCore};
+ghost use Rattle.sp_core.specs.Plain.{plain_mem};
+ghost use Rattle.sp_sugar.specs.Core.{core_of};
+
+use crate::NoMemory;
+use crate::tree::alone;
+use sp_core::{Core, CoreError, CoreMem, Node, wrong_cores_are_shown};
+use sp_operations::push_written;
+use sp_sugar::programs_become_cores;
+use sp_tree::Program;
+use sp_words::{PortDecl, Ports};
+use std::alloc::{AllocError, Global};
+
+fn copied_port(alloc: Global, port: &PortDecl) -> Result<PortDecl, NoMemory>
+    ensures { IfOk result (λ copy. plain_port copy ≡ plain_port port.now) }
+{
+    Ok(PortDecl {
+        name: String::from_str(alloc, &port.name)?,
+        ty: port.ty,
+        dims: Vec::from_slice(alloc, &port.dims)?,
+    })
+}
+
+fn copied_list(alloc: Global, ports: &[PortDecl]) -> Result<Vec<PortDecl>, NoMemory>
+    ensures { IfOk result (λ copies. map plain_port copies.items ≡ map plain_port ports.now) }
+{
+    let mut copies = Vec::new(alloc);
+    for port in ports {
+        copies.push(copied_port(alloc, port)?)?;
+    }
+    Ok(copies)
+}
+
+fn copied(alloc: Global, ports: &Ports) -> Result<Ports, NoMemory>
+    ensures { IfOk result (λ copy. plain_ports copy ≡ plain_ports ports.now) }
+{
+    Ok(Ports {
+        args: copied_list(alloc, &ports.args)?,
+        outs: copied_list(alloc, &ports.outs)?,
+        drams: copied_list(alloc, &ports.drams)?,
+    })
+}
+
+/// How many counters a program has.
+fn counter_count(program: &Program) -> Result<u32, NoMemory>
+    ensures { IfOk result (λ n. n ≡ length (plain_program program.now).counters) }
+{
+    let n = program.counters().len();
+    if n > u32::MAX as usize {
+        return Err(AllocError);
+    }
+    Ok(n as u32)
+}
+
+/// The core of parts that keep the rules of cores.
+fn core_of_parts(
+    alloc: Global,
+    mems: Vec<CoreMem>,
+    ports: Ports,
+    root: Node,
+) -> Result<Core, NoMemory>
+    requires { IsCore (plain_core (record { mems = map plain_mem mems.items; ports = plain_ports ports; root = root })) }
+    ensures { IfOk result (λ core. core ≡ record { mems = map plain_mem mems.items; ports = plain_ports ports; root = root }) }
+{
+    wrong_cores_are_shown();
+    match Core::new(alloc, mems, ports, root) {
+        Ok(core) => Ok(core),
+        Err(CoreError::Memory) => Err(AllocError),
+        Err(CoreError::Shape { .. }) => unreachable!(),
+    }
+}
+
+/// The core of a program: its memories without its DRAMs, in the order of the text, and then the registers that are
+/// added; its ports; and its block as a tree of loops and transfers over lists of operations, before its lanes stand one
+/// after the other.
+pub fn desugar(alloc: Global, program: &Program) -> Result<Core, NoMemory>
+    ensures core { IfOk result (λ core. plain_core core ≡ core_of (plain_program program.now)) }
+    ensures ports { IfOk result (λ core. core.ports ≡ program.now.ports) }
+{
+    let mut mems = Vec::new(alloc);
+    push_written(alloc, &mut mems, program.mems())?;
+    let counters = counter_count(program)?;
+    let body = program.body();
+    let root = alone(alloc, body, program.mems(), counters, &mut mems, &[])?;
+    let ports = copied(alloc, program.ports())?;
+    programs_become_cores();
+    let core = core_of_parts(alloc, mems, ports, root)?;
+    Ok(core)
+}
