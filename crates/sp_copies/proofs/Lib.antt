@@ -1,0 +1,5 @@
+pub mod Counts
+pub mod Found
+pub mod Owned
+pub mod Owners
+pub mod Totals
