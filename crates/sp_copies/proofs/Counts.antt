@@ -59,7 +59,7 @@ module _ (keep : ℕ → Bool) (m : ℕ) where
   mutual
     unfolding memories_in memories_of
 
-    node_kept : (node : PlainNode) → keep m ≡ true → occurrences m (memories_in keep node) ≡ copies_in node m
+    pub node_kept : (node : PlainNode) → keep m ≡ true → occurrences m (memories_in keep node) ≡ copies_in node m
     node_kept (inner counters owned ops comb) k =
         count_repeated m (lanes_of counters) (in_turn (with_owned keep owned [])) ∙ ap (λ n. lanes_of counters * n) (owned_kept owned [] k ∙ omega arith)
     node_kept (outer counters style owned stages) k =
@@ -80,7 +80,7 @@ module _ (keep : ℕ → Bool) (m : ℕ) where
   mutual
     unfolding memories_in memories_of
 
-    node_left : (node : PlainNode) → keep m ≡ false → occurrences m (memories_in keep node) ≡ 0
+    pub node_left : (node : PlainNode) → keep m ≡ false → occurrences m (memories_in keep node) ≡ 0
     node_left (inner counters owned ops comb) k =
         count_repeated m (lanes_of counters) (in_turn (with_owned keep owned [])) ∙ ap (λ n. lanes_of counters * n) (owned_left owned [] k) ∙ omega arith
     node_left (outer counters style owned stages) k =
@@ -143,7 +143,7 @@ module _ (core : PlainCore) where
   where_kept keep m k =
       omega (arith, owned_kept keep m (filter (is_port core) (numbers_below (length core.mems))) (placed (memories_in keep core.root) []) k, count_placed m (memories_in keep core.root) [], ports_there m, node_kept keep m core.root k)
 
-  where_left : (keep : ℕ → Bool) (m : ℕ) → keep m ≡ false → occurrences m (memories_where core keep) ≡ 0
+  pub where_left : (keep : ℕ → Bool) (m : ℕ) → keep m ≡ false → occurrences m (memories_where core keep) ≡ 0
   where_left keep m k =
       omega (arith, owned_left keep m (filter (is_port core) (numbers_below (length core.mems))) (placed (memories_in keep core.root) []) k, count_placed m (memories_in keep core.root) [], node_left keep m core.root k)
 

@@ -3,6 +3,7 @@
 ghost use Rattle.std.specs.Prelude.{ℕ, List};
 ghost use Rattle.sp_core.specs.PlainCore.{PlainCore};
 ghost use Rattle.sp_copies.specs.Laws.{AreApart, AreCounted, AreDeclared, HaveOwners};
+ghost use Rattle.sp_copies.specs.Rules.{KeepMemoryRules};
 
 /// A memory has a copy for each lane in which its owner stands, and an argument or output has one.
 pub fn copies_are_counted()
@@ -22,4 +23,10 @@ pub fn copies_are_apart()
 /// Each copy of a memory that has one owner has one owner.
 pub fn copies_have_owners()
     ensures { (core : PlainCore) → HaveOwners core }
+{}
+
+/// The memories and ports of lanes keep the rules of cores, where those of the core do, no combination owns a memory, and
+/// arguments and outputs stand in the program's text.
+pub fn memories_keep_rules()
+    ensures { (core : PlainCore) → KeepMemoryRules core }
 {}

@@ -3,4 +3,7 @@
 
 mod laws;
 
-pub use laws::{copies_are_apart, copies_are_counted, copies_are_declared, copies_have_owners};
+pub use laws::{
+    copies_are_apart, copies_are_counted, copies_are_declared, copies_have_owners,
+    memories_keep_rules,
+};
