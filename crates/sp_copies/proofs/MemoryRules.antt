@@ -72,7 +72,7 @@ all_below : (f : ℕ → Bool) (n : ℕ) → ((k : ℕ) → k < n → f k ≡ tr
 all_below f zero h = refl
 all_below f (suc n) h = list_all-append f (numbers_below n) (n ∷ []) ∙ and_from _ _ (all_below f n (λ k lt. h k (omega arith))) (and_from _ _ (h n (omega arith)) refl)
 
-count_among : (m : ℕ) (xs : List ℕ) → is_among m xs ≡ true → 1 ≤ occurrences m xs
+pub count_among : (m : ℕ) (xs : List ℕ) → is_among m xs ≡ true → 1 ≤ occurrences m xs
 count_among m [] e = absurd (true≢false (sym e))
 count_among m (x ∷ xs) e = elim (eqb_tells m x) [
   | inl same ↦ let g : one_if (x == m) ≡ 1 = ap one_if (eq-eqb x m (sym same.1)) in omega (arith, g)

@@ -48,18 +48,18 @@ mutual
       omega (arith, no_copies m node (omega (arith, e, c)), no_copies_of m rest (omega (arith, e, c)))
 
 -- bounds of copies, lane by lane
-lane_fits : (c p l o s t : ℕ) → l < p → (c + 1) * (p * (o + s)) ≤ t → (c * p + l + 1) * s ≤ t
+pub lane_fits : (c p l o s t : ℕ) → l < p → (c + 1) * (p * (o + s)) ≤ t → (c * p + l + 1) * s ≤ t
 lane_fits c p l o s t lt le =
     let a : (c * p + l + 1) * s ≤ (c * p + p) * s = mul-le-mul_right s (omega arith) in
     let b : (c * p + p) * s ≤ (c * p + p) * (o + s) = grind arith in
     omega (arith, a, b)
 
-own_fits : (c p l o s t : ℕ) → l < p → 1 ≤ o → (c + 1) * (p * (o + s)) ≤ t → c * p + l < t
+pub own_fits : (c p l o s t : ℕ) → l < p → 1 ≤ o → (c + 1) * (p * (o + s)) ≤ t → c * p + l < t
 own_fits c p l o s t lt one le =
     let a : 1 * (c * p + p) ≤ (o + s) * (c * p + p) = mul-le-mul_right (c * p + p) (omega arith) in
     omega (arith, a)
 
-part_fits : (c a b t : ℕ) → (c + 1) * (a + b) ≤ t → ((c + 1) * a ≤ t) × ((c + 1) * b ≤ t)
+pub part_fits : (c a b t : ℕ) → (c + 1) * (a + b) ≤ t → ((c + 1) * a ≤ t) × ((c + 1) * b ≤ t)
 part_fits c a b t le = (omega arith, omega arith)
 
 one_side : (a b : ℕ) → a + b ≤ 1 → (a ≡ 0) ⊎ (b ≡ 0)
@@ -130,7 +130,7 @@ module _ (order : List ℕ) where
   combined_owns i counters owned w lanes (more_stage first last false node rest) h = combined_owns i counters owned w lanes rest h.1
 
   -- the copies of a part at a place stand in the order
-  abbrev Fits : (ℕ → ℕ) → Within → Type 0
+  abbrev pub Fits : (ℕ → ℕ) → Within → Type 0
   Fits copies w = (n : ℕ) → (w.copy + 1) * copies n ≤ occurrences n order
 
   -- a number is that of a copy of one memory, or of none
