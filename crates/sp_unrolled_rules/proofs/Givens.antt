@@ -1,5 +1,5 @@
 -- What stands where in a list of what operations give.
-use Rattle.std.proofs.Common.{◌≡◌, ℕ, zero, suc, ◌<◌, true, List, [], ◌∷◌, ◌++◌, length, map, Option, None, refl, sym, ◌∙◌, ap, arith}
+use Rattle.std.proofs.Common.{◌≡◌, ℕ, zero, suc, ◌+◌, ◌<◌, true, List, [], ◌∷◌, ◌++◌, length, map, Option, Some, None, refl, sym, ◌∙◌, ap, arith}
 use Rattle.std.proofs.lemmas.Bool.{and_parts, and_from, true≢false}
 use Rattle.std.proofs.lemmas.List.{append_assoc}
 use Rattle.std.specs.Prelude.{slice_index, slice_index_or}
@@ -8,10 +8,9 @@ use Rattle.sp_words.specs.declared.types.Ty.TheVariants.{Bit}
 use Rattle.sp_core.specs.Around.{Around}
 use Rattle.sp_core.specs.OperationRules.{is_operation_right, are_operations_right_after}
 use Rattle.sp_core.specs.PlainCore.{PlainOp, PlainCore}
+use Rattle.sp_unrolled_rules.proofs.TypesAlike.{type_same}
+use Rattle.sp_unrolled_rules.specs.Meetings.{given_of}
 use Rattle.sp_core.specs.Typed.{Given, given_type, is_given, gives, give_all}
-
-abbrev pub given_of : List PlainOp → Given
-given_of ops = map (λ (op : PlainOp). given_type op.kind op.ty) ops
 
 pub append_none : {A : Type 0} (xs : List A) → xs ++ [] ≡ xs
 append_none [] = refl
@@ -84,3 +83,23 @@ module _ (core : PlainCore) (around : Around) where
   after_both g (x ∷ xs) ys a b =
       let c = and_parts (is_operation_right core around g x) (are_operations_right_after core around (g ++ given_type x.kind x.ty ∷ []) xs) a in
       and_from _ _ c.0 (after_both (g ++ given_type x.kind x.ty ∷ []) xs ys c.1 (ap (λ l. are_operations_right_after core around l ys) (append_assoc g (given_type x.kind x.ty ∷ []) (given_of xs)) ∙ b))
+
+pub gives_kept : (g x : Given) (p : ℕ) (ty : Ty) → gives g p ty ≡ true → gives (g ++ x) p ty ≡ true
+gives_kept [] x p ty e = absurd (true≢false (sym e))
+gives_kept (t ∷ g) x zero ty e = e
+gives_kept (t ∷ g) x (suc p) ty e = gives_kept g x p ty e
+
+pub gives_end : (g : Given) (at : ℕ) (ty : Ty) → at ≡ length g → gives (g ++ Some ty ∷ []) at ty ≡ true
+gives_end g at ty same = ap (λ n. gives (g ++ Some ty ∷ []) n ty) same ∙ ap (λ o. is_given o ty) (holds_end g (Some ty)).1 ∙ type_same ty
+
+-- after as many as there are before
+taken : (g x : Given) (k : ℕ) (ty : Ty) → gives (g ++ x) (length g + k) ty ≡ true → gives x k ty ≡ true
+taken [] x k ty e = ap (λ n. gives x n ty) {x = k} {y = 0 + k} (omega arith) ∙ e
+taken (t ∷ g) x k ty e = taken g x k ty (ap (λ n. gives (t ∷ g ++ x) n ty) {x = suc (length g + k)} {y = suc (length g) + k} (omega arith) ∙ e)
+
+put : (h x : Given) (k : ℕ) (ty : Ty) → gives x k ty ≡ true → gives (h ++ x) (length h + k) ty ≡ true
+put [] x k ty e = ap (λ n. gives x n ty) {x = 0 + k} {y = k} (omega arith) ∙ e
+put (t ∷ h) x k ty e = ap (λ n. gives (t ∷ h ++ x) n ty) {x = suc (length h) + k} {y = suc (length h + k)} (omega arith) ∙ put h x k ty e
+
+pub gives_past : (g h x : Given) (k : ℕ) (ty : Ty) → gives (g ++ x) (length g + k) ty ≡ true → gives (h ++ x) (length h + k) ty ≡ true
+gives_past g h x k ty e = put h x k ty (taken g x k ty e)

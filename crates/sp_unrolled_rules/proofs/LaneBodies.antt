@@ -13,8 +13,9 @@ use Rattle.sp_core.specs.Typed.{Given, given_type, is_given, gives}
 use Rattle.sp_lanes.specs.Bodies.{in_mask, at_places, Body, standing, nowhere, lane_from, lane_body, more_bodies, lane_bodies, all_ops}
 use Rattle.sp_lanes.specs.Shared.{shared_after, shared, does_depend}
 use Rattle.sp_lanes.specs.Within.{Within, op_in}
+use Rattle.sp_unrolled_rules.specs.Meetings.{given_of}
 use Rattle.sp_unrolled_rules.specs.Places.{GoTogether}
-use Rattle.sp_unrolled_rules.proofs.Givens.{given_of, append_none, given_append, given_length, Holds, holds_more, holds_end, gives_more, Placed, placed_more, placed_end, placed_gives, placed_args, after_both}
+use Rattle.sp_unrolled_rules.proofs.Givens.{append_none, given_append, given_length, Holds, holds_more, holds_end, gives_more, Placed, placed_more, placed_end, placed_gives, placed_args, after_both}
 use Rattle.sp_unrolled_rules.proofs.Lists.{operation_from, mask_of, given_kept}
 
 -- each operation that stands already gives what that one gives

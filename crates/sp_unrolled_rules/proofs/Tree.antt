@@ -19,8 +19,10 @@ use Rattle.sp_lanes.specs.Within.{Within, owning, in_lane, ops_in, counters_in}
 use Rattle.sp_copies.specs.Copies.{one_if, occurrences, copies_in, copies_in_stages}
 use Rattle.sp_copies.proofs.MemoryRules.{count_among}
 use Rattle.sp_copies.proofs.Owners.{Fits, lane_fits, own_fits, part_fits}
+use Rattle.sp_unrolled_rules.specs.Meetings.{IsBalanced}
 use Rattle.sp_unrolled_rules.specs.Places.{GoTogether}
-use Rattle.sp_unrolled_rules.specs.Right.{EachRight, AllRight, CombinesInOneLane, CombineInOneLane}
+use Rattle.sp_unrolled_rules.specs.Right.{EachRight, AllRight, CombinesByTree, CombineByTree}
+use Rattle.sp_unrolled_rules.proofs.CombinedOps.{balanced_right}
 use Rattle.sp_unrolled_rules.proofs.LaneBodies.{lane_bodies_right}
 use Rattle.sp_unrolled_rules.proofs.Lists.{list_after, word_list_kept}
 use Rattle.sp_unrolled_rules.proofs.Nodes.{controller_kept, load_kept, slice_kept, sram_kept, sparse_kept}
@@ -59,13 +61,9 @@ below_length : (n : ℕ) → length (numbers_below n) ≡ n
 below_length zero = refl
 below_length (suc n) = omega (arith, length-append (numbers_below n) (n ∷ []), below_length n)
 
-none_is : (n : ℕ) (o : Option ℕ) → (n == 1) ≡ false → (n ≡ 1) ⊎ (o ≡ None) → o ≡ None
-none_is n o e (inl s) = absurd (true≢false (sym (eq-eqb n 1 s) ∙ e))
-none_is n o e (inr s) = s
-
-none_node : (n : ℕ) (o : Option PlainNode) → (n == 1) ≡ false → (n ≡ 1) ⊎ (o ≡ None) → o ≡ None
-none_node n o e (inl s) = absurd (true≢false (sym (eq-eqb n 1 s) ∙ e))
-none_node n o e (inr s) = s
+several : {A : Type 0} (n : ℕ) → (n == 1) ≡ false → (n ≡ 1) ⊎ A → A
+several n e (inl s) = absurd (true≢false (sym (eq-eqb n 1 s) ∙ e))
+several n e (inr a) = a
 
 -- a body without a combination has a stage of its own
 own_there : (stages : PlainStages) → are_stages stages ≡ true → combination_of stages ≡ None → 1 ≤ own_stages stages
@@ -80,7 +78,7 @@ last_there (c ∷ counters) rest l e lt = last_has c counters rest (lanes_of (c 
 module _ (core : PlainCore) where
   -- an inner body
   inner_kept : (counters : List PlainCounter) (owned : List ℕ) (ops : List PlainOp) (comb : Option ℕ) (around inside : Around) (w : Within) → GoTogether core (unrolled core) around inside w
-      → Fits (memory_order core) (copies_in (inner counters owned ops comb)) w → 1 ≤ lanes_of counters → (lanes_of counters ≡ 1) ⊎ (comb ≡ None) → is_node_right core around (inner counters owned ops comb) ≡ true
+      → Fits (memory_order core) (copies_in (inner counters owned ops comb)) w → 1 ≤ lanes_of counters → (lanes_of counters ≡ 1) ⊎ IsBalanced ops comb → is_node_right core around (inner counters owned ops comb) ≡ true
       → is_node_right (unrolled core) inside (inner (counters_in w counters) (owned_in_lanes (memory_order core) counters owned w) (inner_ops (memory_order core) w counters owned ops comb) None) ≡ true
   inner_kept counters owned ops comb around inside w h fits some one e =
       and_from _ _ (controller_kept core (unrolled core) around inside w h counters a.0) (by (lanes_of counters == 1) refl)
@@ -99,12 +97,17 @@ module _ (core : PlainCore) where
           (cond b (ops_in (in_lane (memory_order core) counters owned w 0) ops) (ops_in_lanes (memory_order core) w counters owned ops comb)) ≡ true
       by true i = list_after core (unrolled core) (within around counters owned) (within inside (counters_in w counters) (owned_in_lanes (memory_order core) counters owned w)) (in_lane (memory_order core) counters owned w 0)
           (together 0 some) [] ops a.1
-      by false i =
-          ap (λ o. are_operations_right (unrolled core) (within inside (counters_in w counters) (owned_in_lanes (memory_order core) counters owned w)) (ops_in_lanes (memory_order core) w counters owned ops o)) (none_is (lanes_of counters) comb i one)
-          ∙ (lane_bodies_right core (unrolled core) (within around counters owned) (within inside (counters_in w counters) (owned_in_lanes (memory_order core) counters owned w)) (last_number counters)
-          (in_lane (memory_order core) counters owned w) ops (lanes_of counters) together
-          (λ l lt. ap (λ (xs : List Near). has_lane xs (last_number counters) l) (counters_kept w around inside counters owned (owned_in_lanes (memory_order core) counters owned w) h.counters) ∙ last_there counters around.counters l i lt)
-          a.1 owned some).0
+      by false i = combining comb (several (lanes_of counters) i one)
+        where
+          has : (l : ℕ) → l < lanes_of counters → has_lane (within inside (counters_in w counters) (owned_in_lanes (memory_order core) counters owned w)).counters (last_number counters) l ≡ true
+          has l lt = ap (λ (xs : List Near). has_lane xs (last_number counters) l) (counters_kept w around inside counters owned (owned_in_lanes (memory_order core) counters owned w) h.counters) ∙ last_there counters around.counters l i lt
+
+          combining : (comb : Option ℕ) → IsBalanced ops comb
+              → are_operations_right (unrolled core) (within inside (counters_in w counters) (owned_in_lanes (memory_order core) counters owned w)) (ops_in_lanes (memory_order core) w counters owned ops comb) ≡ true
+          combining None e = (lane_bodies_right core (unrolled core) (within around counters owned) (within inside (counters_in w counters) (owned_in_lanes (memory_order core) counters owned w)) (last_number counters)
+              (in_lane (memory_order core) counters owned w) ops (lanes_of counters) together has a.1 owned some).0
+          combining (Some first) e = balanced_right core (unrolled core) (within around counters owned) (within inside (counters_in w counters) (owned_in_lanes (memory_order core) counters owned w)) (last_number counters)
+              (in_lane (memory_order core) counters owned w) (lanes_of counters) together has some owned ops first e a.1
 
   -- a body with stages
   outer_kept : (counters : List PlainCounter) (style : Style) (owned : List ℕ) (stages : PlainStages) (around inside : Around) (w : Within) → GoTogether core (unrolled core) around inside w
@@ -142,7 +145,7 @@ module _ (core : PlainCore) where
         left 0 some,
       )
       by false i =
-          let none : combination_of stages ≡ None = none_node (lanes_of counters) (combination_of stages) i one in
+          let none : combination_of stages ≡ None = several (lanes_of counters) i one in
           subst (λ o. EachRight (unrolled core) inside (outer (counters_in w counters) style (owned_in_lanes (memory_order core) counters owned w) (stages_by_lane 0 (map in_each (numbers_below (lanes_of counters)))
           (stage_after (lanes_of counters) (option_map (combination_in (memory_order core) w counters owned) o))))) (sym none) (
             and_from _ _ (controller_kept core (unrolled core) around inside w h counters a.0)
@@ -217,7 +220,7 @@ module _ (core : PlainCore) where
   mutual
     unfolding node_in left_as_they_are nodes_in unrolled
 
-    pub node_kept : (node : PlainNode) (around inside : Around) (w : Within) → GoTogether core (unrolled core) around inside w → Fits (memory_order core) (copies_in node) w → CombinesInOneLane node
+    pub node_kept : (node : PlainNode) (around inside : Around) (w : Within) → GoTogether core (unrolled core) around inside w → Fits (memory_order core) (copies_in node) w → CombinesByTree node
         → EachRight core around node → EachRight (unrolled core) inside (node_in (memory_order core) w node)
     node_kept (inner counters owned ops comb) around inside w h fits one e =
         inner_kept counters owned ops comb around inside w h fits (lanes_positive around counters (are_operations_right core (within around counters owned) ops) e) one e
@@ -244,7 +247,7 @@ module _ (core : PlainCore) where
         and_from _ _ (slice_kept core (unrolled core) around inside w h refl r spans a.0) (sram_kept core (unrolled core) around inside w h refl r m spans a.1)
     node_kept (sparse kind r m index spans count par) around inside w h fits one e = sparse_kept core (unrolled core) around inside w h refl kind r m index spans count par e
 
-    left_kept : (stages : PlainStages) (around inside : Around) (w : Within) → GoTogether core (unrolled core) around inside w → Fits (memory_order core) (copies_in_stages stages) w → CombineInOneLane stages
+    left_kept : (stages : PlainStages) (around inside : Around) (w : Within) → GoTogether core (unrolled core) around inside w → Fits (memory_order core) (copies_in_stages stages) w → CombineByTree stages
         → AllRight core around stages → AllRight (unrolled core) inside (left_as_they_are (memory_order core) w stages)
     left_kept no_stage around inside w h fits one e = tt
     left_kept (more_stage first last comb node rest) around inside w h fits one e = (
@@ -252,7 +255,7 @@ module _ (core : PlainCore) where
       left_kept rest around inside w h (λ n. (part_fits w.copy (copies_in node n) (copies_in_stages rest n) (occurrences n (memory_order core)) (fits n)).1) one.1 e.1,
     )
 
-    nodes_kept : (stages : PlainStages) (around inside : Around) (w : Within) → GoTogether core (unrolled core) around inside w → Fits (memory_order core) (copies_in_stages stages) w → CombineInOneLane stages
+    nodes_kept : (stages : PlainStages) (around inside : Around) (w : Within) → GoTogether core (unrolled core) around inside w → Fits (memory_order core) (copies_in_stages stages) w → CombineByTree stages
         → AllRight core around stages → NodesRight (unrolled core) inside (nodes_in (memory_order core) w stages)
     nodes_kept no_stage around inside w h fits one e = tt
     nodes_kept (more_stage first last true node rest) around inside w h fits one e =

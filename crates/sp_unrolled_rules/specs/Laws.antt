@@ -10,7 +10,7 @@ use Rattle.sp_lanes.specs.Within.{Within, ops_in}
 use Rattle.sp_copies.specs.Copies.{OwnsInLanes}
 use Rattle.sp_copies.specs.Rules.{ArePortsWritten}
 use Rattle.sp_unrolled_rules.specs.Places.{GoTogether}
-use Rattle.sp_unrolled_rules.specs.Right.{CombinesInOneLane}
+use Rattle.sp_unrolled_rules.specs.Right.{CombinesByTree}
 
 -- a list that gives a word, and a bound
 abbrev pub ListsKeepRules : (core lanes : PlainCore) → Type 0
@@ -20,6 +20,6 @@ ListsKeepRules core lanes =
     × (is_bound core around ops ≡ true → is_bound lanes inside (ops_in w ops) ≡ true)
 
 -- a core in lanes is a core where it is small, no combination owns a memory, arguments and outputs stand in the program's text,
--- and no controller of several lanes combines
+-- and of the controllers of several lanes only inner bodies combine, by operators that are balanced
 abbrev pub KeepRules : PlainCore → Type 0
-KeepRules core = IsCore core → OwnsInLanes core.root → ArePortsWritten core → CombinesInOneLane core.root → IsTrue (is_small (unrolled core)) → IsCore (unrolled core)
+KeepRules core = IsCore core → OwnsInLanes core.root → ArePortsWritten core → CombinesByTree core.root → IsTrue (is_small (unrolled core)) → IsCore (unrolled core)

@@ -1,9 +1,10 @@
--- Nodes that keep the rules of cores, each by what stands around it; and bodies of several lanes without a combination.
+-- Nodes that keep the rules of cores, each by what stands around it; and what bodies of several lanes combine.
 use Rattle.std.specs.Prelude.{◌≡◌, ◌⊎◌, None, IsTrue}
 use Rattle.sp_core.specs.Around.{Around, within, lanes_of}
 use Rattle.sp_core.specs.NodeRules.{with_state, is_node_right}
 use Rattle.sp_core.specs.PlainCore.{PlainNode, PlainStages, inner, outer, fsm, branch, no_stage, more_stage, PlainCore}
 use Rattle.sp_lanes.specs.Unrolled.{combination_of}
+use Rattle.sp_unrolled_rules.specs.Meetings.{IsBalanced}
 
 -- each node of a part keeps its own rules
 abbrev mutual
@@ -17,15 +18,15 @@ abbrev mutual
   AllRight core around no_stage = Unit {0}
   AllRight core around (more_stage first last comb node rest) = EachRight core around node × AllRight core around rest
 
--- where a controller has several lanes it combines nothing
+-- where a controller of several lanes combines, it is an inner body, and its operator is balanced
 abbrev mutual
-  pub CombinesInOneLane : PlainNode → Type 0
-  CombinesInOneLane (inner counters owned ops comb) = (lanes_of counters ≡ 1) ⊎ (comb ≡ None)
-  CombinesInOneLane (outer counters style owned stages) = ((lanes_of counters ≡ 1) ⊎ (combination_of stages ≡ None)) × CombineInOneLane stages
-  CombinesInOneLane (fsm start state test body next) = CombinesInOneLane body
-  CombinesInOneLane (branch test first second) = CombinesInOneLane first × CombinesInOneLane second
-  CombinesInOneLane _ = Unit {0}
+  pub CombinesByTree : PlainNode → Type 0
+  CombinesByTree (inner counters owned ops comb) = (lanes_of counters ≡ 1) ⊎ IsBalanced ops comb
+  CombinesByTree (outer counters style owned stages) = ((lanes_of counters ≡ 1) ⊎ (combination_of stages ≡ None)) × CombineByTree stages
+  CombinesByTree (fsm start state test body next) = CombinesByTree body
+  CombinesByTree (branch test first second) = CombinesByTree first × CombinesByTree second
+  CombinesByTree _ = Unit {0}
 
-  pub CombineInOneLane : PlainStages → Type 0
-  CombineInOneLane no_stage = Unit {0}
-  CombineInOneLane (more_stage first last comb node rest) = CombinesInOneLane node × CombineInOneLane rest
+  pub CombineByTree : PlainStages → Type 0
+  CombineByTree no_stage = Unit {0}
+  CombineByTree (more_stage first last comb node rest) = CombinesByTree node × CombineByTree rest

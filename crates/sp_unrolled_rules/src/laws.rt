@@ -8,7 +8,8 @@ pub fn lists_keep_rules()
     ensures { (core lanes : PlainCore) → ListsKeepRules core lanes }
 {}
 
-/// A core in lanes keeps every rule of cores, where no controller of several lanes combines.
+/// A core in lanes keeps every rule of cores, where of the controllers of several lanes only inner bodies combine, by operators
+/// that give the same in whatever order they are done.
 pub fn cores_keep_rules()
     ensures { (core : PlainCore) → KeepRules core }
 {}
