@@ -3,4 +3,4 @@
 
 mod laws;
 
-pub use laws::masked_lanes_rest;
+pub use laws::{accesses_name_memories, masked_lanes_rest};
