@@ -152,6 +152,13 @@ nested_in_lanes = core (mem_of (codes "y") ArgOut int_type [] None ∷ mem_of (c
     no_stage)) ∷
     [])))
 
+-- a counter of the number of one around it, which has lanes; this one has none
+unfoldable pub numbered_anew : PlainCore
+numbered_anew = core (mem_of (codes "s") Reg int_type [] None ∷ []) []
+    (outer [] Pipe [] (stages (
+    outer (below 0 4 1 2 ∷ []) Pipe (0 ∷ []) (stages (inner (below 0 4 1 1 ∷ below 1 4 1 1 ∷ []) [] (count 0 0 ∷ write 0 (0 ∷ []) ∷ []) None ∷ [])) ∷
+    [])))
+
 -- an FSM in each of two lanes, with a state of its own
 abbrev pub own_state : PlainMem
 own_state = record { name = codes "state"; kind = Reg; ty = int_type; dims = []; start = None; written = false }

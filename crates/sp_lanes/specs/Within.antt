@@ -24,11 +24,11 @@ outside order = record { lane = λ c. 0; number = λ m. occurrence m 0 order; co
 abbrev pub owning : (order owned : List ℕ) → Within → Within
 owning order owned w = record w { number = λ m. if is_among m owned then occurrence m w.copy order else w.number m }
 
--- in a lane of a controller
+-- in a lane of a controller, of which only the last counter has lanes
 abbrev pub with_lane : List PlainCounter → (lane : ℕ) → (ℕ → ℕ) → ℕ → ℕ
 with_lane [] l lanes = lanes
 with_lane (c ∷ []) l lanes = changed lanes c.number l
-with_lane (c ∷ counters) l lanes = with_lane counters l lanes
+with_lane (c ∷ counters) l lanes = with_lane counters l (changed lanes c.number 0)
 
 abbrev pub in_lane : (order : List ℕ) → List PlainCounter → (owned : List ℕ) → Within → (lane : ℕ) → Within
 in_lane order counters owned w l =

@@ -10,7 +10,7 @@ ghost use Rattle.sp_core.specs.ExampleTransfers as transfers;
 ghost use Rattle.sp_core.specs.Invariant.{wrong_place};
 ghost use Rattle.sp_core.specs.Meaning.{meaning};
 ghost use Rattle.sp_core.specs.Scope.{in_lanes};
-ghost use Rattle.sp_lanes.specs.Examples.{one_more, one_more_in_lanes, shared_reads, shared_reads_in_lanes, fixed_reduced, fixed_reduced_in_lanes, fixed_folded, fixed_folded_in_lanes, memory_reduced_by_two, memory_reduced_in_lanes, nested, nested_in_lanes, machines, machines_in_lanes};
+ghost use Rattle.sp_lanes.specs.Examples.{one_more, one_more_in_lanes, shared_reads, shared_reads_in_lanes, fixed_reduced, fixed_reduced_in_lanes, fixed_folded, fixed_folded_in_lanes, memory_reduced_by_two, memory_reduced_in_lanes, nested, nested_in_lanes, numbered_anew, machines, machines_in_lanes};
 ghost use Rattle.sp_lanes.specs.Unrolled.{unrolled};
 
 /// The cores in lanes are those that the rules give.
@@ -55,4 +55,5 @@ pub fn worked_cores_are_right()
     ensures memory_reduced { wrong_place (unrolled memory_reduced_by_two) ≡ None }
     ensures nested { wrong_place (unrolled nested) ≡ None }
     ensures machines { wrong_place (unrolled machines) ≡ None }
+    ensures numbered_anew { wrong_place (unrolled numbered_anew) ≡ None }
 {}

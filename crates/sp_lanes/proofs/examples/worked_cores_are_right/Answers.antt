@@ -28,3 +28,7 @@ returns-clause-nested c = refl
 pub returns-clause-machines : goal.returns-clause-machines
 unfolding unrolled node_in left_as_they_are nodes_in memories_in memories_of example.machines
 returns-clause-machines c = refl
+
+pub returns-clause-numbered_anew : goal.returns-clause-numbered_anew
+unfolding unrolled node_in left_as_they_are nodes_in memories_in memories_of example.numbered_anew
+returns-clause-numbered_anew c = refl

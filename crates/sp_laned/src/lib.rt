@@ -1,0 +1,6 @@
+//! The core of a program may have its lanes one after the other.
+#![tactic(auto)]
+
+mod laws;
+
+pub use laws::programs_have_lanes;

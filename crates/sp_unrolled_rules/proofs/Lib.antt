@@ -1,0 +1,11 @@
+pub mod CombinedOps
+pub mod Givens
+pub mod Joins
+pub mod LaneBodies
+pub mod Lists
+pub mod Nodes
+pub mod Places
+pub mod StageLanes
+pub mod Tree
+pub mod TypesAlike
+pub mod Whole
