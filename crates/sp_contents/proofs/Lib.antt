@@ -3,3 +3,4 @@ pub mod Following
 pub mod Unmade
 pub mod Trees
 pub mod Stay
+pub mod SlicesInside

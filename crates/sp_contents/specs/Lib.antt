@@ -1,4 +1,5 @@
 pub mod Held
+pub mod Inside
 pub mod Laws
 pub mod Steady
 pub mod Trees

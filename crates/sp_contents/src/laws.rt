@@ -1,5 +1,6 @@
 //! Laws of copies.
 
+ghost use Rattle.sp_contents.specs.Inside.{RunsAreInside};
 ghost use Rattle.sp_contents.specs.Laws.{CopiesFollow};
 ghost use Rattle.sp_contents.specs.Trees.{RunsStay};
 ghost use Rattle.sp_core.specs.PlainCore.{PlainCore};
@@ -16,4 +17,9 @@ pub fn copies_follow()
 /// each loop around has it in that group.
 pub fn runs_stay()
     ensures { (core : PlainCore) (plan : PlainPlan) (delays : Delays) → RunsStay core plan delays }
+{}
+
+/// Where a run of a core ends, each slice that it took has an empty range or is inside of its DRAM.
+pub fn runs_are_inside()
+    ensures { (core : PlainCore) → RunsAreInside core }
 {}

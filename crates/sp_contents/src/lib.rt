@@ -4,4 +4,4 @@
 
 mod laws;
 
-pub use laws::{copies_follow, runs_stay};
+pub use laws::{copies_follow, runs_are_inside, runs_stay};

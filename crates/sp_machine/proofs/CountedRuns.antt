@@ -14,10 +14,10 @@ use Rattle.sp_machine.specs.Told.{IsCounted, AreCounted, RunsCounted, TurnsCount
 use Rattle.sp_machine.proofs.GroupCounts.{groups_few}
 
 -- what a step gives, where it goes on
-abbrev Gives : {A : Type 0} → (A → Type 0) → Step A → Type 0
+abbrev pub Gives : {A : Type 0} → (A → Type 0) → Step A → Type 0
 Gives {A = A} P step = (s t : Store) (a : A) → step s ≡ went a t → P a
 
-gives_bind : {A B : Type 0} (step : Step A) (rest : A → Step B) (P : A → Type 0) (R : B → Type 0) → Gives P step → ((a : A) → P a → Gives R (rest a)) → Gives R (step >>= rest)
+pub gives_bind : {A B : Type 0} (step : Step A) (rest : A → Step B) (P : A → Type 0) (R : B → Type 0) → Gives P step → ((a : A) → P a → Gives R (rest a)) → Gives R (step >>= rest)
 unfolding ◌>>=◌
 gives_bind {A = A} {B = B} step rest P R f g s t b e = go (step s) refl e
   where
@@ -26,33 +26,33 @@ gives_bind {A = A} {B = B} step rest P R f g s t b e = go (step s) refl e
     go stopped h k = not_stopped b t k
     go more h k = not_more b t k
 
-gives_pure : {A : Type 0} (P : A → Type 0) (a : A) → P a → Gives P (pure a)
+pub gives_pure : {A : Type 0} (P : A → Type 0) (a : A) → P a → Gives P (pure a)
 unfolding pure
 gives_pure P a p s t b e = subst P (same_value a b s t e) p
 
-gives_none : {A : Type 0} (P : A → Type 0) → Gives P out_of_turns
+pub gives_none : {A : Type 0} (P : A → Type 0) → Gives P out_of_turns
 unfolding out_of_turns
 gives_none P s t a e = not_more a t e
 
 -- whatever it gives
-abbrev Anything : {A : Type 0} → A → Type 0
+abbrev pub Anything : {A : Type 0} → A → Type 0
 Anything a = Unit {0}
 
-gives_after : {A B : Type 0} (step : Step A) (rest : A → Step B) (R : B → Type 0) → ((a : A) → Gives R (rest a)) → Gives R (step >>= rest)
+pub gives_after : {A B : Type 0} (step : Step A) (rest : A → Step B) (R : B → Type 0) → ((a : A) → Gives R (rest a)) → Gives R (step >>= rest)
 gives_after step rest R g = gives_bind step rest Anything R (λ s t a e. tt) (λ a u. g a)
 
 -- of each element of a list, and as many
-abbrev Each : {A : Type 0} → (A → Type 0) → List A → Type 0
+abbrev pub Each : {A : Type 0} → (A → Type 0) → List A → Type 0
 Each P [] = Unit {0}
 Each P (x ∷ xs) = P x × Each P xs
 
-gives_each : {A B : Type 0} (step : A → Step B) (P : B → Type 0) → ((a : A) → Gives P (step a)) → (xs : List A) → Gives (λ ys. (length ys ≡ length xs) × Each P ys) (in_order step xs)
+pub gives_each : {A B : Type 0} (step : A → Step B) (P : B → Type 0) → ((a : A) → Gives P (step a)) → (xs : List A) → Gives (λ ys. (length ys ≡ length xs) × Each P ys) (in_order step xs)
 unfolding in_order
 gives_each step P f [] = gives_pure _ [] (refl, tt)
 gives_each step P f (x ∷ xs) = gives_bind (step x) _ P _ (f x) (λ y p. gives_bind (in_order step xs) _ _ _ (gives_each step P f xs) (λ ys h. gives_pure _ (y ∷ ys) (ap suc h.0, (p, h.1))))
 
 -- the turns of an FSM
-gives_repeated : {A B : Type 0} (P : B → Type 0) (test : Step A) (holds : A → Bool) (turn : A → Step B) → ((a : A) → Gives P (turn a)) → (many : ℕ) → Gives (λ r. Each P r.0) (repeated many test holds turn)
+pub gives_repeated : {A B : Type 0} (P : B → Type 0) (test : Step A) (holds : A → Bool) (turn : A → Step B) → ((a : A) → Gives P (turn a)) → (many : ℕ) → Gives (λ r. Each P r.0) (repeated many test holds turn)
 unfolding repeated
 gives_repeated {A = A} {B = B} P test holds turn f zero = gives_after test _ _ (λ a. choose (holds a) a)
   where
