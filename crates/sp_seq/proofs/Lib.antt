@@ -13,3 +13,9 @@ pub mod RunningLemmas
 pub mod StoreLemmas
 pub mod TransferLemmas
 pub mod WordLemmas
+pub mod DigitLemmas
+pub mod ScopeLemmas
+pub mod BodyLemmas
+pub mod RoundLemmas
+pub mod FsmLemmas
+pub mod CountLemmas

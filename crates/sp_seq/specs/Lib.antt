@@ -1,4 +1,6 @@
+pub mod Controlling
 pub mod Evaluating
+pub mod Looping
 pub mod Moving
 pub mod Places
 pub mod Rows

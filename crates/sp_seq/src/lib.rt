@@ -3,6 +3,9 @@
 
 mod access;
 mod cells;
+mod combining;
+mod counting;
+mod digit;
 mod element;
 mod evaluation;
 mod memory;
