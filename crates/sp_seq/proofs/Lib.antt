@@ -19,3 +19,5 @@ pub mod BodyLemmas
 pub mod RoundLemmas
 pub mod FsmLemmas
 pub mod CountLemmas
+pub mod TreeLemmas
+pub mod BlockLemmas

@@ -18,7 +18,7 @@ use Rattle.sp_tree.specs.Store.{Store}
 use Rattle.sp_tree.specs.Typing.{Scope}
 use Rattle.sp_seq.specs.declared.state.State.{State}
 use Rattle.sp_seq.specs.declared.state.Stop.{Stop}
-use Rattle.sp_seq.specs.Looping.{word_combined}
+use Rattle.sp_seq.specs.Looping.{word_combined, part_combined}
 use Rattle.sp_seq.specs.Controlling.{round}
 use Rattle.sp_seq.specs.Running.{Stands}
 use Rattle.sp_seq.specs.States.{store_of, halted}
@@ -161,20 +161,16 @@ module _ (mems : List PlainMem) (roomy : List ℕ) (counters : List PlainCounter
             ∙ bind_went (in_order reduce_as (combining fold (tuples ranges))) _ l t bodies n u (ap (λ g. in_order g (combining fold (tuples ranges)) l t) reduce_is ∙ f)
 
     module _ (part : ℕ) where
-      -- the same for each element
-      pub part_combined : Bool → Step (List (Unit {0}))
-      part_combined combines = assign_all mems comb acc part combines place
-
       pub mem_reduce_unranged : (stop : Stop) → in_order (counter_range mems) counters left s ≡ halted stop → run_kind mems roomy (plain.mem_reduce style acc counters body part comb) place left s ≡ halted stop
       unfolding run
       mem_reduce_unranged stop r = bind_halted (in_order (counter_range mems) counters) _ left s stop r
 
       module _ (ranges : List (List ℕ)) (l : ℕ) (t : Store) (r : in_order (counter_range mems) counters left s ≡ went ranges l t) where
-        pub mem_reduce_stopped : (stop : Stop) → in_order (combine_step mems roomy counters body part_combined) (combining false (tuples ranges)) l t ≡ halted stop → run_kind mems roomy (plain.mem_reduce style acc counters body part comb) place left s ≡ halted stop
-        unfolding run combine_step part_combined
-        mem_reduce_stopped stop f = bind_went (in_order (counter_range mems) counters) _ left s ranges l t r ∙ bind_halted (in_order (combine_step mems roomy counters body part_combined) (combining false (tuples ranges))) _ l t stop f
+        pub mem_reduce_stopped : (stop : Stop) → in_order (combine_step mems roomy counters body (part_combined mems comb acc part place)) (combining false (tuples ranges)) l t ≡ halted stop → run_kind mems roomy (plain.mem_reduce style acc counters body part comb) place left s ≡ halted stop
+        unfolding run combine_step
+        mem_reduce_stopped stop f = bind_went (in_order (counter_range mems) counters) _ left s ranges l t r ∙ bind_halted (in_order (combine_step mems roomy counters body (part_combined mems comb acc part place)) (combining false (tuples ranges))) _ l t stop f
 
-        pub mem_reduce_done : (bodies : List Shape) (n : ℕ) (u : Store) → in_order (combine_step mems roomy counters body part_combined) (combining false (tuples ranges)) l t ≡ went bodies n u
+        pub mem_reduce_done : (bodies : List Shape) (n : ℕ) (u : Store) → in_order (combine_step mems roomy counters body (part_combined mems comb acc part place)) (combining false (tuples ranges)) l t ≡ went bodies n u
             → run_kind mems roomy (plain.mem_reduce style acc counters body part comb) place left s ≡ went (looped (map length ranges) (shapes bodies) ∷ []) n u
-        unfolding run combine_step part_combined pure
-        mem_reduce_done bodies n u f = bind_went (in_order (counter_range mems) counters) _ left s ranges l t r ∙ bind_went (in_order (combine_step mems roomy counters body part_combined) (combining false (tuples ranges))) _ l t bodies n u f
+        unfolding run combine_step pure
+        mem_reduce_done bodies n u f = bind_went (in_order (counter_range mems) counters) _ left s ranges l t r ∙ bind_went (in_order (combine_step mems roomy counters body (part_combined mems comb acc part place)) (combining false (tuples ranges))) _ l t bodies n u f

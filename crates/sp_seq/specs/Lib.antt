@@ -1,4 +1,5 @@
 pub mod Controlling
+pub mod Ending
 pub mod Evaluating
 pub mod Looping
 pub mod Moving

@@ -11,7 +11,7 @@ use Rattle.sp_tree.specs.Expressions.{mem, dims, word}
 use Rattle.sp_tree.specs.PlainExpression.{PlainExpr, type_of}
 use Rattle.sp_tree.specs.PlainProgram.{PlainMem}
 use Rattle.sp_tree.specs.PlainStatement.{PlainCounter}
-use Rattle.sp_tree.specs.Sequential.{assign, name_now}
+use Rattle.sp_tree.specs.Sequential.{assign, assign_all, name_now}
 use Rattle.sp_tree.specs.Step.{Step, ◌>>=◌, ◌>>◌, turn}
 use Rattle.sp_tree.specs.Typing.{IsMem, IsFreshVal, Typed, BoundsTyped, with_val}
 use Rattle.sp_seq.specs.declared.digit.Digit.{Digit}
@@ -106,6 +106,9 @@ one_combined mems comb acc part combines place at = do
   w ← read_cell part at place
   turn
   assign mems comb acc at combines w place
+
+abbrev pub part_combined : List PlainMem → Comb → (acc part place : ℕ) → (combines : Bool) → Step (List (Unit {0}))
+part_combined mems comb acc part place combines = assign_all mems comb acc part combines place
 
 -- an expression under a value that stands for a word
 pub record CanName (mems : List PlainMem) (s : State) (value : ℕ) (named : ℕ) (e : PlainExpr) : Type 0 where

@@ -2,6 +2,7 @@
 #![tactic(auto)]
 
 mod access;
+mod block;
 mod cells;
 mod combining;
 mod counting;
