@@ -21,3 +21,4 @@ pub mod FsmLemmas
 pub mod CountLemmas
 pub mod TreeLemmas
 pub mod BlockLemmas
+pub mod ControlLemmas
