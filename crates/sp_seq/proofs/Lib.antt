@@ -13,3 +13,12 @@ pub mod RunningLemmas
 pub mod StoreLemmas
 pub mod TransferLemmas
 pub mod WordLemmas
+pub mod DigitLemmas
+pub mod ScopeLemmas
+pub mod BodyLemmas
+pub mod RoundLemmas
+pub mod FsmLemmas
+pub mod CountLemmas
+pub mod TreeLemmas
+pub mod BlockLemmas
+pub mod ControlLemmas

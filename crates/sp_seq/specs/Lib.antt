@@ -1,4 +1,7 @@
+pub mod Controlling
+pub mod Ending
 pub mod Evaluating
+pub mod Looping
 pub mod Moving
 pub mod Places
 pub mod Rows

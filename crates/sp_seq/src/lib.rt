@@ -2,7 +2,11 @@
 #![tactic(auto)]
 
 mod access;
+mod block;
 mod cells;
+mod combining;
+mod counting;
+mod digit;
 mod element;
 mod evaluation;
 mod memory;

@@ -18,7 +18,7 @@ pub(crate) struct Part {
 }
 
 /// The number that a word of `Int` is.
-fn int_value(word: u64) -> i64
+pub(crate) fn int_value(word: u64) -> i64
     requires { IsWord int_type word }
     ensures { result ≡ index_value word }
 {
@@ -56,7 +56,7 @@ pub(crate) fn range_part(from: u64, until: u64) -> Part
 }
 
 /// How many numbers there are from `from` up to `until`.
-fn length_of(from: i64, until: i64) -> u64
+pub(crate) fn length_of(from: i64, until: i64) -> u64
     ensures { result ≡ length_between from until }
 {
     if from < until {
