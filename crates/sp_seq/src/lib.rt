@@ -4,15 +4,21 @@
 mod access;
 mod cells;
 mod element;
+mod end;
 mod evaluation;
+mod load;
 mod memory;
 mod operators;
+mod over;
 mod primitive;
 mod ring;
+mod seq;
 mod slice;
 mod sparse;
 mod state;
 mod transfer;
 mod words;
 
+pub use end::SeqEnd;
+pub use seq::Seq;
 pub use std::alloc::AllocError as NoMemory;
