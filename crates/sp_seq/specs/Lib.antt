@@ -1,9 +1,11 @@
 pub mod Controlling
 pub mod Ending
 pub mod Evaluating
+pub mod Loading
 pub mod Looping
 pub mod Moving
 pub mod Places
+pub mod Progress
 pub mod Rows
 pub mod Running
 pub mod Slices
