@@ -516,10 +516,20 @@ statement-returns-in-Control t c =
     subst (λ k. Runs mems k a.at s c.control.result c.control.new.self) (sym (ap plain_stmt_kind c.in-Control.is)) (subst (λ ctl. Runs mems (plain_ctl ctl) a.at s c.control.result c.control.new.self) c.deref-in-Control.ensures c.control.ensures)
 
 pub control-reduce-requires : goal.control-reduce-requires
-control-reduce-requires t c = ?
+control-reduce-requires t c = 
+    let a = c.args in
+    let mems = map plain_mem a.decls.now in
+    let s = a.self.now in
+    let e = ap plain_ctl c.in-Reduce.is ∙ plain_reduce c.in-Reduce.style c.in-Reduce.fold c.in-Reduce.acc c.in-Reduce.counters c.in-Reduce.body c.in-Reduce.value c.in-Reduce.comb ∙ ap (λ n. plain.reduce c.in-Reduce.style c.in-Reduce.fold n (map plain_counter c.in-Reduce.counters.items) (plain_stmts c.in-Reduce.body.items) (plain_expr c.in-Reduce.value) c.in-Reduce.comb) (sym c.number.ensures) ∙ ap₂ (λ cs b. plain.reduce c.in-Reduce.style c.in-Reduce.fold c.number.result (map plain_counter cs) (plain_stmts b) (plain_expr c.in-Reduce.value) c.in-Reduce.comb) (sym c.deref-in-Reduce-2.ensures.value) (sym c.deref-in-Reduce.ensures.value) in
+    (search (rules, the_lemmas), (c.in-Reduce.style, subst (λ k. CanRun mems k s) e c.requires))
 
 pub control-returns-in-Reduce : goal.control-returns-in-Reduce
-control-returns-in-Reduce t c = ?
+control-returns-in-Reduce t c = 
+    let a = c.args in
+    let mems = map plain_mem a.decls.now in
+    let s = a.self.now in
+    let e = ap plain_ctl c.in-Reduce.is ∙ plain_reduce c.in-Reduce.style c.in-Reduce.fold c.in-Reduce.acc c.in-Reduce.counters c.in-Reduce.body c.in-Reduce.value c.in-Reduce.comb ∙ ap (λ n. plain.reduce c.in-Reduce.style c.in-Reduce.fold n (map plain_counter c.in-Reduce.counters.items) (plain_stmts c.in-Reduce.body.items) (plain_expr c.in-Reduce.value) c.in-Reduce.comb) (sym c.number.ensures) ∙ ap₂ (λ cs b. plain.reduce c.in-Reduce.style c.in-Reduce.fold c.number.result (map plain_counter cs) (plain_stmts b) (plain_expr c.in-Reduce.value) c.in-Reduce.comb) (sym c.deref-in-Reduce-2.ensures.value) (sym c.deref-in-Reduce.ensures.value) in
+    subst (λ k. Runs mems k a.at s c.reduce.result c.reduce.new.self) (sym e) (c.reduce.ensures c.in-Reduce.style)
 
 pub control-mem_reduce-requires : goal.control-mem_reduce-requires
 control-mem_reduce-requires t c = ?
@@ -528,10 +538,20 @@ pub control-returns-in-MemReduce : goal.control-returns-in-MemReduce
 control-returns-in-MemReduce t c = ?
 
 pub control-fsm-requires : goal.control-fsm-requires
-control-fsm-requires t c = ?
+control-fsm-requires t c = 
+    let a = c.args in
+    let mems = map plain_mem a.decls.now in
+    let s = a.self.now in
+    let e = ap plain_ctl c.in-Fsm.is ∙ plain_fsm c.in-Fsm.start c.in-Fsm.tested c.in-Fsm.test c.in-Fsm.state c.in-Fsm.body c.in-Fsm.last c.in-Fsm.next ∙ ap (λ n. plain.fsm (plain_expr c.in-Fsm.start) n (plain_expr c.in-Fsm.test) c.in-Fsm.state (plain_stmts c.in-Fsm.body.items) c.in-Fsm.last (plain_expr c.in-Fsm.next)) (sym c.number-in-Fsm.ensures) ∙ ap (λ n. plain.fsm (plain_expr c.in-Fsm.start) c.number-in-Fsm.result (plain_expr c.in-Fsm.test) n (plain_stmts c.in-Fsm.body.items) c.in-Fsm.last (plain_expr c.in-Fsm.next)) (sym c.number-in-Fsm-2.ensures) ∙ ap (λ n. plain.fsm (plain_expr c.in-Fsm.start) c.number-in-Fsm.result (plain_expr c.in-Fsm.test) c.number-in-Fsm-2.result (plain_stmts c.in-Fsm.body.items) n (plain_expr c.in-Fsm.next)) (sym c.number-in-Fsm-3.ensures) ∙ ap (λ b. plain.fsm (plain_expr c.in-Fsm.start) c.number-in-Fsm.result (plain_expr c.in-Fsm.test) c.number-in-Fsm-2.result (plain_stmts b) c.number-in-Fsm-3.result (plain_expr c.in-Fsm.next)) (sym c.deref-in-Fsm.ensures.value) in
+    (search (rules, the_lemmas), subst (λ k. CanRun mems k s) e c.requires)
 
 pub control-returns-in-Fsm : goal.control-returns-in-Fsm
-control-returns-in-Fsm t c = ?
+control-returns-in-Fsm t c = 
+    let a = c.args in
+    let mems = map plain_mem a.decls.now in
+    let s = a.self.now in
+    let e = ap plain_ctl c.in-Fsm.is ∙ plain_fsm c.in-Fsm.start c.in-Fsm.tested c.in-Fsm.test c.in-Fsm.state c.in-Fsm.body c.in-Fsm.last c.in-Fsm.next ∙ ap (λ n. plain.fsm (plain_expr c.in-Fsm.start) n (plain_expr c.in-Fsm.test) c.in-Fsm.state (plain_stmts c.in-Fsm.body.items) c.in-Fsm.last (plain_expr c.in-Fsm.next)) (sym c.number-in-Fsm.ensures) ∙ ap (λ n. plain.fsm (plain_expr c.in-Fsm.start) c.number-in-Fsm.result (plain_expr c.in-Fsm.test) n (plain_stmts c.in-Fsm.body.items) c.in-Fsm.last (plain_expr c.in-Fsm.next)) (sym c.number-in-Fsm-2.ensures) ∙ ap (λ n. plain.fsm (plain_expr c.in-Fsm.start) c.number-in-Fsm.result (plain_expr c.in-Fsm.test) c.number-in-Fsm-2.result (plain_stmts c.in-Fsm.body.items) n (plain_expr c.in-Fsm.next)) (sym c.number-in-Fsm-3.ensures) ∙ ap (λ b. plain.fsm (plain_expr c.in-Fsm.start) c.number-in-Fsm.result (plain_expr c.in-Fsm.test) c.number-in-Fsm-2.result (plain_stmts b) c.number-in-Fsm-3.result (plain_expr c.in-Fsm.next)) (sym c.deref-in-Fsm.ensures.value) in
+    subst (λ k. Runs mems k a.at s c.fsm.result c.fsm.new.self) (sym e) (c.fsm.ensures a.at)
 
 pub control-word-requires : goal.control-word-requires
 control-word-requires t c = 
@@ -622,7 +642,11 @@ pub fsm_turn-returns : goal.fsm_turn-returns
 fsm_turn-returns t c = ?
 
 pub fsm-word-requires : goal.fsm-word-requires
-fsm-word-requires t c = ?
+fsm-word-requires t c = 
+    let a = c.args in
+    let mems = map plain_mem a.decls.now in
+    let s = a.self.now in
+    record { setting = c.requires.setting; typed = c.requires.typed.0.0.0 }
 
 pub fsm-turns-init : goal.fsm-turns-init
 fsm-turns-init t c = ?
@@ -708,8 +732,18 @@ pub statement-returns-in-Store : goal.statement-returns-in-Store
 statement-returns-in-Store t c = ?
 
 pub statement-returns-in-Gather : goal.statement-returns-in-Gather
-statement-returns-in-Gather t c = ?
+statement-returns-in-Gather t c = 
+    let a = c.args in
+    let mems = map plain_mem a.decls.now in
+    let s = a.self.now in
+    let e = ap plain_stmt_kind c.in-Gather.is ∙ ap (λ n. plain.gather n c.in-Gather.dram c.in-Gather.places (plain_expr c.in-Gather.count)) (sym c.number-in-Gather.ensures) ∙ ap (λ n. plain.gather c.number-in-Gather.result n c.in-Gather.places (plain_expr c.in-Gather.count)) (sym c.number-in-Gather-2.ensures) ∙ ap (λ n. plain.gather c.number-in-Gather.result c.number-in-Gather-2.result n (plain_expr c.in-Gather.count)) (sym c.number-in-Gather-3.ensures) in
+    subst (λ k. Runs mems k a.at s c.gather.result c.gather.new.self) (sym e) (λ can. c.gather.ensures can)
 
 pub statement-returns-in-Scatter : goal.statement-returns-in-Scatter
-statement-returns-in-Scatter t c = ?
+statement-returns-in-Scatter t c = 
+    let a = c.args in
+    let mems = map plain_mem a.decls.now in
+    let s = a.self.now in
+    let e = ap plain_stmt_kind c.in-Scatter.is ∙ ap (λ n. plain.scatter n c.in-Scatter.places (plain_expr c.in-Scatter.count) c.in-Scatter.sram) (sym c.number-in-Scatter.ensures) ∙ ap (λ n. plain.scatter c.number-in-Scatter.result n (plain_expr c.in-Scatter.count) c.in-Scatter.sram) (sym c.number-in-Scatter-2.ensures) ∙ ap (λ n. plain.scatter c.number-in-Scatter.result c.number-in-Scatter-2.result (plain_expr c.in-Scatter.count) n) (sym c.number-in-Scatter-3.ensures) in
+    subst (λ k. Runs mems k a.at s c.scatter.result c.scatter.new.self) (sym e) (λ can. c.scatter.ensures can)
 
