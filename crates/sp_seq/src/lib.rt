@@ -15,6 +15,7 @@ mod ring;
 mod seq;
 mod slice;
 mod sparse;
+mod start;
 mod state;
 mod transfer;
 mod words;
