@@ -1,6 +1,8 @@
 pub mod Evaluating
+pub mod Loading
 pub mod Moving
 pub mod Places
+pub mod Progress
 pub mod Rows
 pub mod Running
 pub mod Slices

@@ -4,15 +4,22 @@
 mod access;
 mod cells;
 mod element;
+mod end;
 mod evaluation;
+mod load;
 mod memory;
 mod operators;
+mod over;
 mod primitive;
 mod ring;
+mod seq;
 mod slice;
 mod sparse;
+mod start;
 mod state;
 mod transfer;
 mod words;
 
+pub use end::SeqEnd;
+pub use seq::Seq;
 pub use std::alloc::AllocError as NoMemory;
