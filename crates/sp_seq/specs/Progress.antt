@@ -10,12 +10,16 @@ use Rattle.sp_tree.specs.ProgramParts.{ProgramParts, plain_program}
 use Rattle.sp_tree.specs.Shape.{Shape}
 use Rattle.sp_seq.specs.declared.end.SeqEnd.{SeqEnd}
 use Rattle.sp_seq.specs.declared.end.SeqEnd.TheVariants.{Ended, Fault, TurnsSpent}
-use Rattle.sp_seq.specs.declared.end.Run.{Run}
 
 -- a word for each argument, and for each DRAM as many words as it has, each of its type
 pub record InputFits (ports : PlainPorts) (input : PlainInput) : Type 0 where
   pub args : AllZip (λ (port : PlainPort) word. IsWord port.ty word) ports.args input.args
   pub drams : AllZip (λ (port : PlainPort) words. (length words ≡ word_count port.dims) × All (IsWord port.ty) words) ports.drams input.drams
+
+-- a run: the turns that it was given, and how it ended
+pub record Run : Type 0 where
+  pub given : ℕ
+  pub end : SeqEnd
 
 -- the program, its input, and the run, if there was one
 pub record Progress : Type 0 where

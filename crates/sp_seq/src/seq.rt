@@ -24,7 +24,7 @@ pub struct Seq<'a> {
 impl<'a> Model for Seq<'a> {
     ghost use Rattle.sp_words.specs.Ports.{plain_input};
     ghost use Rattle.sp_tree.specs.ProgramParts.{plain_program};
-    ghost use Rattle.sp_seq.specs.Loading.{IsSeq};
+    ghost use Rattle.sp_seq.specs.Loading.{IsSeq, run_of};
     ghost use Rattle.sp_seq.specs.Progress.{Progress};
     ghost use Rattle.std.specs.Coded.{codes};
     ghost use Rattle.sp_tree.specs.contracts.statement.Stmt as stmt;
@@ -33,9 +33,9 @@ impl<'a> Model for Seq<'a> {
 
     ghost coded = { Prim.hlevel (codes, stmt.the_row.coded) };
 
-    ghost view = { λ m. record { program = m.program.now; input = plain_input m.input.now; ran = m.ran } };
+    ghost view = { λ m. record { program = m.program.now; input = plain_input m.input.now; ran = run_of m.ran } };
 
-    ghost invariant = { λ m. IsSeq (plain_program m.program.now) (plain_input m.input.now) m.ran m.state };
+    ghost invariant = { λ m. IsSeq (plain_program m.program.now) (plain_input m.input.now) (run_of m.ran) m.state };
 }
 
 impl<'a> Seq<'a> {

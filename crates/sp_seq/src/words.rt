@@ -52,6 +52,20 @@ impl Words {
         Ok(Words { width, words })
     }
 
+    /// These words, side by side.
+    pub(crate) fn of(alloc: Global, width: u8, given: &[u64]) -> Result<Words, NoMemory>
+        requires bits { IsBits width }
+        requires fit { All (λ w. w < 2 ^ width) given.now }
+        ensures width { IfOk result (λ r. r.width ≡ width) }
+        ensures words { IfOk result (λ r. r.words ≡ given.now) }
+    {
+        let mut words = Words::new(alloc, width, given.len())?;
+        for i in 0..given.len() {
+            words.set(i, given[i]);
+        }
+        Ok(words)
+    }
+
     /// The word at a place.
     #[inline]
     pub(crate) fn get(&self, at: usize) -> u64
