@@ -1,7 +1,7 @@
 -- What stands in the ports of a program.
-use Rattle.std.proofs.Common.{◌≡◌, ℕ, zero, suc, ◌+◌, ◌<◌, ◌≤◌, Bool, true, false, List, [], ◌∷◌, ◌++◌, map, length, refl, sym, ◌∙◌, ap, subst, arith, if◌then◌else◌, drop}
+use Rattle.std.proofs.Common.{◌≡◌, ℕ, zero, suc, ◌+◌, ◌<◌, ◌≤◌, Bool, true, false, List, [], ◌∷◌, ◌++◌, map, length, refl, sym, ◌∙◌, ap, subst, arith, if◌then◌else◌, drop, get_or}
 use Rattle.std.proofs.lemmas.Bool.{false≢true}
-use Rattle.std.proofs.lemmas.List.{append_assoc, drop_more}
+use Rattle.std.proofs.lemmas.List.{append_assoc, drop_more, get_or_read}
 use Rattle.std.specs.Prelude.{slice_index, slice_index_or, Contains, All, Option, Some, None}
 use Rattle.sp_words.specs.declared.kind.Kind.{Kind}
 use Rattle.sp_words.specs.declared.kind.Kind.TheVariants.{Reg, Sram, Fifo, LineBuf, Dram, ArgIn, ArgOut}
@@ -24,7 +24,7 @@ use Rattle.sp_seq.specs.declared.state.State.{State}
 use Rattle.sp_seq.specs.Loading.{HasWord, PortsStand, HasRun, IsSeq}
 use Rattle.sp_seq.specs.Progress.{Run, IsEnd, HasEnded, EndsWith, RanWith}
 use Rattle.sp_seq.specs.Rows.{WordRow}
-use Rattle.sp_seq.specs.States.{IsStorage, memory_of, store_of, Sees}
+use Rattle.sp_seq.specs.States.{IsStorage, memory_of, no_memory, store_of, Sees}
 use Rattle.sp_seq.proofs.LoadLemmas.{port_contained}
 use Rattle.sp_seq.proofs.PlaceLemmas.{count_pos}
 
@@ -119,3 +119,25 @@ module _ (p : PlainProgram) (input : PlainInput) (s : State) where
       by (Ended turns) h is = (is.shape, is.ends)
       by (Fault kind at) h is = absurd h
       by TurnsSpent h is = absurd h
+
+-- the memory that was looked up
+pub memory_read : (s : State) (k : ℕ) (x : Memory) → k < length s.memories.items → x ≡ get_or s.memories.items k x → memory_of s k ≡ x
+memory_read s k x lt e = sym (get_or_read s.memories.items k x lt e no_memory)
+
+pub out_port : (k : Kind) → is_out k ≡ true → is_port k ≡ true
+out_port Reg e = absurd (false≢true e)
+out_port Sram e = absurd (false≢true e)
+out_port Fifo e = absurd (false≢true e)
+out_port LineBuf e = absurd (false≢true e)
+out_port Dram e = refl
+out_port ArgIn e = refl
+out_port ArgOut e = refl
+
+pub dram_port : (k : Kind) → is_dram k ≡ true → is_port k ≡ true
+dram_port Reg e = absurd (false≢true e)
+dram_port Sram e = absurd (false≢true e)
+dram_port Fifo e = absurd (false≢true e)
+dram_port LineBuf e = absurd (false≢true e)
+dram_port Dram e = refl
+dram_port ArgIn e = refl
+dram_port ArgOut e = refl
