@@ -270,7 +270,7 @@ module _ (core : PlainCore) (right_mems : list_all is_mem_right core.mems ≡ tr
     | inr e ↦ (
         let q = and_parts _ _ (and_parts _ _ (and_parts _ _ e).0).0 in
         by_kind (λ k. MayWrite k (dims core m) is) m (usable_below around m q.0) (line_written (mem core m).kind (dims core m) is q.1)
-      )
+        )
   ]
 
   mutual
@@ -355,7 +355,7 @@ module _ (core : PlainCore) (right_mems : list_all is_mem_right core.mems ≡ tr
         let o : IsOnChip core m = on_chip m l in
         let here = rows_of_dims (mem core m).dims (subst (λ k. has_rank k (length (mem core m).dims) ≡ true) (sym o.kind_is ∙ e) (and_parts _ _ (and_parts _ _ right).0).0) (and_parts _ _ right).1 in
         (here.0, here.1, o.dims_are ∙ here.2)
-      )
+        )
     | inr l ↦ absurd (subst IsLine (sym (sym (ap (λ b. cond b (mem core m).kind kinds.Dram) (le-ltb m (length core.mems) l)) ∙ e)) tt)
   ]
     where

@@ -6,3 +6,4 @@ pub mod Stay
 pub mod SlicesInside
 pub mod Offsets
 pub mod Allowed
+pub mod InTime
