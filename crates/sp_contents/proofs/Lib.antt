@@ -4,3 +4,6 @@ pub mod Unmade
 pub mod Trees
 pub mod Stay
 pub mod SlicesInside
+pub mod Offsets
+pub mod Allowed
+pub mod InTime

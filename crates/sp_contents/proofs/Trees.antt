@@ -1,6 +1,6 @@
 -- A run of a part of a core stays with its copies.
 use Rattle.std.proofs.Common.{◌≡◌, ℕ, suc, ◌+◌, ◌<◌, ◌⊎◌, inl, inr, Bool, true, false, cond, ℤ, List, [], ◌∷◌, ◌++◌, map, length, arith, refl, sym, subst, ap, ◌∙◌}
-use Rattle.std.proofs.lemmas.Bool.{and_parts, and_from, cases_eq, cases_Bool, eq-eqb, eqb-true, or_left, or_parts, or_right, true≢false, false≢true}
+use Rattle.std.proofs.lemmas.Bool.{and_parts, and_from, cases_eq, cases_Bool, eq-eqb, eqb-true, ltb-true, or_left, or_parts, or_right, true≢false, false≢true}
 use Rattle.std.specs.Prelude.{◌==◌, ◌||◌, ◌%◌, nat_lt, slice_index, Some}
 use Rattle.sp_core.specs.Around.{Around, within, is_port_kind, is_usable}
 use Rattle.sp_core.specs.Declarations.{is_among, mem, dram_number}
@@ -8,7 +8,7 @@ use Rattle.sp_core.specs.Events.{Standing, inside_at, before, in_group_of, in_tu
 use Rattle.sp_core.specs.History.{Entry, last_word, History, Groups, Runs, Turns, inner_ran, outer_ran, fsm_ran, branch_ran, moved, no_group, more_group, no_run, masked_run, more_run, no_turn, more_turn}
 use Rattle.sp_core.specs.Invariant.{IsRight, AreRight, owned_in, owned_in_stages}
 use Rattle.sp_core.specs.Latency.{latency_of_all}
-use Rattle.sp_core.specs.NodeRules.{with_state, fits_sram, fits_line}
+use Rattle.sp_core.specs.NodeRules.{with_state, is_slice_right, fits_sram, fits_line}
 use Rattle.sp_core.specs.Numbering.{counters_size, spans_size, node_count, number_count}
 use Rattle.sp_core.specs.OperationRules.{are_operations_right}
 use Rattle.sp_core.specs.PlainCore.{PlainOp, PlainCounter, PlainSpan, PlainNode, PlainStages, inner, outer, fsm, branch, load, store, sparse, no_stage, more_stage, PlainCore}
@@ -53,7 +53,7 @@ never_both m a b h e = by (is_among m b) refl
 
 -- what inner bodies own is owned within
 mutual
-  inner_within : (node : PlainNode) (m : ℕ) → is_among m (inner_owned node) ≡ true → is_among m (owned_in node) ≡ true
+  pub inner_within : (node : PlainNode) (m : ℕ) → is_among m (inner_owned node) ≡ true → is_among m (owned_in node) ≡ true
   inner_within (inner counters owned ops comb) m e = e
   inner_within (outer counters style owned stages) m e = among_right m owned (owned_in_stages stages) (inner_within_stages stages m e)
   inner_within (fsm start state test body next) m e = or_right (m == state) (is_among m (owned_in body)) (inner_within body m e)
@@ -91,7 +91,7 @@ module _ (core : PlainCore) where
             | inr x ↦ absurd (true≢false (sym (scoped m x) ∙ w.new))
           ]
 
-  dram_outside : (earlier inside : List ℕ) → ((m : ℕ) → is_among m inside ≡ true → IsNew core earlier m) → (r : ℕ) → is_among (dram_number core r) inside ≡ false
+  pub dram_outside : (earlier inside : List ℕ) → ((m : ℕ) → is_among m inside ≡ true → IsNew core earlier m) → (r : ℕ) → is_among (dram_number core r) inside ≡ false
   dram_outside earlier inside new r = go (is_among (dram_number core r) inside) refl
     where
       go : (b : Bool) → is_among (dram_number core r) inside ≡ b → is_among (dram_number core r) inside ≡ false
@@ -107,7 +107,7 @@ module _ (core : PlainCore) where
   -- what is at hand before a node
   pub record Ready (around : Around) (resets : List ℕ) (copies : Copies) (hand : AtHand) : Type 0 where
     pub usable : (m : ℕ) → is_usable core around m ≡ true → hand m ≡ Some (copies m)
-    pub drams : (r : ℕ) → hand (dram_number core r) ≡ Some (copies (dram_number core r))
+    pub drams : (r : ℕ) → r < length core.ports.drams → hand (dram_number core r) ≡ Some (copies (dram_number core r))
     pub inner : (m : ℕ) → is_among m resets ≡ true → IsReset m → hand m ≡ Some (copies m)
 
   -- and how a run of it goes
@@ -132,15 +132,15 @@ module _ (core : PlainCore) where
   }
 
   ready_same : (around : Around) (resets : List ℕ) (copies : Copies) (hand next : AtHand) → ((m : ℕ) → next m ≡ hand m) → Ready around resets copies hand → Ready around resets copies next
-  ready_same around resets copies hand next e h = record { usable = λ m u. e m ∙ h.usable m u; drams = λ r. e (dram_number core r) ∙ h.drams r; inner = λ m i r. e m ∙ h.inner m i r }
+  ready_same around resets copies hand next e h = record { usable = λ m u. e m ∙ h.usable m u; drams = λ r b. e (dram_number core r) ∙ h.drams r b; inner = λ m i r. e m ∙ h.inner m i r }
 
   -- what touches memories that may be used around, or DRAMs
   abbrev Near : Around → ℕ → Type 0
-  Near around m = (is_usable core around m ≡ true) ⊎ ((r : ℕ) × (m ≡ dram_number core r))
+  Near around m = (is_usable core around m ≡ true) ⊎ ((r : ℕ) × (m ≡ dram_number core r) × (r < length core.ports.drams))
 
   near_hand : (around : Around) (resets : List ℕ) (copies : Copies) (hand : AtHand) → Ready around resets copies hand → (m : ℕ) → Near around m → hand m ≡ Some (copies m)
   near_hand around resets copies hand h m (inl u) = h.usable m u
-  near_hand around resets copies hand h m (inr d) = ap hand d.1 ∙ h.drams d.0 ∙ ap (λ x. Some (copies x)) (sym d.1)
+  near_hand around resets copies hand h m (inr d) = ap hand d.1 ∙ h.drams d.0 d.2 ∙ ap (λ x. Some (copies x)) (sym d.1)
 
   near_steady : (around : Around) (resets : List ℕ) (copies : Copies) (hand : AtHand) → Ready around resets copies hand → (es : List Stamped) → ArePlain (Near around) copies es → AreSteady hand es × ((m : ℕ) → hand_after hand es m ≡ hand m)
   near_steady around resets copies hand h es p = plain_steady (Near around) copies hand (near_hand around resets copies hand h) es p
@@ -163,7 +163,7 @@ module _ (core : PlainCore) where
             | inr y ↦ renewals_still core copies cycle owned hand m (h.usable m (and_from (nat_lt m (length core.mems)) _ (and_parts _ _ u).0 (or_right _ _ y)))
           ]
         ];
-        drams = λ r. renewals_still core copies cycle owned hand (dram_number core r) (h.drams r);
+        drams = λ r b. renewals_still core copies cycle owned hand (dram_number core r) (h.drams r b);
         inner = λ m e r. renewals_still core copies cycle owned hand m (h.inner m e r);
       }
 
@@ -182,7 +182,7 @@ module _ (core : PlainCore) where
       again : (copies : Copies) (hand : AtHand) (es : List Stamped) → Ready around owned copies hand → Stays owned owned copies hand es → Ready around owned copies (hand_after hand es)
       again copies hand es h s = record {
         usable = λ m u. s.same m (outside m u) ∙ h.usable m u;
-        drams = λ r. s.same (dram_number core r) (no_dram r) ∙ h.drams r;
+        drams = λ r b. s.same (dram_number core r) (no_dram r) ∙ h.drams r b;
         inner = s.inner;
       }
 
@@ -283,7 +283,7 @@ module _ (core : PlainCore) where
           | inl x ↦ fresh_now slots runs p stages given g owned hand m x
           | inr x ↦ as_before hand m (outside m x) (h.usable m x)
         ];
-        drams = λ r. as_before hand (dram_number core r) (no_dram r) (h.drams r);
+        drams = λ r b. as_before hand (dram_number core r) (no_dram r) (h.drams r b);
         inner = λ m e r. as_before hand m (apart m e) (h.inner m e r);
       }
 
@@ -310,10 +310,10 @@ module _ (core : PlainCore) where
 
     -- what is at hand once the state is kept
     kept_ready : (around : Around) (resets : List ℕ) (copies : Copies) (hand next : AtHand) (state : ℕ) → ((m : ℕ) → (m ≡ state → ⊥) → next m ≡ hand m) → next state ≡ Some (copies state)
-        → ((m : ℕ) → is_usable core around m ≡ true → (m ≡ state → ⊥) → hand m ≡ Some (copies m)) → ((r : ℕ) → hand (dram_number core r) ≡ Some (copies (dram_number core r))) → ((m : ℕ) → is_among m resets ≡ true → IsReset m → hand m ≡ Some (copies m)) → Ready around resets copies next
+        → ((m : ℕ) → is_usable core around m ≡ true → (m ≡ state → ⊥) → hand m ≡ Some (copies m)) → ((r : ℕ) → r < length core.ports.drams → hand (dram_number core r) ≡ Some (copies (dram_number core r))) → ((m : ℕ) → is_among m resets ≡ true → IsReset m → hand m ≡ Some (copies m)) → Ready around resets copies next
     kept_ready around resets copies hand next state others now usable drams reset = record {
       usable = λ m u. by m (λ d. usable m u d);
-      drams = λ r. by (dram_number core r) (λ d. drams r);
+      drams = λ r b. by (dram_number core r) (λ d. drams r b);
       inner = λ m e r. by m (λ d. reset m e r);
     }
       where
@@ -347,6 +347,9 @@ module _ (core : PlainCore) where
       | inl e ↦ (and_parts _ _ (and_parts _ _ (and_parts _ _ e).0).0).0
       | inr e ↦ (and_parts _ _ (and_parts _ _ (and_parts _ _ e).0).0).0
     ]
+
+    dram_there : (around : Around) (r : ℕ) (spans : List PlainSpan) → is_slice_right core around r spans ≡ true → r < length core.ports.drams
+    dram_there around r spans h = ltb-true _ _ (and_parts (nat_lt r (length core.ports.drams)) _ (and_parts _ _ h).0).0
 
     mutual
       unfolding timed group_runs stage_runs turn_runs moments
@@ -387,7 +390,7 @@ module _ (core : PlainCore) where
           let asked : Run Stamped = list_run core copies n at test es in
           let taken : Run Stamped = timed core plan delays first (suc k) (n + length test) at copies h in
           let q = near_steady around (inner_owned first ++ inner_owned second) copies hand ready asked.events (stamped_plain core around (Near around) copies (λ m u. inl u) (in_a_row core test) 0 n at [] test es (and_parts _ _ (and_parts _ _ right.0).0).0) in
-          let here : Ready around (inner_owned first) copies (hand_after hand asked.events) = record { usable = λ m u. q.1 m ∙ ready.usable m u; drams = λ r. q.1 (dram_number core r) ∙ ready.drams r; inner = λ m e r. q.1 m ∙ ready.inner m (among_left m (inner_owned first) (inner_owned second) e) r } in
+          let here : Ready around (inner_owned first) copies (hand_after hand asked.events) = record { usable = λ m u. q.1 m ∙ ready.usable m u; drams = λ r b. q.1 (dram_number core r) ∙ ready.drams r b; inner = λ m e r. q.1 m ∙ ready.inner m (among_left m (inner_owned first) (inner_owned second) e) r } in
           let a : Stays (owned_in first) (inner_owned first) copies (hand_after hand asked.events) taken.events = node_stays first (suc k) (n + length test) at copies h around earlier (hand_after hand asked.events) right.1 t.0 scoped here in
           stays_later (owned_in first ++ owned_in second) (inner_owned first ++ inner_owned second) copies hand 1 (asked ▸ taken).events
           (then_stays (owned_in first ++ owned_in second) (inner_owned first ++ inner_owned second) copies hand asked taken q.0 (λ m e. q.1 m) (record {
@@ -403,7 +406,7 @@ module _ (core : PlainCore) where
           let asked : Run Stamped = list_run core copies n at test es in
           let taken : Run Stamped = timed core plan delays second (suc k + node_count first) (n + (length test + number_count first)) at copies h in
           let q = near_steady around (inner_owned first ++ inner_owned second) copies hand ready asked.events (stamped_plain core around (Near around) copies (λ m u. inl u) (in_a_row core test) 0 n at [] test es (and_parts _ _ (and_parts _ _ right.0).0).0) in
-          let here : Ready around (inner_owned second) copies (hand_after hand asked.events) = record { usable = λ m u. q.1 m ∙ ready.usable m u; drams = λ r. q.1 (dram_number core r) ∙ ready.drams r; inner = λ m e r. q.1 m ∙ ready.inner m (among_right m (inner_owned first) (inner_owned second) e) r } in
+          let here : Ready around (inner_owned second) copies (hand_after hand asked.events) = record { usable = λ m u. q.1 m ∙ ready.usable m u; drams = λ r b. q.1 (dram_number core r) ∙ ready.drams r b; inner = λ m e r. q.1 m ∙ ready.inner m (among_right m (inner_owned first) (inner_owned second) e) r } in
           let a : Stays (owned_in second) (inner_owned second) copies (hand_after hand asked.events) taken.events = node_stays second (suc k + node_count first) (n + (length test + number_count first)) at copies h around (earlier ++ owned_in first) (hand_after hand asked.events) right.2 t.1 (λ m e. among_left m earlier (owned_in first) (scoped m e)) here in
           stays_later (owned_in first ++ owned_in second) (inner_owned first ++ inner_owned second) copies hand 1 (asked ▸ taken).events
           (then_stays (owned_in first ++ owned_in second) (inner_owned first ++ inner_owned second) copies hand asked taken q.0 (λ m e. q.1 m) (record {
@@ -418,12 +421,12 @@ module _ (core : PlainCore) where
           let rules = and_parts _ _ (and_parts _ _ right).0 in
           near_stays around copies hand ready _ (plain_append (Near around) copies _ _
           (plain_stamped (Near around) copies 0 _ (spans_plain core around (Near around) copies (λ x u. inl u) n st spans taken (and_parts _ _ rules.0).1))
-          (load_plain core around (Near around) copies (λ x u. inl u) (delays k st.path) (n + spans_size spans) st r m (inr (r, refl)) (inl (usable_of around r m spans rules.1)) (map part_of taken) words))
+          (load_plain core around (Near around) copies (λ x u. inl u) (delays k st.path) (n + spans_size spans) st r m (inr (r, refl, dram_there around r spans rules.0)) (inl (usable_of around r m spans rules.1)) (map part_of taken) words))
       node_stays (store r m spans) k n st copies (moved taken words) around earlier hand right t scoped ready =
           let rules = and_parts _ _ (and_parts _ _ right).0 in
           near_stays around copies hand ready _ (plain_append (Near around) copies _ _
           (plain_stamped (Near around) copies 0 _ (spans_plain core around (Near around) copies (λ x u. inl u) n st spans taken (and_parts _ _ rules.0).1))
-          (store_plain core around (Near around) copies (λ x u. inl u) (delays k st.path) (n + spans_size spans) st r m (inr (r, refl)) (inl (usable_of around r m spans (or_left _ _ rules.1))) (map part_of taken) words))
+          (store_plain core around (Near around) copies (λ x u. inl u) (delays k st.path) (n + spans_size spans) st r m (inr (r, refl, dram_there around r spans rules.0)) (inl (usable_of around r m spans (or_left _ _ rules.1))) (map part_of taken) words))
       node_stays (sparse kind r m places spans count par) k n st copies h around earlier hand right t scoped ready = absurd t
       node_stays node k n st copies h around earlier hand right t scoped ready = record { steady = tt; same = λ m e. refl; inner = ready.inner }
 
@@ -449,7 +452,7 @@ module _ (core : PlainCore) where
           let reset : (m : ℕ) → is_among m (inner_owned_in stages) ≡ true → IsReset m → hand_after hand one m ≡ Some (copies m) =
           (λ m e r. ap (λ f. f m) after_one ∙ a.inner m e r ∙ ap (λ x. Some x) (not_owned_copy owned g copies m (apart m e))) in
           let others = groups_stay slots runs p stages k n (suc g) st counters owned copies values rest around earlier (hand_after hand one) right t scoped outside no_dram
-          (record { usable = λ m u. same m (outside m u) ∙ ready.usable m u; drams = λ r. same (dram_number core r) (no_dram r) ∙ ready.drams r; inner = reset }) in
+          (record { usable = λ m u. same m (outside m u) ∙ ready.usable m u; drams = λ r b. same (dram_number core r) (no_dram r) ∙ ready.drams r b; inner = reset }) in
           let more : List Stamped = group_events core plan delays slots runs p stages copies owned (suc g) (group_runs core plan delays stages k n (suc g) st owned copies values rest) in
           record {
             steady = steady_append hand one more (steady_append hand freshes staged (fresh_steady slots runs p stages c g owned hand) rows.0) others.steady;
@@ -470,7 +473,7 @@ module _ (core : PlainCore) where
           let b : RowStays (owned_in_stages rest) (inner_owned_in rest) copies (hand_after hand r.events) (stage_runs core plan delays rest k (n + number_count node) (suc s) g (j + node_count node) v st copies rs) =
           stages_stay rest k (n + number_count node) (suc s) g (j + node_count node) v st copies rs around (earlier ++ owned_in node) (hand_after hand r.events) right.1 t.1 (λ m e. among_left m earlier (owned_in node) (scoped m e)) (record {
             usable = λ m u. a.same m (usable_outside around earlier (owned_in node) new scoped m u) ∙ ready.usable m u;
-            drams = λ z. a.same (dram_number core z) (dram_outside earlier (owned_in node) new z) ∙ ready.drams z;
+            drams = λ z b. a.same (dram_number core z) (dram_outside earlier (owned_in node) new z) ∙ ready.drams z b;
             inner = λ m e z. a.same m (apart m (inner_within_stages rest m e)) ∙ ready.inner m (among_right m (inner_owned node) (inner_owned_in rest) e) z;
           }) in
           record {
@@ -519,7 +522,7 @@ module _ (core : PlainCore) where
           let a : Stays (owned_in body) (inner_owned body) copies hand1 body_run.events = node_stays body (suc k) (n + (length start + length test)) at copies h around earlier hand1 right w scoped ready1 in
           let hand2 : AtHand = hand_after hand1 body_run.events in
           let ready2 : Ready around (inner_owned body) copies hand2 =
-          record { usable = λ m u. a.same m (usable_outside around earlier (owned_in body) new scoped m u) ∙ ready1.usable m u; drams = λ r. a.same (dram_number core r) (dram_outside earlier (owned_in body) new r) ∙ ready1.drams r; inner = a.inner } in
+          record { usable = λ m u. a.same m (usable_outside around earlier (owned_in body) new scoped m u) ∙ ready1.usable m u; drams = λ r b. a.same (dram_number core r) (dram_outside earlier (owned_in body) new r) ∙ ready1.drams r b; inner = a.inner } in
           let b = kept_steady around (inner_owned body) copies hand2 (n + (length start + (length test + number_count body))) at next ns state (last_word ns) ready2 rn in
           let hand3 : AtHand = hand_after hand2 next_run.events in
           let ready3 : Ready around (inner_owned body) copies hand3 = kept_ready around (inner_owned body) copies hand2 hand3 state b.1 b.2 (λ m u d. ready2.usable m u) ready2.drams ready2.inner in

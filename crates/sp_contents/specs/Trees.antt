@@ -1,5 +1,6 @@
 -- A run of a core stays with its copies.
-use Rattle.std.specs.Prelude.{◌≡◌, ℕ, List, [], ◌++◌, Some}
+use Rattle.std.specs.Prelude.{ℕ, ◌+◌, nat_lt, List, [], ◌++◌, length, Option, Some, None, if◌then◌else◌}
+use Rattle.sp_words.specs.declared.kind.Kind.{Kind}
 use Rattle.sp_words.specs.declared.kind.Kind.TheVariants.{LineBuf}
 use Rattle.sp_core.specs.Declarations.{kind_of}
 use Rattle.sp_core.specs.History.{History}
@@ -24,7 +25,14 @@ abbrev mutual
   inner_owned_in no_stage = []
   inner_owned_in (more_stage first last comb node rest) = inner_owned node ++ inner_owned_in rest
 
--- where ports, DRAMs and what inner bodies reset themselves are at hand at first
+-- what is at hand at first: all but line buffers, in copy 0
+abbrev pub hand_of : Kind → Option ℕ
+hand_of LineBuf = None
+hand_of kind = Some 0
+
+abbrev pub first_hand : PlainCore → AtHand
+first_hand core m = if nat_lt m (length core.mems + length core.ports.drams) then hand_of (kind_of core m) else None
+
+-- from there on a run stays with its copies
 abbrev pub RunsStay : PlainCore → PlainPlan → Delays → Type 0
-RunsStay core plan delays =
-    IsCore core → IsTimed core.root → (h : History) (hand : AtHand) → ((m : ℕ) → (kind_of core m ≡ LineBuf → ⊥) → hand m ≡ Some 0) → AreSteady hand (core_timed core plan delays h).events
+RunsStay core plan delays = IsCore core → IsTimed core.root → (h : History) → AreSteady (first_hand core) (core_timed core plan delays h).events

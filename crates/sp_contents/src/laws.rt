@@ -1,6 +1,7 @@
 //! Laws of copies.
 
-ghost use Rattle.sp_contents.specs.Inside.{RunsAreInside};
+ghost use Rattle.sp_contents.specs.Found.{PlannedRunsAreFound};
+ghost use Rattle.sp_contents.specs.Inside.{RunsAreAllowed, RunsAreInside};
 ghost use Rattle.sp_contents.specs.Laws.{CopiesFollow};
 ghost use Rattle.sp_contents.specs.Trees.{RunsStay};
 ghost use Rattle.sp_core.specs.PlainCore.{PlainCore};
@@ -22,4 +23,16 @@ pub fn runs_stay()
 /// Where a run of a core ends, each slice that it took has an empty range or is inside of its DRAM.
 pub fn runs_are_inside()
     ensures { (core : PlainCore) → RunsAreInside core }
+{}
+
+/// All that happens in a run is allowed, by the rules of cores, where its slices are inside of their DRAMs.
+pub fn runs_are_allowed()
+    ensures { (core : PlainCore) → RunsAreAllowed core }
+{}
+
+/// What happens in a run of a core, in the cycles that a valid plan gives it, is found in time: each moment finds in its own
+/// cycle what it finds in the order of the text, each cycle makes at most one change at a place, and after all DRAMs and
+/// outputs hold what the run leaves, whatever the delays of its transfers are.
+pub fn planned_runs_are_found()
+    ensures { (core : PlainCore) (plan : PlainPlan) (delays : Delays) → PlannedRunsAreFound core plan delays }
 {}

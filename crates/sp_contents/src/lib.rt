@@ -4,4 +4,6 @@
 
 mod laws;
 
-pub use laws::{copies_follow, runs_are_inside, runs_stay};
+pub use laws::{
+    copies_follow, planned_runs_are_found, runs_are_allowed, runs_are_inside, runs_stay,
+};

@@ -164,7 +164,7 @@ module _ (core : PlainCore) where
       let r = and_parts (nat_lt x (length core.mems)) (not (is_port_kind (mem core x).kind)) q.0 in
       record { new = from_not _ q.1; on_chip = ltb-true _ _ r.0; no_port = from_not _ r.1 }
 
-  owned_new : (earlier owned : List ℕ) → is_owned_once core earlier owned ≡ true → (m : ℕ) → is_among m owned ≡ true → IsNew earlier m
+  pub owned_new : (earlier owned : List ℕ) → is_owned_once core earlier owned ≡ true → (m : ℕ) → is_among m owned ≡ true → IsNew earlier m
   owned_new earlier [] h m e = absurd (false≢true e)
   owned_new earlier (x ∷ owned) h m e = go (λ k. owned_new (earlier ++ x ∷ []) owned (and_parts _ _ h).1 m k) (m == x) refl e
     where
