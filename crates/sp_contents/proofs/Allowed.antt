@@ -119,6 +119,9 @@ module _ (core : PlainCore) (right_mems : list_all is_mem_right core.mems ≡ tr
       at (x ∷ ms) zero h l = (and_parts (is_mem_right x) (list_all is_mem_right ms) h).0
       at (x ∷ ms) (suc m) h l = at ms m (and_parts (is_mem_right x) (list_all is_mem_right ms) h).1 (omega arith)
 
+  pub no_dram_here : (m : ℕ) → m < length core.mems → (mem core m).kind ≡ kinds.Dram → ⊥
+  no_dram_here m l e = false≢true (subst (λ k. has_rank k (length (mem core m).dims) ≡ true) e (and_parts _ _ (and_parts _ _ (mem_right m l)).0).0)
+
   usable_below : (around : Around) (m : ℕ) → is_usable core around m ≡ true → m < length core.mems
   usable_below around m u = ltb-true _ _ (and_parts _ _ u).0
 

@@ -18,7 +18,7 @@ use Rattle.sp_machine.specs.Found.{one_cell, written_to, is_read_in}
 use Rattle.sp_contents.specs.Held.{RowHolds, RowsHold, IsShaped, Holds}
 use Rattle.sp_contents.specs.Steady.{MayWrite, MayRead, IsFifo, IsLine, IsReg, IsMade}
 
-no_some : {A : Type 0} (x : A) → None ≡ Some x → ⊥
+pub no_some : {A : Type 0} (x : A) → None ≡ Some x → ⊥
 no_some {A} x e = subst is_none e tt
   where
     is_none : Option A → Type 0
@@ -190,7 +190,7 @@ fresh_rows_hold ds cs h = record {
     no_word (r ∷ []) i j = refl
     no_word (r ∷ n ∷ x ∷ ds) i j = refl
 
-shaped_fresh : (ds : List ℕ) → IsShaped ds (fresh_rows ds)
+pub shaped_fresh : (ds : List ℕ) → IsShaped ds (fresh_rows ds)
 shaped_fresh ds = record { count = refl; cells = λ i. refl }
 
 module _ (core : PlainCore) where

@@ -7,3 +7,4 @@ pub mod SlicesInside
 pub mod Offsets
 pub mod Allowed
 pub mod InTime
+pub mod First

@@ -1,6 +1,6 @@
 //! Laws of copies.
 
-ghost use Rattle.sp_contents.specs.Found.{PlannedRunsAreFound};
+ghost use Rattle.sp_contents.specs.Found.{FirstContentsAgree, PlannedRunsAreFound};
 ghost use Rattle.sp_contents.specs.Inside.{RunsAreAllowed, RunsAreInside};
 ghost use Rattle.sp_contents.specs.Laws.{CopiesFollow};
 ghost use Rattle.sp_contents.specs.Trees.{RunsStay};
@@ -28,6 +28,12 @@ pub fn runs_are_inside()
 /// All that happens in a run is allowed, by the rules of cores, where its slices are inside of their DRAMs.
 pub fn runs_are_allowed()
     ensures { (core : PlainCore) → RunsAreAllowed core }
+{}
+
+/// Contents that hold the words of the input in DRAMs and arguments, 0 in outputs and rows in line buffers agree with the store
+/// in which a core begins.
+pub fn first_contents_agree()
+    ensures { (core : PlainCore) → FirstContentsAgree core }
 {}
 
 /// What happens in a run of a core, in the cycles that a valid plan gives it, is found in time: each moment finds in its own

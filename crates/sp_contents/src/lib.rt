@@ -5,5 +5,6 @@
 mod laws;
 
 pub use laws::{
-    copies_follow, planned_runs_are_found, runs_are_allowed, runs_are_inside, runs_stay,
+    copies_follow, first_contents_agree, planned_runs_are_found, runs_are_allowed, runs_are_inside,
+    runs_stay,
 };
