@@ -1,0 +1,749 @@
+use Rattle.std.proofs.Common.{◌≡◌, ◌<◌, ◌≤◌, ◌+◌, ◌∷◌, [], map, length, take, drop, true, false, refl, sym, ◌∙◌, ap, ap₂, subst, rules, arith, length-take-le}
+use Rattle.std.specs.Prelude.{Ok}
+use Rattle.std.proofs.lemmas.List.{length-map}
+use Rattle.sp_tree.specs.declared.statement.Ctl.{the_lemmas}
+use Rattle.sp_tree.specs.Elements.{tuples}
+use Rattle.sp_tree.specs.Plain.{plain_expr, plain_exprs, plain_mem}
+use Rattle.sp_tree.specs.PlainStatement as plain
+use Rattle.sp_tree.specs.PlainTree.{plain_counter, plain_ctl, plain_stmt_kind, plain_stmts}
+use Rattle.sp_tree.specs.Sequential.{run_all, combining}
+use Rattle.sp_tree.specs.Shape.{looped, shapes}
+use Rattle.sp_tree.specs.Step.{in_order, turn}
+use Rattle.sp_tree.specs.Typing.{after_all, with_counters}
+use Rattle.sp_seq.specs.Controlling.{Runs, round}
+use Rattle.sp_seq.specs.Looping.{current, values, left_if, tuples_left, word_combined, part_combined}
+use Rattle.sp_seq.specs.Running.{CanRun}
+use Rattle.sp_seq.specs.States.{store_of}
+use Rattle.sp_seq.proofs.BodyLemmas.{body_start, body_spent, body_can, body_halted, body_more}
+use Rattle.sp_seq.proofs.ControlLemmas.{at_next, at_end, no_more_left, fewer_left, round_counts, round_body, round_goes, foreach_loop, reduce_loop, mem_reduce_loop, foreach_stops, foreach_next, combine_stops, combine_stops_later, combine_next, loop_begins, combine_begins, turn_named, turn_body, turn_name}
+use Rattle.sp_seq.proofs.DigitLemmas.{starts_inside}
+use Rattle.sp_seq.proofs.RoundLemmas.{foreach_step, foreach_unranged, foreach_stopped, foreach_done, combine_step, reduce_unranged, reduce_stopped, reduce_done, mem_reduce_unranged, mem_reduce_stopped, mem_reduce_done, loop_over}
+use Rattle.sp_seq.proofs.RunningLemmas.{finished_stop, stands_kept}
+use Rattle.sp_seq.proofs.SeesLemmas.{setting_later, sees_later}
+use Rattle.sp_seq.proofs.StepLemmas.{bind_halted}
+use Rattle.sp_seq.proofs.TreeLemmas.{plain_block, plain_foreach, plain_reduce, plain_mem_reduce, plain_fsm, plain_branch}
+use Rattle.sp_seq.proofs.state.State.+running.Goals as goal
+
+pub body-loop-s-init : goal.body-loop-s-init
+body-loop-s-init t c = λ can. body_start (map plain_mem c.args.decls.now) (plain_stmts c.args.body.now) c.args.self.now can
+
+pub body-statement-requires : goal.body-statement-requires
+body-statement-requires t c =
+    let a = c.args in
+    let mems = map plain_mem a.decls.now in
+    let can = c.requires in
+    let s = a.self.now in
+    let now = c.loop-s.self in
+    let k = c.loop-s.s-index in
+    let x = c.s-item.result in
+    let next = at_next mems can.setting.roomy (after_all can.setting.scope (plain_stmts a.body.now)) (run_all mems can.setting.roomy (plain_stmts a.body.now) s.left (store_of s)) s now a.body.now k x c.loop-s-test.true c.s-item.is (c.loop-s.invariant can) in
+    (search (rules, the_lemmas), body_can mems can.setting.roomy _ _ s now x.at (plain_stmt_kind x.kind) (plain_stmts (drop (k + 1) a.body.now)) next c.turn.new.self c.in_ok-turn.ensures.keeps)
+
+pub body-returns-in_err-turn : goal.body-returns-in_err-turn
+body-returns-in_err-turn t c = λ can.
+    let a = c.args in
+    let mems = map plain_mem a.decls.now in
+    let s = a.self.now in
+    let now = c.loop-s.self in
+    let k = c.loop-s.s-index in
+    let x = c.s-item.result in
+    let whole = run_all mems can.setting.roomy (plain_stmts a.body.now) s.left (store_of s) in
+    let next = at_next mems can.setting.roomy (after_all can.setting.scope (plain_stmts a.body.now)) whole s now a.body.now k x c.loop-s-test.true c.s-item.is (c.loop-s.invariant can) in
+    finished_stop mems can.setting.roomy _ s whole _ _ c.in_err-turn.field-0.0 c.from_residual.ensures.1
+    (body_spent mems can.setting.roomy _ whole s now x.at (plain_stmt_kind x.kind) (plain_stmts (drop (k + 1) a.body.now)) next c.in_err-turn.field-0.0 c.in_err-turn.ensures.ran)
+
+pub body-returns-in_err-statement : goal.body-returns-in_err-statement
+body-returns-in_err-statement t c = λ can.
+    let a = c.args in
+    let mems = map plain_mem a.decls.now in
+    let s = a.self.now in
+    let now = c.loop-s.self in
+    let k = c.loop-s.s-index in
+    let x = c.s-item.result in
+    let whole = run_all mems can.setting.roomy (plain_stmts a.body.now) s.left (store_of s) in
+    let next = at_next mems can.setting.roomy (after_all can.setting.scope (plain_stmts a.body.now)) whole s now a.body.now k x c.loop-s-test.true c.s-item.is (c.loop-s.invariant can) in
+    finished_stop mems can.setting.roomy _ s whole _ _ c.in_err-statement.field-0.0 c.from_residual-in_err-statement.ensures.1
+    (body_halted mems can.setting.roomy _ whole s now x.at (plain_stmt_kind x.kind) (plain_stmts (drop (k + 1) a.body.now)) next c.turn.new.self c.in_ok-turn.ensures.keeps c.in_ok-turn.ensures.ran c.in_err-statement.field-0.0 c.statement.new.self c.in_err-statement.ensures)
+
+pub body-loop-s-preserved : goal.body-loop-s-preserved
+body-loop-s-preserved t c = λ can.
+    let a = c.args in
+    let mems = map plain_mem a.decls.now in
+    let s = a.self.now in
+    let now = c.loop-s.self in
+    let k = c.loop-s.s-index in
+    let x = c.s-item.result in
+    let whole = run_all mems can.setting.roomy (plain_stmts a.body.now) s.left (store_of s) in
+    let next = at_next mems can.setting.roomy (after_all can.setting.scope (plain_stmts a.body.now)) whole s now a.body.now k x c.loop-s-test.true c.s-item.is (c.loop-s.invariant can) in
+    body_more mems can.setting.roomy _ whole s now x.at (plain_stmt_kind x.kind) (plain_stmts (drop (k + 1) a.body.now)) next c.turn.new.self c.in_ok-turn.ensures.keeps c.in_ok-turn.ensures.ran c.statement.new.self c.in_ok-statement.ensures
+
+pub body-returns : goal.body-returns
+body-returns t c = λ can.
+    let a = c.args in
+    let mems = map plain_mem a.decls.now in
+    let s = a.self.now in
+    at_end mems can.setting.roomy (after_all can.setting.scope (plain_stmts a.body.now)) (run_all mems can.setting.roomy (plain_stmts a.body.now) s.left (store_of s)) s c.loop-s.self a.body.now c.loop-s.s-index (omega arith) (c.loop-s.invariant can)
+
+pub round-returns-in_err-turn-clause-ran : goal.round-returns-in_err-turn-clause-ran
+round-returns-in_err-turn-clause-ran t c = λ can.
+    let a = c.args in
+    let mems = map plain_mem a.decls.now in
+    let s = a.self.now in
+    let counters = map plain_counter a.counters.now in
+    let body = plain_stmts a.body.now in
+    finished_stop mems can.setting.roomy _ s _ _ _ c.in_err-turn.field-0.0 c.from_residual.ensures.1
+    (bind_halted turn _ s.left (store_of s) c.in_err-turn.field-0.0 c.in_err-turn.ensures.ran)
+
+pub round-count_all-requires : goal.round-count_all-requires
+round-count_all-requires t c = 
+    let a = c.args in
+    let mems = map plain_mem a.decls.now in
+    let s = a.self.now in
+    let counters = map plain_counter a.counters.now in
+    let body = plain_stmts a.body.now in
+    record { each = c.requires.each; digits = c.requires.digits; inside = round_counts mems counters body s c.requires.can c.turn.new.self c.in_ok-turn.ensures.keeps }
+
+pub round-body-requires : goal.round-body-requires
+round-body-requires t c = 
+    let a = c.args in
+    let mems = map plain_mem a.decls.now in
+    let s = a.self.now in
+    let counters = map plain_counter a.counters.now in
+    let body = plain_stmts a.body.now in
+    let can = c.requires.can in
+    let u = c.turn.new.self in
+    let v = c.count_all.new.self in
+    let st = c.count_all.ensures.stands mems can.setting.roomy can.setting.scope (sees_later can.setting.sees c.in_ok-turn.ensures.keeps) in
+    (search (rules, the_lemmas), round_body mems counters body s can u v c.in_ok-turn.ensures.keeps st)
+
+pub round-returns : goal.round-returns
+round-returns t c = 
+    let a = c.args in
+    let mems = map plain_mem a.decls.now in
+    let s = a.self.now in
+    let counters = map plain_counter a.counters.now in
+    let body = plain_stmts a.body.now in
+    let u = c.turn.new.self in
+    let v = c.count_all.new.self in
+    let w = c.body.new.self in
+    let first = c.requires.can in
+    let kept = c.count_all.ensures.stands mems first.setting.roomy first.setting.scope (sees_later first.setting.sees c.in_ok-turn.ensures.keeps) in
+    record {
+      ran = λ can.
+          let st = c.count_all.ensures.stands mems can.setting.roomy can.setting.scope (sees_later can.setting.sees c.in_ok-turn.ensures.keeps) in
+          round_goes mems counters body s can u v c.in_ok-turn.ensures.keeps st (current a.digits.now) c.in_ok-turn.ensures.ran c.count_all.ensures.ran c.body.result w (c.body.ensures (round_body mems counters body s can u v c.in_ok-turn.ensures.keeps st));
+      taken = fewer_left s.left v.left w.left c.body.result (omega (arith, c.in_ok-turn.ensures.taken, c.count_all.ensures.left))
+          (no_more_left mems first.setting.roomy _ v w _ c.body.result (c.body.ensures (round_body mems counters body s first u v c.in_ok-turn.ensures.keeps kept)));
+    }
+
+pub foreach-ranges-requires : goal.foreach-ranges-requires
+foreach-ranges-requires t c = 
+    let a = c.args in
+    let mems = map plain_mem a.decls.now in
+    let s = a.self.now in
+    let counters = map plain_counter a.counters.now in
+    let body = plain_stmts a.body.now in
+    let can = c.requires.1 in
+    record { few = omega (arith, can.typed.1.one_to_four.1, length-map a.counters.now plain_counter); can = record { setting = can.setting; typed = can.typed.1.bounds } }
+
+pub foreach-returns-in_err-ranges : goal.foreach-returns-in_err-ranges
+foreach-returns-in_err-ranges t c =  λ style at can.
+    let a = c.args in
+    let mems = map plain_mem a.decls.now in
+    let s = a.self.now in
+    let counters = map plain_counter a.counters.now in
+    let body = plain_stmts a.body.now in
+    finished_stop mems can.setting.roomy _ s _ _ _ c.in_err-ranges.field-0.0 c.from_residual.ensures.1 (foreach_unranged mems can.setting.roomy counters body style at s.left (store_of s) c.in_err-ranges.field-0.0 c.in_err-ranges.ensures.ran)
+
+pub foreach-rounds-init : goal.foreach-rounds-init
+foreach-rounds-init t c = 
+    let a = c.args in
+    let mems = map plain_mem a.decls.now in
+    let s = a.self.now in
+    let counters = map plain_counter a.counters.now in
+    let body = plain_stmts a.body.now in
+    let begun = c.ranges-2.new.self in
+    let n = length a.counters.now in
+    let first = take n c.ranges-2.new.digits in
+    record {
+      going = λ style can. loop_begins (foreach_step mems can.setting.roomy counters body) mems can.setting.roomy can.setting.scope s begun first c.in_ok-ranges.ensures.starts c.have_words-more.result c.have_words-more.ensures (stands_kept can.setting.sees c.in_ok-ranges.ensures.keeps);
+      good = λ e. starts_inside first c.in_ok-ranges.ensures.starts (sym c.have_words-more.ensures ∙ e);
+      same = refl;
+    }
+
+pub foreach-round-requires : goal.foreach-round-requires
+foreach-round-requires t c = 
+    let a = c.args in
+    let mems = map plain_mem a.decls.now in
+    let s = a.self.now in
+    let counters = map plain_counter a.counters.now in
+    let body = plain_stmts a.body.now in
+    let begun = c.ranges-2.new.self in
+    let n = length a.counters.now in
+    let first = take n c.ranges-2.new.digits in
+    let style = c.requires.0 in
+    let can = c.requires.1 in
+    let inv = c.rounds.invariant in
+    let few = can.typed.1.one_to_four.1 in
+    let wide : length first ≡ n = length-take-le n c.ranges-2.new.digits (omega (arith, few, length-map a.counters.now plain_counter)) in
+    (search (rules, the_lemmas), (foreach_loop style can (inv.going style can).stands, (inv.same ∙ wide, inv.good c.rounds-test.true)))
+
+pub foreach-returns-in_err-round : goal.foreach-returns-in_err-round
+foreach-returns-in_err-round t c =  λ style at can.
+    let a = c.args in
+    let mems = map plain_mem a.decls.now in
+    let s = a.self.now in
+    let counters = map plain_counter a.counters.now in
+    let body = plain_stmts a.body.now in
+    let begun = c.ranges-2.new.self in
+    let n = length a.counters.now in
+    let first = take n c.ranges-2.new.digits in
+    let now = c.rounds.self in
+    let g = c.rounds.invariant.going style can in
+    finished_stop mems can.setting.roomy _ s _ _ _ c.in_err-round.field-0.0 c.from_residual-in_err-round.ensures.1
+    (foreach_stopped mems can.setting.roomy counters body style at s.left (store_of s) (map values first) begun.left (store_of begun) c.in_ok-ranges.ensures.ran c.in_err-round.field-0.0 (foreach_stops mems counters body can.setting.roomy can.setting.scope s now c.rounds.digits c.rounds.more c.rounds-test.true _ g c.in_err-round.field-0.0 (c.in_err-round.ensures.ran (foreach_loop style can g.stands))))
+
+pub foreach-rounds-preserved : goal.foreach-rounds-preserved
+foreach-rounds-preserved t c = 
+    let a = c.args in
+    let mems = map plain_mem a.decls.now in
+    let s = a.self.now in
+    let counters = map plain_counter a.counters.now in
+    let body = plain_stmts a.body.now in
+    let begun = c.ranges-2.new.self in
+    let n = length a.counters.now in
+    let first = take n c.ranges-2.new.digits in
+    let now = c.rounds.self in
+    record {
+      going = λ style can. let g = c.rounds.invariant.going style can in foreach_next mems counters body can.setting.roomy can.setting.scope s now c.rounds.digits c.rounds.more c.rounds-test.true _ g c.advance-more.result c.advance-more.new.digits c.advance-more.ensures.left c.round.new.self (c.in_ok-round.ensures.ran (foreach_loop style can g.stands));
+      good = λ e. c.advance-more.ensures.digits;
+      same = c.advance-more.auto.digits ∙ c.rounds.invariant.same;
+    }
+
+pub foreach-rounds-smaller : goal.foreach-rounds-smaller
+foreach-rounds-smaller t c = c.in_ok-round.ensures.taken
+
+pub foreach-returns : goal.foreach-returns
+foreach-returns t c =  λ style at can.
+    let a = c.args in
+    let mems = map plain_mem a.decls.now in
+    let s = a.self.now in
+    let counters = map plain_counter a.counters.now in
+    let body = plain_stmts a.body.now in
+    let begun = c.ranges-2.new.self in
+    let n = length a.counters.now in
+    let first = take n c.ranges-2.new.digits in
+    let now = c.rounds.self in
+    let g = c.rounds.invariant.going style can in
+    (looped (map length (map values first)) (shapes g.done) ∷ [], foreach_done mems can.setting.roomy counters body style at s.left (store_of s) (map values first) begun.left (store_of begun) c.in_ok-ranges.ensures.ran g.done now.left (store_of now) (loop_over (foreach_step mems can.setting.roomy counters body) mems can.setting.roomy can.setting.scope _ s now _ g (ap (λ b. left_if b c.rounds.digits) c.rounds-test.false)), g.stands)
+
+pub reduce-ranges-requires : goal.reduce-ranges-requires
+reduce-ranges-requires t c = 
+    let a = c.args in
+    let mems = map plain_mem a.decls.now in
+    let s = a.self.now in
+    let counters = map plain_counter a.counters.now in
+    let body = plain_stmts a.body.now in
+    let can = c.requires.1 in
+    record { few = omega (arith, can.typed.1.one_to_four.1, length-map a.counters.now plain_counter); can = record { setting = can.setting; typed = can.typed.1.bounds } }
+
+pub reduce-returns-in_err-ranges : goal.reduce-returns-in_err-ranges
+reduce-returns-in_err-ranges t c =  λ style can.
+    let a = c.args in
+    let mems = map plain_mem a.decls.now in
+    let s = a.self.now in
+    let counters = map plain_counter a.counters.now in
+    let body = plain_stmts a.body.now in
+    finished_stop mems can.setting.roomy _ s _ _ _ c.in_err-ranges.field-0.0 c.from_residual.ensures.1 (reduce_unranged mems can.setting.roomy counters body a.into.at a.into.acc a.into.comb style s.left (store_of s) a.fold (plain_expr a.value.now) c.in_err-ranges.field-0.0 c.in_err-ranges.ensures.ran)
+
+pub reduce-rounds-init : goal.reduce-rounds-init
+reduce-rounds-init t c = 
+    let a = c.args in
+    let mems = map plain_mem a.decls.now in
+    let s = a.self.now in
+    let counters = map plain_counter a.counters.now in
+    let body = plain_stmts a.body.now in
+    let begun = c.ranges-2.new.self in
+    let n = length a.counters.now in
+    let first = take n c.ranges-2.new.digits in
+    record {
+      going = λ style can. combine_begins (combine_step mems can.setting.roomy counters body (word_combined mems a.into.comb a.into.acc a.into.at (plain_expr a.value.now))) mems can.setting.roomy can.setting.scope s begun first c.in_ok-ranges.ensures.starts c.have_words-more.result c.have_words-more.ensures a.fold (stands_kept can.setting.sees c.in_ok-ranges.ensures.keeps);
+      good = λ e. starts_inside first c.in_ok-ranges.ensures.starts (sym c.have_words-more.ensures ∙ e);
+      same = refl;
+    }
+
+pub reduce-round-requires : goal.reduce-round-requires
+reduce-round-requires t c = 
+    let a = c.args in
+    let mems = map plain_mem a.decls.now in
+    let s = a.self.now in
+    let counters = map plain_counter a.counters.now in
+    let body = plain_stmts a.body.now in
+    let begun = c.ranges-2.new.self in
+    let n = length a.counters.now in
+    let first = take n c.ranges-2.new.digits in
+    let style = c.requires.0 in
+    let can = c.requires.1 in
+    let inv = c.rounds.invariant in
+    let few = can.typed.1.one_to_four.1 in
+    let wide : length first ≡ n = length-take-le n c.ranges-2.new.digits (omega (arith, few, length-map a.counters.now plain_counter)) in
+    (search (rules, the_lemmas), (reduce_loop style a.fold a.into.acc (plain_expr a.value.now) a.into.comb can (inv.going style can).stands, (inv.same ∙ wide, inv.good c.rounds-test.true)))
+
+pub reduce-returns-in_err-round : goal.reduce-returns-in_err-round
+reduce-returns-in_err-round t c =  λ style can.
+    let a = c.args in
+    let mems = map plain_mem a.decls.now in
+    let s = a.self.now in
+    let counters = map plain_counter a.counters.now in
+    let body = plain_stmts a.body.now in
+    let begun = c.ranges-2.new.self in
+    let n = length a.counters.now in
+    let first = take n c.ranges-2.new.digits in
+    let now = c.rounds.self in
+    let g = c.rounds.invariant.going style can in
+    finished_stop mems can.setting.roomy _ s _ _ _ c.in_err-round.field-0.0 c.from_residual-in_err-round.ensures.1
+    (reduce_stopped mems can.setting.roomy counters body a.into.at a.into.acc a.into.comb style s.left (store_of s) a.fold (plain_expr a.value.now) (map values first) begun.left (store_of begun) c.in_ok-ranges.ensures.ran c.in_err-round.field-0.0 (combine_stops mems counters body can.setting.roomy can.setting.scope s now c.rounds.digits c.rounds.more c.rounds-test.true (word_combined mems a.into.comb a.into.acc a.into.at (plain_expr a.value.now)) _ c.rounds.combines g c.in_err-round.field-0.0 (c.in_err-round.ensures.ran (reduce_loop style a.fold a.into.acc (plain_expr a.value.now) a.into.comb can g.stands))))
+
+pub reduce-rounds-preserved : goal.reduce-rounds-preserved
+reduce-rounds-preserved t c = 
+    let a = c.args in
+    let mems = map plain_mem a.decls.now in
+    let s = a.self.now in
+    let counters = map plain_counter a.counters.now in
+    let body = plain_stmts a.body.now in
+    let begun = c.ranges-2.new.self in
+    let n = length a.counters.now in
+    let first = take n c.ranges-2.new.digits in
+    let now = c.rounds.self in
+    record {
+      going = λ style can. let g = c.rounds.invariant.going style can in combine_next mems counters body can.setting.roomy can.setting.scope s now c.rounds.digits c.rounds.more c.rounds-test.true (word_combined mems a.into.comb a.into.acc a.into.at (plain_expr a.value.now)) _ c.rounds.combines g c.round.new.self (c.in_ok-round.ensures.ran (reduce_loop style a.fold a.into.acc (plain_expr a.value.now) a.into.comb can g.stands)) c.advance-more.result c.advance-more.new.digits c.advance-more.ensures.left tt c.combine_word.new.self c.in_ok-combine_word.ensures.ran c.in_ok-combine_word.ensures.keeps;
+      good = λ e. c.advance-more.ensures.digits;
+      same = c.advance-more.auto.digits ∙ c.rounds.invariant.same;
+    }
+
+pub reduce-rounds-smaller : goal.reduce-rounds-smaller
+reduce-rounds-smaller t c = omega (arith, c.in_ok-round.ensures.taken, c.in_ok-combine_word.ensures.keeps.left)
+
+pub reduce-returns-in_err-combine_word : goal.reduce-returns-in_err-combine_word
+reduce-returns-in_err-combine_word t c =  λ style can.
+    let a = c.args in
+    let mems = map plain_mem a.decls.now in
+    let s = a.self.now in
+    let counters = map plain_counter a.counters.now in
+    let body = plain_stmts a.body.now in
+    let begun = c.ranges-2.new.self in
+    let n = length a.counters.now in
+    let first = take n c.ranges-2.new.digits in
+    let now = c.rounds.self in
+    let g = c.rounds.invariant.going style can in
+    finished_stop mems can.setting.roomy _ s _ _ _ c.in_err-combine_word.field-0.0 c.from_residual-in_err-combine_word.ensures.1
+    (reduce_stopped mems can.setting.roomy counters body a.into.at a.into.acc a.into.comb style s.left (store_of s) a.fold (plain_expr a.value.now) (map values first) begun.left (store_of begun) c.in_ok-ranges.ensures.ran c.in_err-combine_word.field-0.0 (combine_stops_later mems counters body can.setting.roomy can.setting.scope s now c.rounds.digits c.rounds.more c.rounds-test.true (word_combined mems a.into.comb a.into.acc a.into.at (plain_expr a.value.now)) _ c.rounds.combines g c.round.new.self (c.in_ok-round.ensures.ran (reduce_loop style a.fold a.into.acc (plain_expr a.value.now) a.into.comb can g.stands)) c.in_err-combine_word.field-0.0 c.in_err-combine_word.ensures.ran))
+
+pub reduce-returns : goal.reduce-returns
+reduce-returns t c =  λ style can.
+    let a = c.args in
+    let mems = map plain_mem a.decls.now in
+    let s = a.self.now in
+    let counters = map plain_counter a.counters.now in
+    let body = plain_stmts a.body.now in
+    let begun = c.ranges-2.new.self in
+    let n = length a.counters.now in
+    let first = take n c.ranges-2.new.digits in
+    let now = c.rounds.self in
+    let g = c.rounds.invariant.going style can in
+    (looped (map length (map values first)) (shapes g.done) ∷ [], reduce_done mems can.setting.roomy counters body a.into.at a.into.acc a.into.comb style s.left (store_of s) a.fold (plain_expr a.value.now) (map values first) begun.left (store_of begun) c.in_ok-ranges.ensures.ran g.done now.left (store_of now) (loop_over (combine_step mems can.setting.roomy counters body (word_combined mems a.into.comb a.into.acc a.into.at (plain_expr a.value.now))) mems can.setting.roomy can.setting.scope _ s now _ g (ap (λ b. combining c.rounds.combines (left_if b c.rounds.digits)) c.rounds-test.false)), g.stands)
+
+pub mem_reduce-ranges-requires : goal.mem_reduce-ranges-requires
+mem_reduce-ranges-requires t c = 
+    let a = c.args in
+    let mems = map plain_mem a.decls.now in
+    let s = a.self.now in
+    let counters = map plain_counter a.counters.now in
+    let body = plain_stmts a.body.now in
+    let can = c.requires.1 in
+    record { few = omega (arith, can.typed.1.one_to_four.1, length-map a.counters.now plain_counter); can = record { setting = can.setting; typed = can.typed.1.bounds } }
+
+pub mem_reduce-returns-in_err-ranges : goal.mem_reduce-returns-in_err-ranges
+mem_reduce-returns-in_err-ranges t c =  λ style can.
+    let a = c.args in
+    let mems = map plain_mem a.decls.now in
+    let s = a.self.now in
+    let counters = map plain_counter a.counters.now in
+    let body = plain_stmts a.body.now in
+    finished_stop mems can.setting.roomy _ s _ _ _ c.in_err-ranges.field-0.0 c.from_residual.ensures.1 (mem_reduce_unranged mems can.setting.roomy counters body a.into.at a.into.acc a.into.comb style s.left (store_of s) a.part c.in_err-ranges.field-0.0 c.in_err-ranges.ensures.ran)
+
+pub mem_reduce-rounds-init : goal.mem_reduce-rounds-init
+mem_reduce-rounds-init t c = 
+    let a = c.args in
+    let mems = map plain_mem a.decls.now in
+    let s = a.self.now in
+    let counters = map plain_counter a.counters.now in
+    let body = plain_stmts a.body.now in
+    let begun = c.ranges-2.new.self in
+    let n = length a.counters.now in
+    let first = take n c.ranges-2.new.digits in
+    record {
+      going = λ style can. combine_begins (combine_step mems can.setting.roomy counters body (part_combined mems a.into.comb a.into.acc a.part a.into.at)) mems can.setting.roomy can.setting.scope s begun first c.in_ok-ranges.ensures.starts c.have_words-more.result c.have_words-more.ensures false (stands_kept can.setting.sees c.in_ok-ranges.ensures.keeps);
+      good = λ e. starts_inside first c.in_ok-ranges.ensures.starts (sym c.have_words-more.ensures ∙ e);
+      same = refl;
+    }
+
+pub mem_reduce-round-requires : goal.mem_reduce-round-requires
+mem_reduce-round-requires t c = 
+    let a = c.args in
+    let mems = map plain_mem a.decls.now in
+    let s = a.self.now in
+    let counters = map plain_counter a.counters.now in
+    let body = plain_stmts a.body.now in
+    let begun = c.ranges-2.new.self in
+    let n = length a.counters.now in
+    let first = take n c.ranges-2.new.digits in
+    let style = c.requires.0 in
+    let can = c.requires.1 in
+    let inv = c.rounds.invariant in
+    let few = can.typed.1.one_to_four.1 in
+    let wide : length first ≡ n = length-take-le n c.ranges-2.new.digits (omega (arith, few, length-map a.counters.now plain_counter)) in
+    (search (rules, the_lemmas), (mem_reduce_loop style a.into.acc a.part a.into.comb can (inv.going style can).stands, (inv.same ∙ wide, inv.good c.rounds-test.true)))
+
+pub mem_reduce-returns-in_err-round : goal.mem_reduce-returns-in_err-round
+mem_reduce-returns-in_err-round t c =  λ style can.
+    let a = c.args in
+    let mems = map plain_mem a.decls.now in
+    let s = a.self.now in
+    let counters = map plain_counter a.counters.now in
+    let body = plain_stmts a.body.now in
+    let begun = c.ranges-2.new.self in
+    let n = length a.counters.now in
+    let first = take n c.ranges-2.new.digits in
+    let now = c.rounds.self in
+    let g = c.rounds.invariant.going style can in
+    finished_stop mems can.setting.roomy _ s _ _ _ c.in_err-round.field-0.0 c.from_residual-in_err-round.ensures.1
+    (mem_reduce_stopped mems can.setting.roomy counters body a.into.at a.into.acc a.into.comb style s.left (store_of s) a.part (map values first) begun.left (store_of begun) c.in_ok-ranges.ensures.ran c.in_err-round.field-0.0 (combine_stops mems counters body can.setting.roomy can.setting.scope s now c.rounds.digits c.rounds.more c.rounds-test.true (part_combined mems a.into.comb a.into.acc a.part a.into.at) _ c.rounds.combines g c.in_err-round.field-0.0 (c.in_err-round.ensures.ran (mem_reduce_loop style a.into.acc a.part a.into.comb can g.stands))))
+
+pub mem_reduce-rounds-preserved : goal.mem_reduce-rounds-preserved
+mem_reduce-rounds-preserved t c = 
+    let a = c.args in
+    let mems = map plain_mem a.decls.now in
+    let s = a.self.now in
+    let counters = map plain_counter a.counters.now in
+    let body = plain_stmts a.body.now in
+    let begun = c.ranges-2.new.self in
+    let n = length a.counters.now in
+    let first = take n c.ranges-2.new.digits in
+    let now = c.rounds.self in
+    record {
+      going = λ style can. let g = c.rounds.invariant.going style can in combine_next mems counters body can.setting.roomy can.setting.scope s now c.rounds.digits c.rounds.more c.rounds-test.true (part_combined mems a.into.comb a.into.acc a.part a.into.at) _ c.rounds.combines g c.round.new.self (c.in_ok-round.ensures.ran (mem_reduce_loop style a.into.acc a.part a.into.comb can g.stands)) c.advance-more.result c.advance-more.new.digits c.advance-more.ensures.left c.in_ok-combine_all.ensures.ran.0 c.combine_all.new.self c.in_ok-combine_all.ensures.ran.1 c.in_ok-combine_all.ensures.keeps;
+      good = λ e. c.advance-more.ensures.digits;
+      same = c.advance-more.auto.digits ∙ c.rounds.invariant.same;
+    }
+
+pub mem_reduce-rounds-smaller : goal.mem_reduce-rounds-smaller
+mem_reduce-rounds-smaller t c = omega (arith, c.in_ok-round.ensures.taken, c.in_ok-combine_all.ensures.keeps.left)
+
+pub mem_reduce-returns-in_err-combine_all : goal.mem_reduce-returns-in_err-combine_all
+mem_reduce-returns-in_err-combine_all t c =  λ style can.
+    let a = c.args in
+    let mems = map plain_mem a.decls.now in
+    let s = a.self.now in
+    let counters = map plain_counter a.counters.now in
+    let body = plain_stmts a.body.now in
+    let begun = c.ranges-2.new.self in
+    let n = length a.counters.now in
+    let first = take n c.ranges-2.new.digits in
+    let now = c.rounds.self in
+    let g = c.rounds.invariant.going style can in
+    finished_stop mems can.setting.roomy _ s _ _ _ c.in_err-combine_all.field-0.0 c.from_residual-in_err-combine_all.ensures.1
+    (mem_reduce_stopped mems can.setting.roomy counters body a.into.at a.into.acc a.into.comb style s.left (store_of s) a.part (map values first) begun.left (store_of begun) c.in_ok-ranges.ensures.ran c.in_err-combine_all.field-0.0 (combine_stops_later mems counters body can.setting.roomy can.setting.scope s now c.rounds.digits c.rounds.more c.rounds-test.true (part_combined mems a.into.comb a.into.acc a.part a.into.at) _ c.rounds.combines g c.round.new.self (c.in_ok-round.ensures.ran (mem_reduce_loop style a.into.acc a.part a.into.comb can g.stands)) c.in_err-combine_all.field-0.0 c.in_err-combine_all.ensures.ran))
+
+pub mem_reduce-returns : goal.mem_reduce-returns
+mem_reduce-returns t c =  λ style can.
+    let a = c.args in
+    let mems = map plain_mem a.decls.now in
+    let s = a.self.now in
+    let counters = map plain_counter a.counters.now in
+    let body = plain_stmts a.body.now in
+    let begun = c.ranges-2.new.self in
+    let n = length a.counters.now in
+    let first = take n c.ranges-2.new.digits in
+    let now = c.rounds.self in
+    let g = c.rounds.invariant.going style can in
+    (looped (map length (map values first)) (shapes g.done) ∷ [], mem_reduce_done mems can.setting.roomy counters body a.into.at a.into.acc a.into.comb style s.left (store_of s) a.part (map values first) begun.left (store_of begun) c.in_ok-ranges.ensures.ran g.done now.left (store_of now) (loop_over (combine_step mems can.setting.roomy counters body (part_combined mems a.into.comb a.into.acc a.part a.into.at)) mems can.setting.roomy can.setting.scope _ s now _ g (ap (λ b. combining c.rounds.combines (left_if b c.rounds.digits)) c.rounds-test.false)), g.stands)
+
+pub control-returns-in-Block : goal.control-returns-in-Block
+control-returns-in-Block t c = 
+    let a = c.args in
+    let mems = map plain_mem a.decls.now in
+    let s = a.self.now in
+    let e = ap plain_ctl c.in-Block.is ∙ plain_block c.in-Block.style c.in-Block.body ∙ ap (λ b. plain.block c.in-Block.style (plain_stmts b)) (sym c.deref.ensures.value) in
+    subst (λ k. Runs mems k a.at s c.block.result c.block.new.self) (sym e) (c.block.ensures)
+
+pub control-block-requires : goal.control-block-requires
+control-block-requires t c = 
+    let a = c.args in
+    let mems = map plain_mem a.decls.now in
+    let s = a.self.now in
+    let e = ap plain_ctl c.in-Block.is ∙ plain_block c.in-Block.style c.in-Block.body ∙ ap (λ b. plain.block c.in-Block.style (plain_stmts b)) (sym c.deref.ensures.value) in
+    (search (rules, the_lemmas), subst (λ k. CanRun mems k s) e c.requires)
+
+pub control-returns-in-Foreach : goal.control-returns-in-Foreach
+control-returns-in-Foreach t c = 
+    let a = c.args in
+    let mems = map plain_mem a.decls.now in
+    let s = a.self.now in
+    let e = ap plain_ctl c.in-Foreach.is ∙ plain_foreach c.in-Foreach.style c.in-Foreach.counters c.in-Foreach.body ∙ ap₂ (λ cs b. plain.foreach c.in-Foreach.style (map plain_counter cs) (plain_stmts b)) (sym c.deref-in-Foreach-2.ensures.value) (sym c.deref-in-Foreach.ensures.value) in
+    subst (λ k. Runs mems k a.at s c.foreach.result c.foreach.new.self) (sym e) (c.foreach.ensures c.in-Foreach.style a.at)
+
+pub control-foreach-requires : goal.control-foreach-requires
+control-foreach-requires t c = 
+    let a = c.args in
+    let mems = map plain_mem a.decls.now in
+    let s = a.self.now in
+    let e = ap plain_ctl c.in-Foreach.is ∙ plain_foreach c.in-Foreach.style c.in-Foreach.counters c.in-Foreach.body ∙ ap₂ (λ cs b. plain.foreach c.in-Foreach.style (map plain_counter cs) (plain_stmts b)) (sym c.deref-in-Foreach-2.ensures.value) (sym c.deref-in-Foreach.ensures.value) in
+    (search (rules, the_lemmas), (c.in-Foreach.style, subst (λ k. CanRun mems k s) e c.requires))
+
+pub statement-returns-in-Declare : goal.statement-returns-in-Declare
+statement-returns-in-Declare t c = 
+    let a = c.args in
+    let mems = map plain_mem a.decls.now in
+    let s = a.self.now in
+    subst (λ k. Runs mems k a.at s (Ok tt) c.declare.new.self) (sym (ap plain_stmt_kind c.in-Declare.is)) (λ can. c.declare.ensures a.at can)
+
+pub statement-returns-in-Control : goal.statement-returns-in-Control
+statement-returns-in-Control t c = 
+    let a = c.args in
+    let mems = map plain_mem a.decls.now in
+    let s = a.self.now in
+    subst (λ k. Runs mems k a.at s c.control.result c.control.new.self) (sym (ap plain_stmt_kind c.in-Control.is)) (subst (λ ctl. Runs mems (plain_ctl ctl) a.at s c.control.result c.control.new.self) c.deref-in-Control.ensures c.control.ensures)
+
+pub control-reduce-requires : goal.control-reduce-requires
+control-reduce-requires t c = 
+    let a = c.args in
+    let mems = map plain_mem a.decls.now in
+    let s = a.self.now in
+    let e = ap plain_ctl c.in-Reduce.is ∙ plain_reduce c.in-Reduce.style c.in-Reduce.fold c.in-Reduce.acc c.in-Reduce.counters c.in-Reduce.body c.in-Reduce.value c.in-Reduce.comb ∙ ap (λ n. plain.reduce c.in-Reduce.style c.in-Reduce.fold n (map plain_counter c.in-Reduce.counters.items) (plain_stmts c.in-Reduce.body.items) (plain_expr c.in-Reduce.value) c.in-Reduce.comb) (sym c.number.ensures) ∙ ap₂ (λ cs b. plain.reduce c.in-Reduce.style c.in-Reduce.fold c.number.result (map plain_counter cs) (plain_stmts b) (plain_expr c.in-Reduce.value) c.in-Reduce.comb) (sym c.deref-in-Reduce-2.ensures.value) (sym c.deref-in-Reduce.ensures.value) in
+    (search (rules, the_lemmas), (c.in-Reduce.style, subst (λ k. CanRun mems k s) e c.requires))
+
+pub control-returns-in-Reduce : goal.control-returns-in-Reduce
+control-returns-in-Reduce t c = 
+    let a = c.args in
+    let mems = map plain_mem a.decls.now in
+    let s = a.self.now in
+    let e = ap plain_ctl c.in-Reduce.is ∙ plain_reduce c.in-Reduce.style c.in-Reduce.fold c.in-Reduce.acc c.in-Reduce.counters c.in-Reduce.body c.in-Reduce.value c.in-Reduce.comb ∙ ap (λ n. plain.reduce c.in-Reduce.style c.in-Reduce.fold n (map plain_counter c.in-Reduce.counters.items) (plain_stmts c.in-Reduce.body.items) (plain_expr c.in-Reduce.value) c.in-Reduce.comb) (sym c.number.ensures) ∙ ap₂ (λ cs b. plain.reduce c.in-Reduce.style c.in-Reduce.fold c.number.result (map plain_counter cs) (plain_stmts b) (plain_expr c.in-Reduce.value) c.in-Reduce.comb) (sym c.deref-in-Reduce-2.ensures.value) (sym c.deref-in-Reduce.ensures.value) in
+    subst (λ k. Runs mems k a.at s c.reduce.result c.reduce.new.self) (sym e) (c.reduce.ensures c.in-Reduce.style)
+
+pub control-mem_reduce-requires : goal.control-mem_reduce-requires
+control-mem_reduce-requires t c = ?
+
+pub control-returns-in-MemReduce : goal.control-returns-in-MemReduce
+control-returns-in-MemReduce t c = ?
+
+pub control-fsm-requires : goal.control-fsm-requires
+control-fsm-requires t c = 
+    let a = c.args in
+    let mems = map plain_mem a.decls.now in
+    let s = a.self.now in
+    let e = ap plain_ctl c.in-Fsm.is ∙ plain_fsm c.in-Fsm.start c.in-Fsm.tested c.in-Fsm.test c.in-Fsm.state c.in-Fsm.body c.in-Fsm.last c.in-Fsm.next ∙ ap (λ n. plain.fsm (plain_expr c.in-Fsm.start) n (plain_expr c.in-Fsm.test) c.in-Fsm.state (plain_stmts c.in-Fsm.body.items) c.in-Fsm.last (plain_expr c.in-Fsm.next)) (sym c.number-in-Fsm.ensures) ∙ ap (λ n. plain.fsm (plain_expr c.in-Fsm.start) c.number-in-Fsm.result (plain_expr c.in-Fsm.test) n (plain_stmts c.in-Fsm.body.items) c.in-Fsm.last (plain_expr c.in-Fsm.next)) (sym c.number-in-Fsm-2.ensures) ∙ ap (λ n. plain.fsm (plain_expr c.in-Fsm.start) c.number-in-Fsm.result (plain_expr c.in-Fsm.test) c.number-in-Fsm-2.result (plain_stmts c.in-Fsm.body.items) n (plain_expr c.in-Fsm.next)) (sym c.number-in-Fsm-3.ensures) ∙ ap (λ b. plain.fsm (plain_expr c.in-Fsm.start) c.number-in-Fsm.result (plain_expr c.in-Fsm.test) c.number-in-Fsm-2.result (plain_stmts b) c.number-in-Fsm-3.result (plain_expr c.in-Fsm.next)) (sym c.deref-in-Fsm.ensures.value) in
+    (search (rules, the_lemmas), subst (λ k. CanRun mems k s) e c.requires)
+
+pub control-returns-in-Fsm : goal.control-returns-in-Fsm
+control-returns-in-Fsm t c = 
+    let a = c.args in
+    let mems = map plain_mem a.decls.now in
+    let s = a.self.now in
+    let e = ap plain_ctl c.in-Fsm.is ∙ plain_fsm c.in-Fsm.start c.in-Fsm.tested c.in-Fsm.test c.in-Fsm.state c.in-Fsm.body c.in-Fsm.last c.in-Fsm.next ∙ ap (λ n. plain.fsm (plain_expr c.in-Fsm.start) n (plain_expr c.in-Fsm.test) c.in-Fsm.state (plain_stmts c.in-Fsm.body.items) c.in-Fsm.last (plain_expr c.in-Fsm.next)) (sym c.number-in-Fsm.ensures) ∙ ap (λ n. plain.fsm (plain_expr c.in-Fsm.start) c.number-in-Fsm.result (plain_expr c.in-Fsm.test) n (plain_stmts c.in-Fsm.body.items) c.in-Fsm.last (plain_expr c.in-Fsm.next)) (sym c.number-in-Fsm-2.ensures) ∙ ap (λ n. plain.fsm (plain_expr c.in-Fsm.start) c.number-in-Fsm.result (plain_expr c.in-Fsm.test) c.number-in-Fsm-2.result (plain_stmts c.in-Fsm.body.items) n (plain_expr c.in-Fsm.next)) (sym c.number-in-Fsm-3.ensures) ∙ ap (λ b. plain.fsm (plain_expr c.in-Fsm.start) c.number-in-Fsm.result (plain_expr c.in-Fsm.test) c.number-in-Fsm-2.result (plain_stmts b) c.number-in-Fsm-3.result (plain_expr c.in-Fsm.next)) (sym c.deref-in-Fsm.ensures.value) in
+    subst (λ k. Runs mems k a.at s c.fsm.result c.fsm.new.self) (sym e) (c.fsm.ensures a.at)
+
+pub control-word-requires : goal.control-word-requires
+control-word-requires t c = 
+    let a = c.args in
+    let mems = map plain_mem a.decls.now in
+    let s = a.self.now in
+    let e = ap plain_ctl c.in-Branch.is ∙ plain_branch c.in-Branch.test c.in-Branch.yes c.in-Branch.no in
+    let can = subst (λ k. CanRun mems k s) e c.requires in
+    record { setting = can.setting; typed = can.typed.0.0.0 }
+
+pub control-body-requires : goal.control-body-requires
+control-body-requires t c = ?
+
+pub block-body-requires : goal.block-body-requires
+block-body-requires t c = 
+    let a = c.args in
+    let mems = map plain_mem a.decls.now in
+    let s = a.self.now in
+    let can = c.requires in
+    (search (rules, the_lemmas), record { setting = can.setting; typed = can.typed; numbered = can.numbered; told = can.told.1 })
+
+pub block-returns-in_err-body : goal.block-returns-in_err-body
+block-returns-in_err-body t c = ?
+
+pub block-end_stream-requires : goal.block-end_stream-requires
+block-end_stream-requires t c = ?
+
+pub block-returns-in-Stream : goal.block-returns-in-Stream
+block-returns-in-Stream t c = ?
+
+pub block-returns-in-Pipe : goal.block-returns-in-Pipe
+block-returns-in-Pipe t c = ?
+
+pub block-returns-in-Sequential : goal.block-returns-in-Sequential
+block-returns-in-Sequential t c = ?
+
+pub block-returns-in-Parallel : goal.block-returns-in-Parallel
+block-returns-in-Parallel t c = ?
+
+pub reduce-combine_word-requires : goal.reduce-combine_word-requires
+reduce-combine_word-requires t c = ?
+
+pub mem_reduce-combine_all-requires : goal.mem_reduce-combine_all-requires
+mem_reduce-combine_all-requires t c = ?
+
+pub fsm_turn-returns-in_err-turn : goal.fsm_turn-returns-in_err-turn
+fsm_turn-returns-in_err-turn t c = ?
+
+pub fsm_turn-name-requires : goal.fsm_turn-name-requires
+fsm_turn-name-requires t c = 
+    let a = c.args in
+    let mems = map plain_mem a.decls.now in
+    let s = a.self.now in
+    let body = plain_stmts a.body.now in
+    let next = plain_expr a.next.now in
+    let can = c.requires in
+    let u = c.turn.new.self in
+    turn_named mems a.binders.state a.binders.last body next s a.from can u c.in_ok-turn.ensures.keeps
+
+pub fsm_turn-body-requires : goal.fsm_turn-body-requires
+fsm_turn-body-requires t c = 
+    let a = c.args in
+    let mems = map plain_mem a.decls.now in
+    let s = a.self.now in
+    let body = plain_stmts a.body.now in
+    let next = plain_expr a.next.now in
+    let can = c.requires in
+    let u = c.turn.new.self in
+    let v = c.name.new.self in
+    (search (rules, the_lemmas), turn_body mems a.binders.state a.binders.last body next s a.from can u v c.in_ok-turn.ensures.keeps c.name.ensures.values c.name.ensures.others.0 c.name.ensures.others.1 c.name.ensures.others.2)
+
+pub fsm_turn-returns-in_err-body : goal.fsm_turn-returns-in_err-body
+fsm_turn-returns-in_err-body t c = ?
+
+pub fsm_turn-word_under-requires : goal.fsm_turn-word_under-requires
+fsm_turn-word_under-requires t c = 
+    let a = c.args in
+    let mems = map plain_mem a.decls.now in
+    let s = a.self.now in
+    let body = plain_stmts a.body.now in
+    let next = plain_expr a.next.now in
+    let can = c.requires in
+    let u = c.turn.new.self in
+    let v = c.name.new.self in
+    turn_name mems a.binders.state a.binders.last body next s a.from can u v c.in_ok-turn.ensures.keeps c.name.ensures.values c.name.ensures.others.0 c.name.ensures.others.1 c.name.ensures.others.2 c.body.new.self (c.in_ok-body.ensures (turn_body mems a.binders.state a.binders.last body next s a.from can u v c.in_ok-turn.ensures.keeps c.name.ensures.values c.name.ensures.others.0 c.name.ensures.others.1 c.name.ensures.others.2))
+
+pub fsm_turn-returns : goal.fsm_turn-returns
+fsm_turn-returns t c = ?
+
+pub fsm-word-requires : goal.fsm-word-requires
+fsm-word-requires t c = 
+    let a = c.args in
+    let mems = map plain_mem a.decls.now in
+    let s = a.self.now in
+    record { setting = c.requires.setting; typed = c.requires.typed.0.0.0 }
+
+pub fsm-turns-init : goal.fsm-turns-init
+fsm-turns-init t c = ?
+
+pub fsm-word_under-requires : goal.fsm-word_under-requires
+fsm-word_under-requires t c = ?
+
+pub fsm-returns-in_err-word_under : goal.fsm-returns-in_err-word_under
+fsm-returns-in_err-word_under t c = ?
+
+pub fsm-fsm_turn-requires : goal.fsm-fsm_turn-requires
+fsm-fsm_turn-requires t c = ?
+
+pub fsm-turns-preserved : goal.fsm-turns-preserved
+fsm-turns-preserved t c = ?
+
+pub fsm-turns-smaller : goal.fsm-turns-smaller
+fsm-turns-smaller t c = ?
+
+pub control-returns-in_err-word-in-Branch : goal.control-returns-in_err-word-in-Branch
+control-returns-in_err-word-in-Branch t c = ?
+
+pub control-body-requires-else-branch-eq1 : goal.control-body-requires-else-branch-eq1
+control-body-requires-else-branch-eq1 t c = ?
+
+pub control-returns-then-branch-eq1 : goal.control-returns-then-branch-eq1
+control-returns-then-branch-eq1 t c = ?
+
+pub control-returns-else-branch-eq1 : goal.control-returns-else-branch-eq1
+control-returns-else-branch-eq1 t c = ?
+
+pub fsm-returns-in_err-state : goal.fsm-returns-in_err-state
+fsm-returns-in_err-state t c = ?
+
+pub fsm-returns-then-branch-ne1 : goal.fsm-returns-then-branch-ne1
+fsm-returns-then-branch-ne1 t c = ?
+
+pub fsm-returns-in_err-state-2 : goal.fsm-returns-in_err-state-2
+fsm-returns-in_err-state-2 t c = ?
+
+pub statement-returns-in-Let : goal.statement-returns-in-Let
+statement-returns-in-Let t c = 
+    let a = c.args in
+    let mems = map plain_mem a.decls.now in
+    let s = a.self.now in
+    let e = ap plain_stmt_kind c.in-Let.is ∙ ap (λ m. plain.name m (plain_expr c.in-Let.e)) (sym c.number.ensures) in
+    subst (λ k. Runs mems k a.at s c.name_word.result c.name_word.new.self) (sym e) (λ can. c.name_word.ensures a.at can)
+
+pub statement-returns-in-SetReg : goal.statement-returns-in-SetReg
+statement-returns-in-SetReg t c = 
+    let a = c.args in
+    let mems = map plain_mem a.decls.now in
+    let s = a.self.now in
+    let e = ap plain_stmt_kind c.in-SetReg.is ∙ ap (λ m. plain.set_reg m (plain_expr c.in-SetReg.e)) (sym c.number-in-SetReg.ensures) in
+    subst (λ k. Runs mems k a.at s c.set_reg.result c.set_reg.new.self) (sym e) (λ can. c.set_reg.ensures a.at can)
+
+pub statement-returns-in-SetOut : goal.statement-returns-in-SetOut
+statement-returns-in-SetOut t c = 
+    let a = c.args in
+    let mems = map plain_mem a.decls.now in
+    let s = a.self.now in
+    let e = ap plain_stmt_kind c.in-SetOut.is ∙ ap (λ m. plain.set_out m (plain_expr c.in-SetOut.e)) (sym c.number-in-SetOut.ensures) in
+    subst (λ k. Runs mems k a.at s c.set_out.result c.set_out.new.self) (sym e) (λ can. c.set_out.ensures a.at can)
+
+pub statement-returns-in-SetSram : goal.statement-returns-in-SetSram
+statement-returns-in-SetSram t c = ?
+
+pub statement-returns-in-Enq : goal.statement-returns-in-Enq
+statement-returns-in-Enq t c = 
+    let a = c.args in
+    let mems = map plain_mem a.decls.now in
+    let s = a.self.now in
+    let e = ap plain_stmt_kind c.in-Enq.is ∙ ap (λ m. plain.enq m (plain_expr c.in-Enq.e)) (sym c.number-in-Enq.ensures) in
+    subst (λ k. Runs mems k a.at s c.enqueue_word.result c.enqueue_word.new.self) (sym e) (λ can. c.enqueue_word.ensures can)
+
+pub statement-returns-in-LoadSram : goal.statement-returns-in-LoadSram
+statement-returns-in-LoadSram t c = ?
+
+pub statement-returns-in-LoadLine : goal.statement-returns-in-LoadLine
+statement-returns-in-LoadLine t c = ?
+
+pub statement-returns-in-Store : goal.statement-returns-in-Store
+statement-returns-in-Store t c = ?
+
+pub statement-returns-in-Gather : goal.statement-returns-in-Gather
+statement-returns-in-Gather t c = 
+    let a = c.args in
+    let mems = map plain_mem a.decls.now in
+    let s = a.self.now in
+    let e = ap plain_stmt_kind c.in-Gather.is ∙ ap (λ n. plain.gather n c.in-Gather.dram c.in-Gather.places (plain_expr c.in-Gather.count)) (sym c.number-in-Gather.ensures) ∙ ap (λ n. plain.gather c.number-in-Gather.result n c.in-Gather.places (plain_expr c.in-Gather.count)) (sym c.number-in-Gather-2.ensures) ∙ ap (λ n. plain.gather c.number-in-Gather.result c.number-in-Gather-2.result n (plain_expr c.in-Gather.count)) (sym c.number-in-Gather-3.ensures) in
+    subst (λ k. Runs mems k a.at s c.gather.result c.gather.new.self) (sym e) (λ can. c.gather.ensures can)
+
+pub statement-returns-in-Scatter : goal.statement-returns-in-Scatter
+statement-returns-in-Scatter t c = 
+    let a = c.args in
+    let mems = map plain_mem a.decls.now in
+    let s = a.self.now in
+    let e = ap plain_stmt_kind c.in-Scatter.is ∙ ap (λ n. plain.scatter n c.in-Scatter.places (plain_expr c.in-Scatter.count) c.in-Scatter.sram) (sym c.number-in-Scatter.ensures) ∙ ap (λ n. plain.scatter c.number-in-Scatter.result n (plain_expr c.in-Scatter.count) c.in-Scatter.sram) (sym c.number-in-Scatter-2.ensures) ∙ ap (λ n. plain.scatter c.number-in-Scatter.result c.number-in-Scatter-2.result (plain_expr c.in-Scatter.count) n) (sym c.number-in-Scatter-3.ensures) in
+    subst (λ k. Runs mems k a.at s c.scatter.result c.scatter.new.self) (sym e) (λ can. c.scatter.ensures can)
+
