@@ -1,4 +1,5 @@
 pub mod AccessLemmas
+pub mod ArmLemmas
 pub mod BeginLemmas
 pub mod BlockLemmas
 pub mod BodyLemmas

@@ -5,7 +5,7 @@ use Rattle.sp_tree.specs.declared.statement.Ctl.{the_lemmas}
 use Rattle.sp_tree.specs.Elements.{tuples}
 use Rattle.sp_tree.specs.Plain.{plain_expr, plain_exprs, plain_mem}
 use Rattle.sp_tree.specs.PlainStatement as plain
-use Rattle.sp_tree.specs.PlainTree.{plain_counter, plain_ctl, plain_stmt_kind, plain_stmts}
+use Rattle.sp_tree.specs.PlainTree.{plain_counter, plain_ctl, plain_span, plain_stmt_kind, plain_stmts}
 use Rattle.sp_tree.specs.Sequential.{run_all, combining}
 use Rattle.sp_tree.specs.Shape.{looped, shapes}
 use Rattle.sp_tree.specs.Step.{in_order, turn}
@@ -532,10 +532,20 @@ control-returns-in-Reduce t c =
     subst (λ k. Runs mems k a.at s c.reduce.result c.reduce.new.self) (sym e) (c.reduce.ensures c.in-Reduce.style)
 
 pub control-mem_reduce-requires : goal.control-mem_reduce-requires
-control-mem_reduce-requires t c = ?
+control-mem_reduce-requires t c =
+    let a = c.args in
+    let mems = map plain_mem a.decls.now in
+    let s = a.self.now in
+    let e = ap plain_ctl c.in-MemReduce.is ∙ plain_mem_reduce c.in-MemReduce.style c.in-MemReduce.acc c.in-MemReduce.counters c.in-MemReduce.body c.in-MemReduce.part c.in-MemReduce.comb ∙ ap (λ n. plain.mem_reduce c.in-MemReduce.style n (map plain_counter c.in-MemReduce.counters.items) (plain_stmts c.in-MemReduce.body.items) c.in-MemReduce.part c.in-MemReduce.comb) (sym c.number-in-MemReduce.ensures) ∙ ap₂ (λ cs b. plain.mem_reduce c.in-MemReduce.style c.number-in-MemReduce.result (map plain_counter cs) (plain_stmts b) c.in-MemReduce.part c.in-MemReduce.comb) (sym c.deref-in-MemReduce-2.ensures.value) (sym c.deref-in-MemReduce.ensures.value) ∙ ap (λ n. plain.mem_reduce c.in-MemReduce.style c.number-in-MemReduce.result (map plain_counter c.deref-in-MemReduce-2.result.now) (plain_stmts c.deref-in-MemReduce.result.now) n c.in-MemReduce.comb) (sym c.number-in-MemReduce-2.ensures) in
+    (search (rules, the_lemmas), (c.in-MemReduce.style, subst (λ k. CanRun mems k s) e c.requires))
 
 pub control-returns-in-MemReduce : goal.control-returns-in-MemReduce
-control-returns-in-MemReduce t c = ?
+control-returns-in-MemReduce t c =
+    let a = c.args in
+    let mems = map plain_mem a.decls.now in
+    let s = a.self.now in
+    let e = ap plain_ctl c.in-MemReduce.is ∙ plain_mem_reduce c.in-MemReduce.style c.in-MemReduce.acc c.in-MemReduce.counters c.in-MemReduce.body c.in-MemReduce.part c.in-MemReduce.comb ∙ ap (λ n. plain.mem_reduce c.in-MemReduce.style n (map plain_counter c.in-MemReduce.counters.items) (plain_stmts c.in-MemReduce.body.items) c.in-MemReduce.part c.in-MemReduce.comb) (sym c.number-in-MemReduce.ensures) ∙ ap₂ (λ cs b. plain.mem_reduce c.in-MemReduce.style c.number-in-MemReduce.result (map plain_counter cs) (plain_stmts b) c.in-MemReduce.part c.in-MemReduce.comb) (sym c.deref-in-MemReduce-2.ensures.value) (sym c.deref-in-MemReduce.ensures.value) ∙ ap (λ n. plain.mem_reduce c.in-MemReduce.style c.number-in-MemReduce.result (map plain_counter c.deref-in-MemReduce-2.result.now) (plain_stmts c.deref-in-MemReduce.result.now) n c.in-MemReduce.comb) (sym c.number-in-MemReduce-2.ensures) in
+    subst (λ k. Runs mems k a.at s c.mem_reduce.result c.mem_reduce.new.self) (sym e) (c.mem_reduce.ensures c.in-MemReduce.style)
 
 pub control-fsm-requires : goal.control-fsm-requires
 control-fsm-requires t c = 
@@ -712,7 +722,12 @@ statement-returns-in-SetOut t c =
     subst (λ k. Runs mems k a.at s c.set_out.result c.set_out.new.self) (sym e) (λ can. c.set_out.ensures a.at can)
 
 pub statement-returns-in-SetSram : goal.statement-returns-in-SetSram
-statement-returns-in-SetSram t c = ?
+statement-returns-in-SetSram t c =
+    let a = c.args in
+    let mems = map plain_mem a.decls.now in
+    let s = a.self.now in
+    let e = ap plain_stmt_kind c.in-SetSram.is ∙ ap (λ n. plain.set_sram n (plain_exprs c.in-SetSram.indices.items) (plain_expr c.in-SetSram.e)) (sym c.number-in-SetSram.ensures) ∙ ap (λ xs. plain.set_sram c.number-in-SetSram.result (plain_exprs xs) (plain_expr c.in-SetSram.e)) (sym c.deref.ensures.value) in
+    subst (λ k. Runs mems k a.at s c.set_sram.result c.set_sram.new.self) (sym e) (λ can. c.set_sram.ensures can)
 
 pub statement-returns-in-Enq : goal.statement-returns-in-Enq
 statement-returns-in-Enq t c = 
@@ -723,13 +738,28 @@ statement-returns-in-Enq t c =
     subst (λ k. Runs mems k a.at s c.enqueue_word.result c.enqueue_word.new.self) (sym e) (λ can. c.enqueue_word.ensures can)
 
 pub statement-returns-in-LoadSram : goal.statement-returns-in-LoadSram
-statement-returns-in-LoadSram t c = ?
+statement-returns-in-LoadSram t c =
+    let a = c.args in
+    let mems = map plain_mem a.decls.now in
+    let s = a.self.now in
+    let e = ap plain_stmt_kind c.in-LoadSram.is ∙ ap (λ n. plain.load_sram n c.in-LoadSram.dram (map plain_span c.in-LoadSram.spans.items)) (sym c.number-in-LoadSram.ensures) ∙ ap (λ n. plain.load_sram c.number-in-LoadSram.result n (map plain_span c.in-LoadSram.spans.items)) (sym c.number-in-LoadSram-2.ensures) ∙ ap (λ xs. plain.load_sram c.number-in-LoadSram.result c.number-in-LoadSram-2.result (map plain_span xs)) (sym c.deref-in-LoadSram.ensures.value) in
+    subst (λ k. Runs mems k a.at s c.load_sram.result c.load_sram.new.self) (sym e) (λ can. c.load_sram.ensures can)
 
 pub statement-returns-in-LoadLine : goal.statement-returns-in-LoadLine
-statement-returns-in-LoadLine t c = ?
+statement-returns-in-LoadLine t c =
+    let a = c.args in
+    let mems = map plain_mem a.decls.now in
+    let s = a.self.now in
+    let e = ap plain_stmt_kind c.in-LoadLine.is ∙ ap (λ n. plain.load_line n c.in-LoadLine.dram (map plain_span c.in-LoadLine.spans.items)) (sym c.number-in-LoadLine.ensures) ∙ ap (λ n. plain.load_line c.number-in-LoadLine.result n (map plain_span c.in-LoadLine.spans.items)) (sym c.number-in-LoadLine-2.ensures) ∙ ap (λ xs. plain.load_line c.number-in-LoadLine.result c.number-in-LoadLine-2.result (map plain_span xs)) (sym c.deref-in-LoadLine.ensures.value) in
+    subst (λ k. Runs mems k a.at s c.load_line.result c.load_line.new.self) (sym e) c.load_line.ensures
 
 pub statement-returns-in-Store : goal.statement-returns-in-Store
-statement-returns-in-Store t c = ?
+statement-returns-in-Store t c =
+    let a = c.args in
+    let mems = map plain_mem a.decls.now in
+    let s = a.self.now in
+    let e = ap plain_stmt_kind c.in-Store.is ∙ ap (λ n. plain.store n (map plain_span c.in-Store.spans.items) c.in-Store.sram) (sym c.number-in-Store.ensures) ∙ ap (λ xs. plain.store c.number-in-Store.result (map plain_span xs) c.in-Store.sram) (sym c.deref-in-Store.ensures.value) ∙ ap (λ n. plain.store c.number-in-Store.result (map plain_span c.deref-in-Store.result.now) n) (sym c.number-in-Store-2.ensures) in
+    subst (λ k. Runs mems k a.at s c.store.result c.store.new.self) (sym e) (λ can. c.store.ensures can)
 
 pub statement-returns-in-Gather : goal.statement-returns-in-Gather
 statement-returns-in-Gather t c = 
