@@ -40,6 +40,9 @@ module _ (mems : List PlainMem) (roomy : List ℕ) (scope : Scope) (style : Styl
     block_ends (Ok u) h = (ran (shapes f.0) ∷ [], up_to_end ∙ bind_went (end_block mems style body place) _ t.left (store_of t) h.0 t.left (store_of t) h.1, stands_within (within_after_all body scope) f.2)
     block_ends (Err stop) h = up_to_end ∙ bind_halted (end_block mems style body place) _ t.left (store_of t) stop h
 
+abbrev pub block_body : {mems : List PlainMem} {body : PlainStmts} {s : State} (style : Style) (can : CanRun mems (block style body) s) → CanRunAll mems body s
+block_body style can = record { setting = can.setting; typed = can.typed; numbered = can.numbered; told = can.told.1 }
+
 -- only the end of a Stream block has a rule
 module _ (mems : List PlainMem) (body : PlainStmts) (place left : ℕ) (s : Store) where
   pub pipe_end : end_block mems Pipe body place left s ≡ went [] left s

@@ -584,22 +584,59 @@ block-body-requires t c =
     (search (rules, the_lemmas), record { setting = can.setting; typed = can.typed; numbered = can.numbered; told = can.told.1 })
 
 pub block-returns-in_err-body : goal.block-returns-in_err-body
-block-returns-in_err-body t c = ?
+block-returns-in_err-body t c =
+    λ can.
+    let a = c.args in
+    let mems = map plain_mem a.decls.now in
+    let s = a.self.now in
+    let body = plain_stmts a.body.now in
+    finished_stop mems can.setting.roomy _ s _ _ _ c.in_err-body.field-0.0 c.from_residual.ensures.1
+    (block_stops mems can.setting.roomy can.setting.scope a.style body a.at s c.in_err-body.field-0.0 (c.in_err-body.ensures (block_body a.style can)))
 
 pub block-end_stream-requires : goal.block-end_stream-requires
-block-end_stream-requires t c = ?
+block-end_stream-requires t c =
+    let a = c.args in
+    let mems = map plain_mem a.decls.now in
+    let s = a.self.now in
+    let body = plain_stmts a.body.now in
+    let can = subst (λ style. CanRun mems (plain.block style body) s) c.in-Stream.is c.requires in
+    stream_end mems body s c.body.new.self can (c.in_ok-body.ensures (block_body Stream can)).2
 
 pub block-returns-in-Stream : goal.block-returns-in-Stream
-block-returns-in-Stream t c = ?
+block-returns-in-Stream t c =
+    let a = c.args in
+    let mems = map plain_mem a.decls.now in
+    let s = a.self.now in
+    let body = plain_stmts a.body.now in
+    subst (λ style. Runs mems (plain.block style body) a.at s c.end_stream.result c.body.new.self) (sym c.in-Stream.is)
+    (λ can. block_ends mems can.setting.roomy can.setting.scope Stream body a.at s c.body.new.self (c.in_ok-body.ensures (block_body Stream can)) c.end_stream.result c.end_stream.ensures)
 
 pub block-returns-in-Pipe : goal.block-returns-in-Pipe
-block-returns-in-Pipe t c = ?
+block-returns-in-Pipe t c =
+    let a = c.args in
+    let mems = map plain_mem a.decls.now in
+    let s = a.self.now in
+    let body = plain_stmts a.body.now in
+    subst (λ style. Runs mems (plain.block style body) a.at s (Ok tt) c.body.new.self) (sym c.in-Pipe.is)
+    (λ can. let f = c.in_ok-body.ensures (block_body Pipe can) in block_ends mems can.setting.roomy can.setting.scope Pipe body a.at s c.body.new.self f (Ok tt) ([], pipe_end mems body a.at c.body.new.self.left (store_of c.body.new.self)))
 
 pub block-returns-in-Sequential : goal.block-returns-in-Sequential
-block-returns-in-Sequential t c = ?
+block-returns-in-Sequential t c =
+    let a = c.args in
+    let mems = map plain_mem a.decls.now in
+    let s = a.self.now in
+    let body = plain_stmts a.body.now in
+    subst (λ style. Runs mems (plain.block style body) a.at s (Ok tt) c.body.new.self) (sym c.in-Sequential.is)
+    (λ can. let f = c.in_ok-body.ensures (block_body Sequential can) in block_ends mems can.setting.roomy can.setting.scope Sequential body a.at s c.body.new.self f (Ok tt) ([], sequential_end mems body a.at c.body.new.self.left (store_of c.body.new.self)))
 
 pub block-returns-in-Parallel : goal.block-returns-in-Parallel
-block-returns-in-Parallel t c = ?
+block-returns-in-Parallel t c =
+    let a = c.args in
+    let mems = map plain_mem a.decls.now in
+    let s = a.self.now in
+    let body = plain_stmts a.body.now in
+    subst (λ style. Runs mems (plain.block style body) a.at s (Ok tt) c.body.new.self) (sym c.in-Parallel.is)
+    (λ can. let f = c.in_ok-body.ensures (block_body Parallel can) in block_ends mems can.setting.roomy can.setting.scope Parallel body a.at s c.body.new.self f (Ok tt) ([], parallel_end mems body a.at c.body.new.self.left (store_of c.body.new.self)))
 
 pub reduce-combine_word-requires : goal.reduce-combine_word-requires
 reduce-combine_word-requires t c = ?
