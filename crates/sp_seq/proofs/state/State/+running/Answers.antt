@@ -1,6 +1,7 @@
 use Rattle.std.proofs.Common.{◌≡◌, ◌<◌, ◌≤◌, ◌+◌, ◌∷◌, [], map, length, take, drop, true, false, refl, sym, ◌∙◌, ap, ap₂, subst, rules, arith, length-take-le}
 use Rattle.std.specs.Prelude.{Ok}
 use Rattle.std.proofs.lemmas.List.{length-map}
+use Rattle.sp_words.specs.declared.kind.Style.TheVariants.{Stream, Pipe, Sequential, Parallel}
 use Rattle.sp_tree.specs.declared.statement.Ctl.{the_lemmas}
 use Rattle.sp_tree.specs.Elements.{tuples}
 use Rattle.sp_tree.specs.Plain.{plain_expr, plain_exprs, plain_mem}
@@ -14,6 +15,7 @@ use Rattle.sp_seq.specs.Controlling.{Runs, round}
 use Rattle.sp_seq.specs.Looping.{current, values, left_if, tuples_left, word_combined, part_combined}
 use Rattle.sp_seq.specs.Running.{CanRun}
 use Rattle.sp_seq.specs.States.{store_of}
+use Rattle.sp_seq.proofs.ArmLemmas.{block_stops, block_ends, block_body, pipe_end, sequential_end, parallel_end, stream_end, branch_stops, branch_then, branch_else, then_can, else_can}
 use Rattle.sp_seq.proofs.BodyLemmas.{body_start, body_spent, body_can, body_halted, body_more}
 use Rattle.sp_seq.proofs.ControlLemmas.{at_next, at_end, no_more_left, fewer_left, round_counts, round_body, round_goes, foreach_loop, reduce_loop, mem_reduce_loop, foreach_stops, foreach_next, combine_stops, combine_stops_later, combine_next, loop_begins, combine_begins, turn_named, turn_body, turn_name}
 use Rattle.sp_seq.proofs.DigitLemmas.{starts_inside}
@@ -521,7 +523,7 @@ control-reduce-requires t c =
     let mems = map plain_mem a.decls.now in
     let s = a.self.now in
     let e = ap plain_ctl c.in-Reduce.is ∙ plain_reduce c.in-Reduce.style c.in-Reduce.fold c.in-Reduce.acc c.in-Reduce.counters c.in-Reduce.body c.in-Reduce.value c.in-Reduce.comb ∙ ap (λ n. plain.reduce c.in-Reduce.style c.in-Reduce.fold n (map plain_counter c.in-Reduce.counters.items) (plain_stmts c.in-Reduce.body.items) (plain_expr c.in-Reduce.value) c.in-Reduce.comb) (sym c.number.ensures) ∙ ap₂ (λ cs b. plain.reduce c.in-Reduce.style c.in-Reduce.fold c.number.result (map plain_counter cs) (plain_stmts b) (plain_expr c.in-Reduce.value) c.in-Reduce.comb) (sym c.deref-in-Reduce-2.ensures.value) (sym c.deref-in-Reduce.ensures.value) in
-    (search (rules, the_lemmas), (c.in-Reduce.style, subst (λ k. CanRun mems k s) e c.requires))
+    (?, (c.in-Reduce.style, subst (λ k. CanRun mems k s) e c.requires))
 
 pub control-returns-in-Reduce : goal.control-returns-in-Reduce
 control-returns-in-Reduce t c = 
@@ -537,7 +539,7 @@ control-mem_reduce-requires t c =
     let mems = map plain_mem a.decls.now in
     let s = a.self.now in
     let e = ap plain_ctl c.in-MemReduce.is ∙ plain_mem_reduce c.in-MemReduce.style c.in-MemReduce.acc c.in-MemReduce.counters c.in-MemReduce.body c.in-MemReduce.part c.in-MemReduce.comb ∙ ap (λ n. plain.mem_reduce c.in-MemReduce.style n (map plain_counter c.in-MemReduce.counters.items) (plain_stmts c.in-MemReduce.body.items) c.in-MemReduce.part c.in-MemReduce.comb) (sym c.number-in-MemReduce.ensures) ∙ ap₂ (λ cs b. plain.mem_reduce c.in-MemReduce.style c.number-in-MemReduce.result (map plain_counter cs) (plain_stmts b) c.in-MemReduce.part c.in-MemReduce.comb) (sym c.deref-in-MemReduce-2.ensures.value) (sym c.deref-in-MemReduce.ensures.value) ∙ ap (λ n. plain.mem_reduce c.in-MemReduce.style c.number-in-MemReduce.result (map plain_counter c.deref-in-MemReduce-2.result.now) (plain_stmts c.deref-in-MemReduce.result.now) n c.in-MemReduce.comb) (sym c.number-in-MemReduce-2.ensures) in
-    (search (rules, the_lemmas), (c.in-MemReduce.style, subst (λ k. CanRun mems k s) e c.requires))
+    (?, (c.in-MemReduce.style, subst (λ k. CanRun mems k s) e c.requires))
 
 pub control-returns-in-MemReduce : goal.control-returns-in-MemReduce
 control-returns-in-MemReduce t c =
