@@ -1,5 +1,5 @@
 -- How branches and blocks go, by how their bodies do.
-use Rattle.std.proofs.Common.{◌≡◌, ℕ, Bool, true, false, List, [], ◌∷◌, length, refl, sym, ◌∙◌, ap, Contains}
+use Rattle.std.proofs.Common.{◌≡◌, ◌<◌, ℕ, Bool, true, false, List, [], ◌∷◌, length, Vec, Global, rules, arith, refl, sym, ◌∙◌, ap, Contains}
 use Rattle.std.specs.Prelude.{◌==◌, Result, Ok, Err}
 use Rattle.sp_words.specs.declared.kind.Style.{Style}
 use Rattle.sp_words.specs.declared.kind.Style.TheVariants.{Stream, Pipe, Sequential, Parallel}
@@ -13,6 +13,14 @@ use Rattle.sp_tree.specs.Step.{Step, Went, went, ◌>>=◌, ◌>>◌, pure, in_o
 use Rattle.sp_tree.specs.Store.{Store}
 use Rattle.sp_tree.specs.Structure.{mems_declared, vals_declared, counters_declared}
 use Rattle.sp_tree.specs.Typing.{Scope, after_all}
+use Rattle.sp_tree.specs.declared.statement.Ctl.{Ctl, MemReduce, Reduce, Fsm, Branch, the_lemmas}
+use Rattle.sp_tree.specs.declared.expression.Expr.{Expr}
+use Rattle.sp_tree.specs.declared.statement.Stmt.{Stmt}
+use Rattle.sp_tree.specs.declared.statement.Comb.{Comb}
+use Rattle.sp_tree.specs.declared.statement.Counter.{Counter}
+use Rattle.sp_tree.proofs.statement.Stmt.TheLaws as stmt_laws
+use Rattle.sp_tree.proofs.statement.Ctl.TheLaws as ctl_laws
+use denote.Param.Weighed.{most}
 use Rattle.sp_seq.specs.declared.state.State.{State}
 use Rattle.sp_seq.specs.declared.state.Stop.{Stop}
 use Rattle.sp_seq.specs.Ending.{CanEnd}
@@ -23,6 +31,13 @@ use Rattle.sp_seq.proofs.RunningLemmas.{stands_kept}
 use Rattle.sp_seq.proofs.ScopeLemmas.{own_visible, numbered_later, numbered_first, numbered_rest, stands_on, stands_within, within_after_all}
 use Rattle.sp_seq.proofs.SeesLemmas.{setting_later}
 use Rattle.sp_seq.proofs.StepLemmas.{bind_went, bind_halted}
+
+-- the sizes of a body and of a controller, by which calls end
+abbrev pub body_size : List Stmt → ℕ
+body_size body = most stmt_laws.the_size body
+
+abbrev pub ctl_size : Ctl → ℕ
+ctl_size ctl = ctl_laws.the_size ctl
 
 -- a block, whose end changes nothing
 module _ (mems : List PlainMem) (roomy : List ℕ) (scope : Scope) (style : Style) (body : PlainStmts) (place : ℕ) (s : State) where
@@ -113,3 +128,19 @@ module _ (mems : List PlainMem) (test : PlainExpr) (yes no : PlainStmts) (s : St
     numbered = numbered_later (ap length keeps.values) (ap length keeps.counts) (numbered_rest (mems_declared yes) (mems_declared no) (vals_declared yes) (vals_declared no) (counters_declared yes) (counters_declared no) can.numbered);
     told = can.told.1;
   }
+
+-- a body is smaller than its controller
+pub reduce_falls : (style : Style) (fold : Bool) (acc : ℕ) (counters : Vec Counter Global) (body : Vec Stmt Global) (e : Expr) (comb : Comb) → body_size body.items < ctl_size (Reduce style fold acc counters body e comb)
+reduce_falls style fold acc counters body e comb = search (rules, the_lemmas)
+
+pub mem_reduce_falls : (style : Style) (acc : ℕ) (counters : Vec Counter Global) (body : Vec Stmt Global) (part : ℕ) (comb : Comb) → body_size body.items < ctl_size (MemReduce style acc counters body part comb)
+mem_reduce_falls style acc counters body part comb = search (rules, the_lemmas)
+
+pub fsm_falls : (start : Expr) (tested : ℕ) (test : Expr) (state : ℕ) (body : Vec Stmt Global) (last : ℕ) (next : Expr) → body_size body.items < ctl_size (Fsm start tested test state body last next)
+fsm_falls start tested test state body last next = search (rules, the_lemmas)
+
+pub then_falls : (test : Expr) (first second : Vec Stmt Global) → body_size first.items < ctl_size (Branch test first second)
+then_falls test first second = search (rules, the_lemmas)
+
+pub else_falls : (test : Expr) (first second : Vec Stmt Global) → body_size second.items < ctl_size (Branch test first second)
+else_falls test first second = search (rules, the_lemmas)

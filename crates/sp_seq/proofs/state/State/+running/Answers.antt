@@ -1,5 +1,5 @@
-use Rattle.std.proofs.Common.{◌≡◌, ◌<◌, ◌≤◌, ◌+◌, ◌∷◌, [], map, length, take, drop, true, false, refl, sym, ◌∙◌, ap, ap₂, subst, rules, arith, length-take-le}
-use Rattle.std.specs.Prelude.{Ok}
+use Rattle.std.proofs.Common.{◌≡◌, ne_eqb, ◌<◌, ◌≤◌, ◌+◌, ◌∷◌, [], map, length, take, drop, true, false, refl, sym, ◌∙◌, ap, ap₂, subst, rules, arith, length-take-le}
+use Rattle.std.specs.Prelude.{◌==◌, Ok}
 use Rattle.std.proofs.lemmas.List.{length-map}
 use Rattle.sp_words.specs.declared.kind.Style.TheVariants.{Stream, Pipe, Sequential, Parallel}
 use Rattle.sp_tree.specs.declared.statement.Ctl.{the_lemmas}
@@ -15,7 +15,7 @@ use Rattle.sp_seq.specs.Controlling.{Runs, round}
 use Rattle.sp_seq.specs.Looping.{current, values, left_if, tuples_left, word_combined, part_combined}
 use Rattle.sp_seq.specs.Running.{CanRun}
 use Rattle.sp_seq.specs.States.{store_of}
-use Rattle.sp_seq.proofs.ArmLemmas.{block_stops, block_ends, block_body, pipe_end, sequential_end, parallel_end, stream_end, branch_stops, branch_then, branch_else, then_can, else_can}
+use Rattle.sp_seq.proofs.ArmLemmas.{body_size, ctl_size, reduce_falls, mem_reduce_falls, fsm_falls, then_falls, else_falls, block_stops, block_ends, block_body, pipe_end, sequential_end, parallel_end, stream_end, branch_stops, branch_then, branch_else, then_can, else_can}
 use Rattle.sp_seq.proofs.BodyLemmas.{body_start, body_spent, body_can, body_halted, body_more}
 use Rattle.sp_seq.proofs.ControlLemmas.{at_next, at_end, no_more_left, fewer_left, round_counts, round_body, round_goes, foreach_loop, reduce_loop, mem_reduce_loop, foreach_stops, foreach_next, combine_stops, combine_stops_later, combine_next, loop_begins, combine_begins, turn_named, turn_body, turn_name}
 use Rattle.sp_seq.proofs.DigitLemmas.{starts_inside}
@@ -523,7 +523,7 @@ control-reduce-requires t c =
     let mems = map plain_mem a.decls.now in
     let s = a.self.now in
     let e = ap plain_ctl c.in-Reduce.is ∙ plain_reduce c.in-Reduce.style c.in-Reduce.fold c.in-Reduce.acc c.in-Reduce.counters c.in-Reduce.body c.in-Reduce.value c.in-Reduce.comb ∙ ap (λ n. plain.reduce c.in-Reduce.style c.in-Reduce.fold n (map plain_counter c.in-Reduce.counters.items) (plain_stmts c.in-Reduce.body.items) (plain_expr c.in-Reduce.value) c.in-Reduce.comb) (sym c.number.ensures) ∙ ap₂ (λ cs b. plain.reduce c.in-Reduce.style c.in-Reduce.fold c.number.result (map plain_counter cs) (plain_stmts b) (plain_expr c.in-Reduce.value) c.in-Reduce.comb) (sym c.deref-in-Reduce-2.ensures.value) (sym c.deref-in-Reduce.ensures.value) in
-    (?, (c.in-Reduce.style, subst (λ k. CanRun mems k s) e c.requires))
+    (omega (arith, reduce_falls c.in-Reduce.style c.in-Reduce.fold c.in-Reduce.acc c.in-Reduce.counters c.in-Reduce.body c.in-Reduce.value c.in-Reduce.comb, ap ctl_size c.in-Reduce.is, ap body_size c.deref-in-Reduce.ensures.value), (c.in-Reduce.style, subst (λ k. CanRun mems k s) e c.requires))
 
 pub control-returns-in-Reduce : goal.control-returns-in-Reduce
 control-returns-in-Reduce t c = 
@@ -539,7 +539,7 @@ control-mem_reduce-requires t c =
     let mems = map plain_mem a.decls.now in
     let s = a.self.now in
     let e = ap plain_ctl c.in-MemReduce.is ∙ plain_mem_reduce c.in-MemReduce.style c.in-MemReduce.acc c.in-MemReduce.counters c.in-MemReduce.body c.in-MemReduce.part c.in-MemReduce.comb ∙ ap (λ n. plain.mem_reduce c.in-MemReduce.style n (map plain_counter c.in-MemReduce.counters.items) (plain_stmts c.in-MemReduce.body.items) c.in-MemReduce.part c.in-MemReduce.comb) (sym c.number-in-MemReduce.ensures) ∙ ap₂ (λ cs b. plain.mem_reduce c.in-MemReduce.style c.number-in-MemReduce.result (map plain_counter cs) (plain_stmts b) c.in-MemReduce.part c.in-MemReduce.comb) (sym c.deref-in-MemReduce-2.ensures.value) (sym c.deref-in-MemReduce.ensures.value) ∙ ap (λ n. plain.mem_reduce c.in-MemReduce.style c.number-in-MemReduce.result (map plain_counter c.deref-in-MemReduce-2.result.now) (plain_stmts c.deref-in-MemReduce.result.now) n c.in-MemReduce.comb) (sym c.number-in-MemReduce-2.ensures) in
-    (?, (c.in-MemReduce.style, subst (λ k. CanRun mems k s) e c.requires))
+    (omega (arith, mem_reduce_falls c.in-MemReduce.style c.in-MemReduce.acc c.in-MemReduce.counters c.in-MemReduce.body c.in-MemReduce.part c.in-MemReduce.comb, ap ctl_size c.in-MemReduce.is, ap body_size c.deref-in-MemReduce.ensures.value), (c.in-MemReduce.style, subst (λ k. CanRun mems k s) e c.requires))
 
 pub control-returns-in-MemReduce : goal.control-returns-in-MemReduce
 control-returns-in-MemReduce t c =
@@ -555,7 +555,7 @@ control-fsm-requires t c =
     let mems = map plain_mem a.decls.now in
     let s = a.self.now in
     let e = ap plain_ctl c.in-Fsm.is ∙ plain_fsm c.in-Fsm.start c.in-Fsm.tested c.in-Fsm.test c.in-Fsm.state c.in-Fsm.body c.in-Fsm.last c.in-Fsm.next ∙ ap (λ n. plain.fsm (plain_expr c.in-Fsm.start) n (plain_expr c.in-Fsm.test) c.in-Fsm.state (plain_stmts c.in-Fsm.body.items) c.in-Fsm.last (plain_expr c.in-Fsm.next)) (sym c.number-in-Fsm.ensures) ∙ ap (λ n. plain.fsm (plain_expr c.in-Fsm.start) c.number-in-Fsm.result (plain_expr c.in-Fsm.test) n (plain_stmts c.in-Fsm.body.items) c.in-Fsm.last (plain_expr c.in-Fsm.next)) (sym c.number-in-Fsm-2.ensures) ∙ ap (λ n. plain.fsm (plain_expr c.in-Fsm.start) c.number-in-Fsm.result (plain_expr c.in-Fsm.test) c.number-in-Fsm-2.result (plain_stmts c.in-Fsm.body.items) n (plain_expr c.in-Fsm.next)) (sym c.number-in-Fsm-3.ensures) ∙ ap (λ b. plain.fsm (plain_expr c.in-Fsm.start) c.number-in-Fsm.result (plain_expr c.in-Fsm.test) c.number-in-Fsm-2.result (plain_stmts b) c.number-in-Fsm-3.result (plain_expr c.in-Fsm.next)) (sym c.deref-in-Fsm.ensures.value) in
-    (search (rules, the_lemmas), subst (λ k. CanRun mems k s) e c.requires)
+    (omega (arith, fsm_falls c.in-Fsm.start c.in-Fsm.tested c.in-Fsm.test c.in-Fsm.state c.in-Fsm.body c.in-Fsm.last c.in-Fsm.next, ap ctl_size c.in-Fsm.is, ap body_size c.deref-in-Fsm.ensures.value), subst (λ k. CanRun mems k s) e c.requires)
 
 pub control-returns-in-Fsm : goal.control-returns-in-Fsm
 control-returns-in-Fsm t c = 
@@ -575,7 +575,12 @@ control-word-requires t c =
     record { setting = can.setting; typed = can.typed.0.0.0 }
 
 pub control-body-requires : goal.control-body-requires
-control-body-requires t c = ?
+control-body-requires t c =
+    let a = c.args in
+    let mems = map plain_mem a.decls.now in
+    let s = a.self.now in
+    let e = ap plain_ctl c.in-Branch.is ∙ plain_branch c.in-Branch.test c.in-Branch.yes c.in-Branch.no ∙ ap (λ y. plain.branch (plain_expr c.in-Branch.test) (plain_stmts y) (plain_stmts c.in-Branch.no.items)) (sym c.deref-then-branch-eq1.ensures.value) in
+    (omega (arith, then_falls c.in-Branch.test c.in-Branch.yes c.in-Branch.no, ap ctl_size c.in-Branch.is, ap body_size c.deref-then-branch-eq1.ensures.value), then_can mems (plain_expr c.in-Branch.test) (plain_stmts c.deref-then-branch-eq1.result.now) (plain_stmts c.in-Branch.no.items) s (subst (λ k. CanRun mems k s) e c.requires) c.word.new.self c.in_ok-word-in-Branch.ensures.keeps)
 
 pub block-body-requires : goal.block-body-requires
 block-body-requires t c = 
@@ -716,16 +721,44 @@ pub fsm-turns-smaller : goal.fsm-turns-smaller
 fsm-turns-smaller t c = ?
 
 pub control-returns-in_err-word-in-Branch : goal.control-returns-in_err-word-in-Branch
-control-returns-in_err-word-in-Branch t c = ?
+control-returns-in_err-word-in-Branch t c =
+    let a = c.args in
+    let mems = map plain_mem a.decls.now in
+    let s = a.self.now in
+    let e = ap plain_ctl c.in-Branch.is ∙ plain_branch c.in-Branch.test c.in-Branch.yes c.in-Branch.no in
+    subst (λ k. Runs mems k a.at s c.from_residual.result c.word.new.self) (sym e)
+    (λ can. finished_stop mems can.setting.roomy _ s _ _ _ c.in_err-word-in-Branch.field-0.0 c.from_residual.ensures.1
+    (branch_stops mems can.setting.roomy can.setting.scope (plain_expr c.in-Branch.test) (plain_stmts c.in-Branch.yes.items) (plain_stmts c.in-Branch.no.items) a.at s c.in_err-word-in-Branch.field-0.0 c.in_err-word-in-Branch.ensures.ran))
 
 pub control-body-requires-else-branch-eq1 : goal.control-body-requires-else-branch-eq1
-control-body-requires-else-branch-eq1 t c = ?
+control-body-requires-else-branch-eq1 t c =
+    let a = c.args in
+    let mems = map plain_mem a.decls.now in
+    let s = a.self.now in
+    let e = ap plain_ctl c.in-Branch.is ∙ plain_branch c.in-Branch.test c.in-Branch.yes c.in-Branch.no ∙ ap (λ n. plain.branch (plain_expr c.in-Branch.test) (plain_stmts c.in-Branch.yes.items) (plain_stmts n)) (sym c.deref-else-branch-eq1.ensures.value) in
+    (omega (arith, else_falls c.in-Branch.test c.in-Branch.yes c.in-Branch.no, ap ctl_size c.in-Branch.is, ap body_size c.deref-else-branch-eq1.ensures.value), else_can mems (plain_expr c.in-Branch.test) (plain_stmts c.in-Branch.yes.items) (plain_stmts c.deref-else-branch-eq1.result.now) s (subst (λ k. CanRun mems k s) e c.requires) c.word.new.self c.in_ok-word-in-Branch.ensures.keeps)
 
 pub control-returns-then-branch-eq1 : goal.control-returns-then-branch-eq1
-control-returns-then-branch-eq1 t c = ?
+control-returns-then-branch-eq1 t c =
+    let a = c.args in
+    let mems = map plain_mem a.decls.now in
+    let s = a.self.now in
+    let e = ap plain_ctl c.in-Branch.is ∙ plain_branch c.in-Branch.test c.in-Branch.yes c.in-Branch.no ∙ ap (λ y. plain.branch (plain_expr c.in-Branch.test) (plain_stmts y) (plain_stmts c.in-Branch.no.items)) (sym c.deref-then-branch-eq1.ensures.value) in
+    subst (λ k. Runs mems k a.at s c.body.result c.body.new.self) (sym e)
+    (λ can. branch_then mems can.setting.roomy can.setting.scope (plain_expr c.in-Branch.test) (plain_stmts c.deref-then-branch-eq1.result.now) (plain_stmts c.in-Branch.no.items) a.at s c.in_ok-word-in-Branch.field-0 c.word.new.self c.in_ok-word-in-Branch.ensures.ran can.setting.sees c.in_ok-word-in-Branch.ensures.keeps
+    (ap (λ w. w == 1) c.if-branch-eq1.true) c.body.result c.body.new.self
+    (c.body.ensures (then_can mems (plain_expr c.in-Branch.test) (plain_stmts c.deref-then-branch-eq1.result.now) (plain_stmts c.in-Branch.no.items) s can c.word.new.self c.in_ok-word-in-Branch.ensures.keeps)))
 
 pub control-returns-else-branch-eq1 : goal.control-returns-else-branch-eq1
-control-returns-else-branch-eq1 t c = ?
+control-returns-else-branch-eq1 t c =
+    let a = c.args in
+    let mems = map plain_mem a.decls.now in
+    let s = a.self.now in
+    let e = ap plain_ctl c.in-Branch.is ∙ plain_branch c.in-Branch.test c.in-Branch.yes c.in-Branch.no ∙ ap (λ n. plain.branch (plain_expr c.in-Branch.test) (plain_stmts c.in-Branch.yes.items) (plain_stmts n)) (sym c.deref-else-branch-eq1.ensures.value) in
+    subst (λ k. Runs mems k a.at s c.body-else-branch-eq1.result c.body-else-branch-eq1.new.self) (sym e)
+    (λ can. branch_else mems can.setting.roomy can.setting.scope (plain_expr c.in-Branch.test) (plain_stmts c.in-Branch.yes.items) (plain_stmts c.deref-else-branch-eq1.result.now) a.at s c.in_ok-word-in-Branch.field-0 c.word.new.self c.in_ok-word-in-Branch.ensures.ran can.setting.sees c.in_ok-word-in-Branch.ensures.keeps
+    (ne_eqb _ _ c.if-branch-eq1.false) c.body-else-branch-eq1.result c.body-else-branch-eq1.new.self
+    (c.body-else-branch-eq1.ensures (else_can mems (plain_expr c.in-Branch.test) (plain_stmts c.in-Branch.yes.items) (plain_stmts c.deref-else-branch-eq1.result.now) s can c.word.new.self c.in_ok-word-in-Branch.ensures.keeps)))
 
 pub fsm-returns-in_err-state : goal.fsm-returns-in_err-state
 fsm-returns-in_err-state t c = ?
