@@ -28,4 +28,5 @@ pub mod StoreLemmas
 pub mod TellLemmas
 pub mod TransferLemmas
 pub mod TreeLemmas
+pub mod TurnLemmas
 pub mod WordLemmas

@@ -1,5 +1,6 @@
-use Rattle.std.proofs.Common.{◌≡◌, ne_eqb, ◌<◌, ◌≤◌, ◌+◌, ◌∷◌, [], map, length, take, drop, true, false, refl, sym, ◌∙◌, ap, ap₂, subst, rules, arith, length-take-le}
-use Rattle.std.specs.Prelude.{◌==◌, Ok}
+use Rattle.std.proofs.Common.{◌≡◌, eq-eqb, ne_eqb, ◌<◌, ◌≤◌, ◌+◌, ◌∷◌, [], map, length, take, drop, true, false, refl, sym, ◌∙◌, ap, ap₂, subst, rules, arith, length-take-le}
+use Rattle.std.specs.Prelude.{◌==◌, IfOk, Ok}
+use Rattle.sp_words.specs.Words.{IsWord}
 use Rattle.std.proofs.lemmas.List.{length-map}
 use Rattle.sp_words.specs.declared.kind.Style.TheVariants.{Stream, Pipe, Sequential, Parallel}
 use Rattle.sp_tree.specs.declared.statement.Ctl.{the_lemmas}
@@ -8,22 +9,25 @@ use Rattle.sp_tree.specs.Plain.{plain_expr, plain_exprs, plain_mem}
 use Rattle.sp_tree.specs.PlainStatement as plain
 use Rattle.sp_tree.specs.PlainTree.{plain_counter, plain_ctl, plain_span, plain_stmt_kind, plain_stmts}
 use Rattle.sp_tree.specs.Sequential.{run_all, combining}
-use Rattle.sp_tree.specs.Shape.{looped, shapes}
+use Rattle.sp_tree.specs.Shape.{looped, turned, shapes}
 use Rattle.sp_tree.specs.Step.{in_order, turn}
 use Rattle.sp_tree.specs.Typing.{after_all, with_counters}
-use Rattle.sp_seq.specs.Controlling.{Runs, round}
+use Rattle.sp_seq.specs.Controlling.{Runs, fsm_turn, round}
 use Rattle.sp_seq.specs.Looping.{current, values, left_if, tuples_left, word_combined, part_combined}
 use Rattle.sp_seq.specs.Running.{CanRun}
 use Rattle.sp_seq.specs.States.{store_of}
 use Rattle.sp_seq.proofs.ArmLemmas.{body_size, ctl_size, reduce_falls, mem_reduce_falls, fsm_falls, then_falls, else_falls, block_stops, block_ends, block_body, pipe_end, sequential_end, parallel_end, stream_end, branch_stops, branch_then, branch_else, then_can, else_can}
 use Rattle.sp_seq.proofs.BodyLemmas.{body_start, body_spent, body_can, body_halted, body_more}
-use Rattle.sp_seq.proofs.ControlLemmas.{at_next, at_end, no_more_left, fewer_left, round_counts, round_body, round_goes, foreach_loop, reduce_loop, mem_reduce_loop, foreach_stops, foreach_next, combine_stops, combine_stops_later, combine_next, loop_begins, combine_begins, turn_named, turn_body, turn_name}
+use Rattle.sp_seq.proofs.ControlLemmas.{at_next, at_end, no_more_left, fewer_left, round_counts, round_body, round_goes, foreach_loop, reduce_loop, mem_reduce_loop, foreach_stops, foreach_next, combine_stops, combine_stops_later, combine_next, loop_begins, combine_begins, turn_named, turn_body, turn_name, turn_outer, test_of}
 use Rattle.sp_seq.proofs.DigitLemmas.{starts_inside}
+use Rattle.sp_seq.proofs.FsmLemmas.{fsm_start, fsm_untested, fsm_over, fsm_halted, fsm_more}
 use Rattle.sp_seq.proofs.RoundLemmas.{foreach_step, foreach_unranged, foreach_stopped, foreach_done, combine_step, reduce_unranged, reduce_stopped, reduce_done, mem_reduce_unranged, mem_reduce_stopped, mem_reduce_done, loop_over}
 use Rattle.sp_seq.proofs.RunningLemmas.{finished_stop, stands_kept}
+use Rattle.sp_seq.proofs.ScopeLemmas.{stands_on}
 use Rattle.sp_seq.proofs.SeesLemmas.{setting_later, sees_later}
 use Rattle.sp_seq.proofs.StepLemmas.{bind_halted}
 use Rattle.sp_seq.proofs.TreeLemmas.{plain_block, plain_foreach, plain_reduce, plain_mem_reduce, plain_fsm, plain_branch}
+use Rattle.sp_seq.proofs.TurnLemmas.{finished_with_stop, not_ok, no_turn, turn_halts, body_halts, turn_ends, turn_taken, test_halts, test_goes, fsm_unstarted, fsm_stopped, fsm_done, fsm_test, fsm_can, reduce_combines, mem_reduce_combines}
 use Rattle.sp_seq.proofs.state.State.+running.Goals as goal
 
 pub body-loop-s-init : goal.body-loop-s-init
@@ -646,13 +650,38 @@ block-returns-in-Parallel t c =
     (λ can. let f = c.in_ok-body.ensures (block_body Parallel can) in block_ends mems can.setting.roomy can.setting.scope Parallel body a.at s c.body.new.self f (Ok tt) ([], parallel_end mems body a.at c.body.new.self.left (store_of c.body.new.self)))
 
 pub reduce-combine_word-requires : goal.reduce-combine_word-requires
-reduce-combine_word-requires t c = ?
+reduce-combine_word-requires t c =
+    let a = c.args in
+    let mems = map plain_mem a.decls.now in
+    let style = c.requires.0 in
+    let can = c.requires.1 in
+    let e = plain_expr a.value.now in
+    let f = c.in_ok-round.ensures.ran (reduce_loop style a.fold a.into.acc e a.into.comb can (c.rounds.invariant.going style can).stands) in
+    reduce_combines style a.fold a.into.acc e a.into.comb can c.round.new.self f.2.sees
 
 pub mem_reduce-combine_all-requires : goal.mem_reduce-combine_all-requires
-mem_reduce-combine_all-requires t c = ?
+mem_reduce-combine_all-requires t c =
+    let a = c.args in
+    let mems = map plain_mem a.decls.now in
+    let style = c.requires.0 in
+    let can = c.requires.1 in
+    let f = c.in_ok-round.ensures.ran (mem_reduce_loop style a.into.acc a.part a.into.comb can (c.rounds.invariant.going style can).stands) in
+    mem_reduce_combines style a.into.acc a.part a.into.comb can c.round.new.self f.2.sees
 
 pub fsm_turn-returns-in_err-turn : goal.fsm_turn-returns-in_err-turn
-fsm_turn-returns-in_err-turn t c = ?
+fsm_turn-returns-in_err-turn t c =
+    let a = c.args in
+    let mems = map plain_mem a.decls.now in
+    let s = a.self.now in
+    let state = a.binders.state in
+    let last = a.binders.last in
+    let body = plain_stmts a.body.now in
+    let next = plain_expr a.next.now in
+    let stop = c.in_err-turn.field-0.0 in
+    record {
+      ran = λ can. finished_with_stop mems can.setting.roomy can.setting.scope (IsWord can.ty) s _ c.from_residual.result c.turn.new.self stop c.from_residual.ensures.1 (turn_halts mems can.setting.roomy state last body next a.from s stop c.in_err-turn.ensures.ran);
+      taken = not_ok c.from_residual.result _ stop c.from_residual.ensures.1;
+    }
 
 pub fsm_turn-name-requires : goal.fsm_turn-name-requires
 fsm_turn-name-requires t c = 
@@ -678,7 +707,23 @@ fsm_turn-body-requires t c =
     (search (rules, the_lemmas), turn_body mems a.binders.state a.binders.last body next s a.from can u v c.in_ok-turn.ensures.keeps c.name.ensures.values c.name.ensures.others.0 c.name.ensures.others.1 c.name.ensures.others.2)
 
 pub fsm_turn-returns-in_err-body : goal.fsm_turn-returns-in_err-body
-fsm_turn-returns-in_err-body t c = ?
+fsm_turn-returns-in_err-body t c =
+    let a = c.args in
+    let mems = map plain_mem a.decls.now in
+    let s = a.self.now in
+    let state = a.binders.state in
+    let last = a.binders.last in
+    let body = plain_stmts a.body.now in
+    let next = plain_expr a.next.now in
+    let u = c.turn.new.self in
+    let v = c.name.new.self in
+    let stop = c.in_err-body.field-0.0 in
+    let end = c.from_residual-in_err-body.ensures.1 in
+    record {
+      ran = λ can. finished_with_stop mems can.setting.roomy can.setting.scope (IsWord can.ty) s _ c.from_residual-in_err-body.result c.body.new.self stop end
+          (body_halts mems can.setting.roomy state last body next a.from s u v c.in_ok-turn.ensures.ran c.name.ensures.store c.name.ensures.others.2 stop (c.in_err-body.ensures (turn_body mems state last body next s a.from can u v c.in_ok-turn.ensures.keeps c.name.ensures.values c.name.ensures.others.0 c.name.ensures.others.1 c.name.ensures.others.2)));
+      taken = not_ok c.from_residual-in_err-body.result _ stop end;
+    }
 
 pub fsm_turn-word_under-requires : goal.fsm_turn-word_under-requires
 fsm_turn-word_under-requires t c = 
@@ -693,7 +738,28 @@ fsm_turn-word_under-requires t c =
     turn_name mems a.binders.state a.binders.last body next s a.from can u v c.in_ok-turn.ensures.keeps c.name.ensures.values c.name.ensures.others.0 c.name.ensures.others.1 c.name.ensures.others.2 c.body.new.self (c.in_ok-body.ensures (turn_body mems a.binders.state a.binders.last body next s a.from can u v c.in_ok-turn.ensures.keeps c.name.ensures.values c.name.ensures.others.0 c.name.ensures.others.1 c.name.ensures.others.2))
 
 pub fsm_turn-returns : goal.fsm_turn-returns
-fsm_turn-returns t c = ?
+fsm_turn-returns t c =
+    let a = c.args in
+    let mems = map plain_mem a.decls.now in
+    let s = a.self.now in
+    let state = a.binders.state in
+    let last = a.binders.last in
+    let body = plain_stmts a.body.now in
+    let next = plain_expr a.next.now in
+    let u = c.turn.new.self in
+    let v = c.name.new.self in
+    let w = c.body.new.self in
+    let r = c.word_under.result in
+    record {
+      ran = λ can.
+          let f = c.in_ok-body.ensures (turn_body mems state last body next s a.from can u v c.in_ok-turn.ensures.keeps c.name.ensures.values c.name.ensures.others.0 c.name.ensures.others.1 c.name.ensures.others.2) in
+          turn_ends mems can.setting.roomy state last body next a.from s u v c.in_ok-turn.ensures.ran c.name.ensures.store c.name.ensures.others.2 f.0 w f.1 can.setting.scope (IsWord can.ty)
+          (turn_outer mems state last body next s a.from can u v c.in_ok-turn.ensures.keeps c.name.ensures.values c.name.ensures.others.0 c.name.ensures.others.1 c.name.ensures.others.2 w f) r c.word_under.new.self c.word_under.ensures.ran (c.word_under.ensures.stands (turn_name mems state last body next s a.from can u v c.in_ok-turn.ensures.keeps c.name.ensures.values c.name.ensures.others.0 c.name.ensures.others.1 c.name.ensures.others.2 w f)) (subst (λ ty. IfOk r (IsWord ty)) can.next_typed.1 c.word_under.ensures.fits);
+      taken =
+          let can = c.requires in
+          let f = c.in_ok-body.ensures (turn_body mems state last body next s a.from can u v c.in_ok-turn.ensures.keeps c.name.ensures.values c.name.ensures.others.0 c.name.ensures.others.1 c.name.ensures.others.2) in
+          turn_taken s.left r (omega (arith, c.in_ok-turn.ensures.taken, c.name.ensures.others.2, f.2.left)) (c.word_under.ensures.stands (turn_name mems state last body next s a.from can u v c.in_ok-turn.ensures.keeps c.name.ensures.values c.name.ensures.others.0 c.name.ensures.others.1 c.name.ensures.others.2 w f));
+    }
 
 pub fsm-word-requires : goal.fsm-word-requires
 fsm-word-requires t c = 
@@ -703,22 +769,143 @@ fsm-word-requires t c =
     record { setting = c.requires.setting; typed = c.requires.typed.0.0.0 }
 
 pub fsm-turns-init : goal.fsm-turns-init
-fsm-turns-init t c = ?
+fsm-turns-init t c =
+    let a = c.args in
+    let mems = map plain_mem a.decls.now in
+    let s = a.self.now in
+    let start = plain_expr a.start.now in
+    let tested = a.binders.tested in
+    let test = plain_expr a.test.now in
+    let state = a.binders.state in
+    let body = plain_stmts a.body.now in
+    let last = a.binders.last in
+    let next = plain_expr a.next.now in
+    let begun = c.word.new.self in
+    let first = c.in_ok-state.state in
+    let started = c.in_ok-state.ensures.ran in
+    record {
+      going = λ can. fsm_start (test_of mems tested test) (fsm_turn mems can.setting.roomy state last body next) mems can.setting.roomy can.setting.scope first s begun (stands_kept can.setting.sees c.in_ok-state.ensures.keeps);
+      is_word = c.in_ok-state.ensures.fits;
+    }
 
 pub fsm-word_under-requires : goal.fsm-word_under-requires
-fsm-word_under-requires t c = ?
+fsm-word_under-requires t c =
+    let a = c.args in
+    let mems = map plain_mem a.decls.now in
+    let s = a.self.now in
+    let start = plain_expr a.start.now in
+    let tested = a.binders.tested in
+    let test = plain_expr a.test.now in
+    let state = a.binders.state in
+    let body = plain_stmts a.body.now in
+    let last = a.binders.last in
+    let next = plain_expr a.next.now in
+    let begun = c.word.new.self in
+    let now = c.turns.self in
+    let x = c.turns.state in
+    let good = c.turns.invariant.is_word in
+    let can = c.requires in
+    fsm_test can now (c.turns.invariant.going can).stands x good
 
 pub fsm-returns-in_err-word_under : goal.fsm-returns-in_err-word_under
-fsm-returns-in_err-word_under t c = ?
+fsm-returns-in_err-word_under t c =
+    λ at can.
+    let a = c.args in
+    let mems = map plain_mem a.decls.now in
+    let s = a.self.now in
+    let start = plain_expr a.start.now in
+    let tested = a.binders.tested in
+    let test = plain_expr a.test.now in
+    let state = a.binders.state in
+    let body = plain_stmts a.body.now in
+    let last = a.binders.last in
+    let next = plain_expr a.next.now in
+    let begun = c.word.new.self in
+    let first = c.in_ok-state.state in
+    let started = c.in_ok-state.ensures.ran in
+    let now = c.turns.self in
+    let x = c.turns.state in
+    let good = c.turns.invariant.is_word in
+    let g = c.turns.invariant.going can in
+    let stop = c.in_err-word_under.field-0.0 in
+    finished_stop mems can.setting.roomy can.setting.scope s _ _ _ stop c.from_residual-in_err-word_under.ensures.1
+    (fsm_stopped mems can.setting.roomy start tested test state body last next at s first begun started stop
+    (fsm_untested (test_of mems tested test) (fsm_turn mems can.setting.roomy state last body next) mems can.setting.roomy can.setting.scope _ s now x g stop (test_halts mems tested test x now.left (store_of now) stop c.in_err-word_under.ensures.ran)))
 
 pub fsm-fsm_turn-requires : goal.fsm-fsm_turn-requires
-fsm-fsm_turn-requires t c = ?
+fsm-fsm_turn-requires t c =
+    let a = c.args in
+    let mems = map plain_mem a.decls.now in
+    let s = a.self.now in
+    let start = plain_expr a.start.now in
+    let tested = a.binders.tested in
+    let test = plain_expr a.test.now in
+    let state = a.binders.state in
+    let body = plain_stmts a.body.now in
+    let last = a.binders.last in
+    let next = plain_expr a.next.now in
+    let begun = c.word.new.self in
+    let now = c.turns.self in
+    let x = c.turns.state in
+    let good = c.turns.invariant.is_word in
+    let can = c.requires in
+    let g = c.turns.invariant.going can in
+    let t = c.word_under.new.self in
+    let later = c.in_ok-word_under.ensures.stands (fsm_test can now g.stands x good) in
+    (search (rules, the_lemmas), fsm_can can t (stands_on g.stands later) x good)
 
 pub fsm-turns-preserved : goal.fsm-turns-preserved
-fsm-turns-preserved t c = ?
+fsm-turns-preserved t c =
+    let a = c.args in
+    let mems = map plain_mem a.decls.now in
+    let s = a.self.now in
+    let start = plain_expr a.start.now in
+    let tested = a.binders.tested in
+    let test = plain_expr a.test.now in
+    let state = a.binders.state in
+    let body = plain_stmts a.body.now in
+    let last = a.binders.last in
+    let next = plain_expr a.next.now in
+    let begun = c.word.new.self in
+    let now = c.turns.self in
+    let x = c.turns.state in
+    let good = c.turns.invariant.is_word in
+    record {
+      going = λ can.
+          let g = c.turns.invariant.going can in
+          let t = c.word_under.new.self in
+          let later = c.in_ok-word_under.ensures.stands (fsm_test can now g.stands x good) in
+          let f = c.in_ok-state-2.ensures.ran (fsm_can can t (stands_on g.stands later) x good) in
+          fsm_more (test_of mems tested test) (fsm_turn mems can.setting.roomy state last body next) mems can.setting.roomy can.setting.scope _ s now x g t (test_goes mems tested test x now.left (store_of now) c.in_ok-word_under.field-0 t.left (store_of t) c.in_ok-word_under.ensures.ran true (eq-eqb _ _ c.if-branch-ne1.false)) later.left c.in_ok-state-2.state f.0 c.fsm_turn.new.self f.1 c.in_ok-state-2.ensures.taken (stands_on later f.2);
+      is_word =
+          let can = c.requires in
+          let g = c.turns.invariant.going can in
+          let t = c.word_under.new.self in
+          let later = c.in_ok-word_under.ensures.stands (fsm_test can now g.stands x good) in
+          (c.in_ok-state-2.ensures.ran (fsm_can can t (stands_on g.stands later) x good)).3;
+    }
 
 pub fsm-turns-smaller : goal.fsm-turns-smaller
-fsm-turns-smaller t c = ?
+fsm-turns-smaller t c =
+    let a = c.args in
+    let mems = map plain_mem a.decls.now in
+    let s = a.self.now in
+    let start = plain_expr a.start.now in
+    let tested = a.binders.tested in
+    let test = plain_expr a.test.now in
+    let state = a.binders.state in
+    let body = plain_stmts a.body.now in
+    let last = a.binders.last in
+    let next = plain_expr a.next.now in
+    let begun = c.word.new.self in
+    let now = c.turns.self in
+    let x = c.turns.state in
+    let good = c.turns.invariant.is_word in
+    let can = c.requires in
+    let g = c.turns.invariant.going can in
+    let t = c.word_under.new.self in
+    let later = c.in_ok-word_under.ensures.stands (fsm_test can now g.stands x good) in
+    omega (arith, c.in_ok-state-2.ensures.taken, later.left)
 
 pub control-returns-in_err-word-in-Branch : goal.control-returns-in_err-word-in-Branch
 control-returns-in_err-word-in-Branch t c =
@@ -761,13 +948,73 @@ control-returns-else-branch-eq1 t c =
     (c.body-else-branch-eq1.ensures (else_can mems (plain_expr c.in-Branch.test) (plain_stmts c.in-Branch.yes.items) (plain_stmts c.deref-else-branch-eq1.result.now) s can c.word.new.self c.in_ok-word-in-Branch.ensures.keeps)))
 
 pub fsm-returns-in_err-state : goal.fsm-returns-in_err-state
-fsm-returns-in_err-state t c = ?
+fsm-returns-in_err-state t c =
+    λ at can.
+    let a = c.args in
+    let mems = map plain_mem a.decls.now in
+    let s = a.self.now in
+    let start = plain_expr a.start.now in
+    let tested = a.binders.tested in
+    let test = plain_expr a.test.now in
+    let state = a.binders.state in
+    let body = plain_stmts a.body.now in
+    let last = a.binders.last in
+    let next = plain_expr a.next.now in
+    let begun = c.word.new.self in
+    let stop = c.in_err-state.field-0.0 in
+    finished_stop mems can.setting.roomy can.setting.scope s _ _ _ stop c.from_residual.ensures.1 (fsm_unstarted mems can.setting.roomy start tested test state body last next at s stop c.in_err-state.ensures.ran)
 
 pub fsm-returns-then-branch-ne1 : goal.fsm-returns-then-branch-ne1
-fsm-returns-then-branch-ne1 t c = ?
+fsm-returns-then-branch-ne1 t c =
+    λ at can.
+    let a = c.args in
+    let mems = map plain_mem a.decls.now in
+    let s = a.self.now in
+    let start = plain_expr a.start.now in
+    let tested = a.binders.tested in
+    let test = plain_expr a.test.now in
+    let state = a.binders.state in
+    let body = plain_stmts a.body.now in
+    let last = a.binders.last in
+    let next = plain_expr a.next.now in
+    let begun = c.word.new.self in
+    let first = c.in_ok-state.state in
+    let started = c.in_ok-state.ensures.ran in
+    let now = c.turns.self in
+    let x = c.turns.state in
+    let good = c.turns.invariant.is_word in
+    let g = c.turns.invariant.going can in
+    let t = c.word_under.new.self in
+    let later = c.in_ok-word_under.ensures.stands (fsm_test can now g.stands x good) in
+    (turned (length g.done) (shapes g.done) ∷ [], fsm_done mems can.setting.roomy start tested test state body last next at s first begun started g.done t.left (store_of t)
+    (fsm_over (test_of mems tested test) (fsm_turn mems can.setting.roomy state last body next) mems can.setting.roomy can.setting.scope _ s now x g t (test_goes mems tested test x now.left (store_of now) c.in_ok-word_under.field-0 t.left (store_of t) c.in_ok-word_under.ensures.ran false (ne_eqb _ _ c.if-branch-ne1.true))), stands_on g.stands later)
 
 pub fsm-returns-in_err-state-2 : goal.fsm-returns-in_err-state-2
-fsm-returns-in_err-state-2 t c = ?
+fsm-returns-in_err-state-2 t c =
+    λ at can.
+    let a = c.args in
+    let mems = map plain_mem a.decls.now in
+    let s = a.self.now in
+    let start = plain_expr a.start.now in
+    let tested = a.binders.tested in
+    let test = plain_expr a.test.now in
+    let state = a.binders.state in
+    let body = plain_stmts a.body.now in
+    let last = a.binders.last in
+    let next = plain_expr a.next.now in
+    let begun = c.word.new.self in
+    let first = c.in_ok-state.state in
+    let started = c.in_ok-state.ensures.ran in
+    let now = c.turns.self in
+    let x = c.turns.state in
+    let good = c.turns.invariant.is_word in
+    let g = c.turns.invariant.going can in
+    let t = c.word_under.new.self in
+    let later = c.in_ok-word_under.ensures.stands (fsm_test can now g.stands x good) in
+    let stop = c.in_err-state-2.field-0.0 in
+    finished_stop mems can.setting.roomy can.setting.scope s _ _ _ stop c.from_residual-in_err-state-2.ensures.1
+    (fsm_stopped mems can.setting.roomy start tested test state body last next at s first begun started stop
+    (fsm_halted (test_of mems tested test) (fsm_turn mems can.setting.roomy state last body next) mems can.setting.roomy can.setting.scope _ s now x g t (test_goes mems tested test x now.left (store_of now) c.in_ok-word_under.field-0 t.left (store_of t) c.in_ok-word_under.ensures.ran true (eq-eqb _ _ c.if-branch-ne1.false)) later.left stop (c.in_err-state-2.ensures.ran (fsm_can can t (stands_on g.stands later) x good)) (no_turn mems can.setting.roomy state last body next x)))
 
 pub statement-returns-in-Let : goal.statement-returns-in-Let
 statement-returns-in-Let t c = 
