@@ -14,6 +14,7 @@ use Rattle.sp_tree.specs.Sequential.{run, run_kind, run_all, name_now}
 use Rattle.sp_tree.specs.Shape.{Shape, ran, turned, shapes}
 use Rattle.sp_tree.specs.Step.{Step, Went, went, more, ◌>>=◌, ◌>>◌, pure, turn, change, as_long_as}
 use Rattle.sp_tree.specs.Store.{Store, name_value}
+use Rattle.sp_tree.specs.Structure.{vals_declared}
 use Rattle.sp_tree.specs.Typing.{Scope, after_all, with_counters}
 use Rattle.sp_seq.specs.declared.state.State.{State}
 use Rattle.sp_seq.specs.declared.state.Stop.{Stop}
@@ -79,9 +80,9 @@ module _ (mems : List PlainMem) (roomy : List ℕ) (state last : ℕ) (body : Pl
         turn_ends scope good before (Ok a) t g later fits = (ran (shapes inner), up_to_word ∙ bind_went (word_named mems last from next) _ w.left (store_of w) a t.left (store_of t) g, stands_on before later, fits)
         turn_ends scope good before (Err stop) t g later fits = up_to_word ∙ bind_halted (word_named mems last from next) _ w.left (store_of w) stop g
 
-pub turn_taken : {mems : List PlainMem} {roomy : List ℕ} {scope : Scope} {w t : State} (n : ℕ) (r : Result ℕ Stop) → w.left < n → OnOk r (Stands mems roomy scope w t) → OnOk r (t.left < n)
-turn_taken n (Ok a) l st = omega (arith, l, st.left)
-turn_taken n (Err stop) l st = tt
+pub turn_taken : (mems : List PlainMem) (roomy : List ℕ) (scope : Scope) (w t : State) (n : ℕ) (r : Result ℕ Stop) → w.left < n → OnOk r (Stands mems roomy scope w t) → OnOk r (t.left < n)
+turn_taken mems roomy scope w t n (Ok a) l st = omega (arith, l, st.left)
+turn_taken mems roomy scope w t n (Err stop) l st = tt
 
 -- the test of an FSM
 module _ (mems : List PlainMem) (tested : ℕ) (test : PlainExpr) (w left : ℕ) (s : Store) where
@@ -121,7 +122,7 @@ module _ {mems : List PlainMem} {start : PlainExpr} {tested : ℕ} {test : Plain
     ty = type_of start;
     is_word = is;
     fresh = can.typed.1;
-    inside = subst (λ n. tested < n) (sym st.values) (can.numbered.vals tested (contained_first tested _));
+    inside = subst (λ n. tested < n) (sym st.values) (can.numbered.vals tested (contained_first tested (state ∷ vals_declared body ++ last ∷ [])));
     typed = can.typed.2.0.0;
   }
 
@@ -134,7 +135,7 @@ module _ {mems : List PlainMem} {start : PlainExpr} {tested : ℕ} {test : Plain
     last_fresh = can.typed.5;
     typed = can.typed.4;
     next_typed = can.typed.6.0;
-    numbered = numbered_later st.values st.counts (numbered_some (λ m h. h) (λ v h. contained_later tested v _ h) (λ c h. h) can.numbered);
+    numbered = numbered_later st.values st.counts (numbered_some (λ m h. h) (λ v h. contained_later tested v (state ∷ vals_declared body ++ last ∷ []) h) (λ c h. h) can.numbered);
     told = can.told;
   }
 

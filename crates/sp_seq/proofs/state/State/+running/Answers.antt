@@ -758,7 +758,7 @@ fsm_turn-returns t c =
       taken =
           let can = c.requires in
           let f = c.in_ok-body.ensures (turn_body mems state last body next s a.from can u v c.in_ok-turn.ensures.keeps c.name.ensures.values c.name.ensures.others.0 c.name.ensures.others.1 c.name.ensures.others.2) in
-          turn_taken s.left r (omega (arith, c.in_ok-turn.ensures.taken, c.name.ensures.others.2, f.2.left)) (c.word_under.ensures.stands (turn_name mems state last body next s a.from can u v c.in_ok-turn.ensures.keeps c.name.ensures.values c.name.ensures.others.0 c.name.ensures.others.1 c.name.ensures.others.2 w f));
+          turn_taken mems can.setting.roomy can.setting.scope w c.word_under.new.self s.left r (omega (arith, c.in_ok-turn.ensures.taken, c.name.ensures.others.2, f.2.left)) (c.word_under.ensures.stands (turn_name mems state last body next s a.from can u v c.in_ok-turn.ensures.keeps c.name.ensures.values c.name.ensures.others.0 c.name.ensures.others.1 c.name.ensures.others.2 w f));
     }
 
 pub fsm-word-requires : goal.fsm-word-requires
