@@ -23,6 +23,7 @@ pub mod SeesLemmas
 pub mod SizeLemmas
 pub mod SliceLemmas
 pub mod SparseLemmas
+pub mod StartLemmas
 pub mod StepLemmas
 pub mod StoreLemmas
 pub mod TellLemmas

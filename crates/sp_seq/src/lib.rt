@@ -21,6 +21,7 @@ mod ring;
 mod seq;
 mod slice;
 mod sparse;
+mod start;
 mod state;
 mod transfer;
 mod words;
