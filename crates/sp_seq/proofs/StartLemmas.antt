@@ -41,7 +41,7 @@ module _ (p : PlainProgram) (input : PlainInput) where
   }
 
   -- the statements of the block can be run, once the turn of the entry is taken
-  pub can_begin : (s t : State) → IsLoaded p input s → Keeps s t → CanRunAll p.mems p.body t
+  abbrev pub can_begin : (s t : State) → IsLoaded p input s → Keeps s t → CanRunAll p.mems p.body t
   can_begin s t h k = record {
     setting = record { program = p; same = refl; scope = outer_scope p; roomy = roomy_in p.mems p.body; sees = sees_later h.sees k };
     typed = h.is_program.typed;

@@ -12,8 +12,8 @@ returns-in-Ok-clause-end c = ends_over (plain_program c.args.program.now) (plain
 pub returns-in-Ok-clause-left : goal.returns-in-Ok-clause-left
 returns-in-Ok-clause-left c = over (plain_program c.args.program.now) (plain_input c.args.input.now) c.args.turns c.enter.new.state c.in-Ok.ensures
 
-pub returns-in-Fault-clause-end : goal.returns-in-Fault-clause-end
-returns-in-Fault-clause-end c = ends_faulted (plain_program c.args.program.now) (plain_input c.args.input.now) c.args.turns c.enter.new.state _ _ c.in-Fault.ensures
+pub returns-in-Err-Fault-clause-end : goal.returns-in-Err-Fault-clause-end
+returns-in-Err-Fault-clause-end c = ends_faulted (plain_program c.args.program.now) (plain_input c.args.input.now) c.args.turns c.enter.new.state _ _ (rw c.in-Err-Fault.field-0-is at c.in-Err-Fault.ensures)
 
-pub returns-clause-end : goal.returns-clause-end
-returns-clause-end c = ends_unfinished (plain_program c.args.program.now) (plain_input c.args.input.now) c.args.turns c.enter.new.state c.in-Turns.ensures
+pub returns-in-Err-Turns-clause-end : goal.returns-in-Err-Turns-clause-end
+returns-in-Err-Turns-clause-end c = ends_unfinished (plain_program c.args.program.now) (plain_input c.args.input.now) c.args.turns c.enter.new.state (rw c.in-Err-Turns.field-0-is at c.in-Err-Turns.ensures)
