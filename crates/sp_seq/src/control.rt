@@ -151,13 +151,7 @@ impl State {
 
     /// The statements of a block, and its end.
     #[cycle(running)]
-    fn block(
-        &mut self,
-        decls: &[MemDecl],
-        body: &[Stmt],
-        style: Style,
-        at: u32,
-    ) -> Result<(), Stop>
+    fn block(&mut self, decls: &[MemDecl], body: &[Stmt], style: Style, at: u32) -> Result<(), Stop>
         requires { CanRun (map plain_mem decls.now) (plain.block style (plain_stmts body.now)) self.old }
         ensures { Runs (map plain_mem decls.now) (plain.block style (plain_stmts body.now)) at self.old result self.new }
     {

@@ -101,7 +101,7 @@ round-returns-in_err-turn-clause-ran t c = λ can.
     (bind_halted turn _ s.left (store_of s) c.in_err-turn.field-0.0 c.in_err-turn.ensures.ran)
 
 pub round-count_all-requires : goal.round-count_all-requires
-round-count_all-requires t c = 
+round-count_all-requires t c =
     let a = c.args in
     let mems = map plain_mem a.decls.now in
     let s = a.self.now in
@@ -110,7 +110,7 @@ round-count_all-requires t c =
     record { each = c.requires.each; digits = c.requires.digits; inside = round_counts mems counters body s c.requires.can c.turn.new.self c.in_ok-turn.ensures.keeps }
 
 pub round-body-requires : goal.round-body-requires
-round-body-requires t c = 
+round-body-requires t c =
     let a = c.args in
     let mems = map plain_mem a.decls.now in
     let s = a.self.now in
@@ -123,7 +123,7 @@ round-body-requires t c =
     (search (rules, the_lemmas), round_body mems counters body s can u v c.in_ok-turn.ensures.keeps st)
 
 pub round-returns : goal.round-returns
-round-returns t c = 
+round-returns t c =
     let a = c.args in
     let mems = map plain_mem a.decls.now in
     let s = a.self.now in
@@ -143,7 +143,7 @@ round-returns t c =
     }
 
 pub foreach-ranges-requires : goal.foreach-ranges-requires
-foreach-ranges-requires t c = 
+foreach-ranges-requires t c =
     let a = c.args in
     let mems = map plain_mem a.decls.now in
     let s = a.self.now in
@@ -153,7 +153,7 @@ foreach-ranges-requires t c =
     record { few = omega (arith, can.typed.1.one_to_four.1, length-map a.counters.now plain_counter); can = record { setting = can.setting; typed = can.typed.1.bounds } }
 
 pub foreach-returns-in_err-ranges : goal.foreach-returns-in_err-ranges
-foreach-returns-in_err-ranges t c =  λ style at can.
+foreach-returns-in_err-ranges t c = λ style at can.
     let a = c.args in
     let mems = map plain_mem a.decls.now in
     let s = a.self.now in
@@ -162,7 +162,7 @@ foreach-returns-in_err-ranges t c =  λ style at can.
     finished_stop mems can.setting.roomy _ s _ _ _ c.in_err-ranges.field-0.0 c.from_residual.ensures.1 (foreach_unranged mems can.setting.roomy counters body style at s.left (store_of s) c.in_err-ranges.field-0.0 c.in_err-ranges.ensures.ran)
 
 pub foreach-rounds-init : goal.foreach-rounds-init
-foreach-rounds-init t c = 
+foreach-rounds-init t c =
     let a = c.args in
     let mems = map plain_mem a.decls.now in
     let s = a.self.now in
@@ -178,7 +178,7 @@ foreach-rounds-init t c =
     }
 
 pub foreach-round-requires : goal.foreach-round-requires
-foreach-round-requires t c = 
+foreach-round-requires t c =
     let a = c.args in
     let mems = map plain_mem a.decls.now in
     let s = a.self.now in
@@ -195,7 +195,7 @@ foreach-round-requires t c =
     (search (rules, the_lemmas), (foreach_loop style can (inv.going style can).stands, (inv.same ∙ wide, inv.good c.rounds-test.true)))
 
 pub foreach-returns-in_err-round : goal.foreach-returns-in_err-round
-foreach-returns-in_err-round t c =  λ style at can.
+foreach-returns-in_err-round t c = λ style at can.
     let a = c.args in
     let mems = map plain_mem a.decls.now in
     let s = a.self.now in
@@ -210,7 +210,7 @@ foreach-returns-in_err-round t c =  λ style at can.
     (foreach_stopped mems can.setting.roomy counters body style at s.left (store_of s) (map values first) begun.left (store_of begun) c.in_ok-ranges.ensures.ran c.in_err-round.field-0.0 (foreach_stops mems counters body can.setting.roomy can.setting.scope s now c.rounds.digits c.rounds.more c.rounds-test.true _ g c.in_err-round.field-0.0 (c.in_err-round.ensures.ran (foreach_loop style can g.stands))))
 
 pub foreach-rounds-preserved : goal.foreach-rounds-preserved
-foreach-rounds-preserved t c = 
+foreach-rounds-preserved t c =
     let a = c.args in
     let mems = map plain_mem a.decls.now in
     let s = a.self.now in
@@ -230,7 +230,7 @@ pub foreach-rounds-smaller : goal.foreach-rounds-smaller
 foreach-rounds-smaller t c = c.in_ok-round.ensures.taken
 
 pub foreach-returns : goal.foreach-returns
-foreach-returns t c =  λ style at can.
+foreach-returns t c = λ style at can.
     let a = c.args in
     let mems = map plain_mem a.decls.now in
     let s = a.self.now in
@@ -244,7 +244,7 @@ foreach-returns t c =  λ style at can.
     (looped (map length (map values first)) (shapes g.done) ∷ [], foreach_done mems can.setting.roomy counters body style at s.left (store_of s) (map values first) begun.left (store_of begun) c.in_ok-ranges.ensures.ran g.done now.left (store_of now) (loop_over (foreach_step mems can.setting.roomy counters body) mems can.setting.roomy can.setting.scope _ s now _ g (ap (λ b. left_if b c.rounds.digits) c.rounds-test.false)), g.stands)
 
 pub reduce-ranges-requires : goal.reduce-ranges-requires
-reduce-ranges-requires t c = 
+reduce-ranges-requires t c =
     let a = c.args in
     let mems = map plain_mem a.decls.now in
     let s = a.self.now in
@@ -254,7 +254,7 @@ reduce-ranges-requires t c =
     record { few = omega (arith, can.typed.1.one_to_four.1, length-map a.counters.now plain_counter); can = record { setting = can.setting; typed = can.typed.1.bounds } }
 
 pub reduce-returns-in_err-ranges : goal.reduce-returns-in_err-ranges
-reduce-returns-in_err-ranges t c =  λ style can.
+reduce-returns-in_err-ranges t c = λ style can.
     let a = c.args in
     let mems = map plain_mem a.decls.now in
     let s = a.self.now in
@@ -263,7 +263,7 @@ reduce-returns-in_err-ranges t c =  λ style can.
     finished_stop mems can.setting.roomy _ s _ _ _ c.in_err-ranges.field-0.0 c.from_residual.ensures.1 (reduce_unranged mems can.setting.roomy counters body a.into.at a.into.acc a.into.comb style s.left (store_of s) a.fold (plain_expr a.value.now) c.in_err-ranges.field-0.0 c.in_err-ranges.ensures.ran)
 
 pub reduce-rounds-init : goal.reduce-rounds-init
-reduce-rounds-init t c = 
+reduce-rounds-init t c =
     let a = c.args in
     let mems = map plain_mem a.decls.now in
     let s = a.self.now in
@@ -279,7 +279,7 @@ reduce-rounds-init t c =
     }
 
 pub reduce-round-requires : goal.reduce-round-requires
-reduce-round-requires t c = 
+reduce-round-requires t c =
     let a = c.args in
     let mems = map plain_mem a.decls.now in
     let s = a.self.now in
@@ -296,7 +296,7 @@ reduce-round-requires t c =
     (search (rules, the_lemmas), (reduce_loop style a.fold a.into.acc (plain_expr a.value.now) a.into.comb can (inv.going style can).stands, (inv.same ∙ wide, inv.good c.rounds-test.true)))
 
 pub reduce-returns-in_err-round : goal.reduce-returns-in_err-round
-reduce-returns-in_err-round t c =  λ style can.
+reduce-returns-in_err-round t c = λ style can.
     let a = c.args in
     let mems = map plain_mem a.decls.now in
     let s = a.self.now in
@@ -311,7 +311,7 @@ reduce-returns-in_err-round t c =  λ style can.
     (reduce_stopped mems can.setting.roomy counters body a.into.at a.into.acc a.into.comb style s.left (store_of s) a.fold (plain_expr a.value.now) (map values first) begun.left (store_of begun) c.in_ok-ranges.ensures.ran c.in_err-round.field-0.0 (combine_stops mems counters body can.setting.roomy can.setting.scope s now c.rounds.digits c.rounds.more c.rounds-test.true (word_combined mems a.into.comb a.into.acc a.into.at (plain_expr a.value.now)) _ c.rounds.combines g c.in_err-round.field-0.0 (c.in_err-round.ensures.ran (reduce_loop style a.fold a.into.acc (plain_expr a.value.now) a.into.comb can g.stands))))
 
 pub reduce-rounds-preserved : goal.reduce-rounds-preserved
-reduce-rounds-preserved t c = 
+reduce-rounds-preserved t c =
     let a = c.args in
     let mems = map plain_mem a.decls.now in
     let s = a.self.now in
@@ -331,7 +331,7 @@ pub reduce-rounds-smaller : goal.reduce-rounds-smaller
 reduce-rounds-smaller t c = omega (arith, c.in_ok-round.ensures.taken, c.in_ok-combine_word.ensures.keeps.left)
 
 pub reduce-returns-in_err-combine_word : goal.reduce-returns-in_err-combine_word
-reduce-returns-in_err-combine_word t c =  λ style can.
+reduce-returns-in_err-combine_word t c = λ style can.
     let a = c.args in
     let mems = map plain_mem a.decls.now in
     let s = a.self.now in
@@ -346,7 +346,7 @@ reduce-returns-in_err-combine_word t c =  λ style can.
     (reduce_stopped mems can.setting.roomy counters body a.into.at a.into.acc a.into.comb style s.left (store_of s) a.fold (plain_expr a.value.now) (map values first) begun.left (store_of begun) c.in_ok-ranges.ensures.ran c.in_err-combine_word.field-0.0 (combine_stops_later mems counters body can.setting.roomy can.setting.scope s now c.rounds.digits c.rounds.more c.rounds-test.true (word_combined mems a.into.comb a.into.acc a.into.at (plain_expr a.value.now)) _ c.rounds.combines g c.round.new.self (c.in_ok-round.ensures.ran (reduce_loop style a.fold a.into.acc (plain_expr a.value.now) a.into.comb can g.stands)) c.in_err-combine_word.field-0.0 c.in_err-combine_word.ensures.ran))
 
 pub reduce-returns : goal.reduce-returns
-reduce-returns t c =  λ style can.
+reduce-returns t c = λ style can.
     let a = c.args in
     let mems = map plain_mem a.decls.now in
     let s = a.self.now in
@@ -360,7 +360,7 @@ reduce-returns t c =  λ style can.
     (looped (map length (map values first)) (shapes g.done) ∷ [], reduce_done mems can.setting.roomy counters body a.into.at a.into.acc a.into.comb style s.left (store_of s) a.fold (plain_expr a.value.now) (map values first) begun.left (store_of begun) c.in_ok-ranges.ensures.ran g.done now.left (store_of now) (loop_over (combine_step mems can.setting.roomy counters body (word_combined mems a.into.comb a.into.acc a.into.at (plain_expr a.value.now))) mems can.setting.roomy can.setting.scope _ s now _ g (ap (λ b. combining c.rounds.combines (left_if b c.rounds.digits)) c.rounds-test.false)), g.stands)
 
 pub mem_reduce-ranges-requires : goal.mem_reduce-ranges-requires
-mem_reduce-ranges-requires t c = 
+mem_reduce-ranges-requires t c =
     let a = c.args in
     let mems = map plain_mem a.decls.now in
     let s = a.self.now in
@@ -370,7 +370,7 @@ mem_reduce-ranges-requires t c =
     record { few = omega (arith, can.typed.1.one_to_four.1, length-map a.counters.now plain_counter); can = record { setting = can.setting; typed = can.typed.1.bounds } }
 
 pub mem_reduce-returns-in_err-ranges : goal.mem_reduce-returns-in_err-ranges
-mem_reduce-returns-in_err-ranges t c =  λ style can.
+mem_reduce-returns-in_err-ranges t c = λ style can.
     let a = c.args in
     let mems = map plain_mem a.decls.now in
     let s = a.self.now in
@@ -379,7 +379,7 @@ mem_reduce-returns-in_err-ranges t c =  λ style can.
     finished_stop mems can.setting.roomy _ s _ _ _ c.in_err-ranges.field-0.0 c.from_residual.ensures.1 (mem_reduce_unranged mems can.setting.roomy counters body a.into.at a.into.acc a.into.comb style s.left (store_of s) a.part c.in_err-ranges.field-0.0 c.in_err-ranges.ensures.ran)
 
 pub mem_reduce-rounds-init : goal.mem_reduce-rounds-init
-mem_reduce-rounds-init t c = 
+mem_reduce-rounds-init t c =
     let a = c.args in
     let mems = map plain_mem a.decls.now in
     let s = a.self.now in
@@ -395,7 +395,7 @@ mem_reduce-rounds-init t c =
     }
 
 pub mem_reduce-round-requires : goal.mem_reduce-round-requires
-mem_reduce-round-requires t c = 
+mem_reduce-round-requires t c =
     let a = c.args in
     let mems = map plain_mem a.decls.now in
     let s = a.self.now in
@@ -412,7 +412,7 @@ mem_reduce-round-requires t c =
     (search (rules, the_lemmas), (mem_reduce_loop style a.into.acc a.part a.into.comb can (inv.going style can).stands, (inv.same ∙ wide, inv.good c.rounds-test.true)))
 
 pub mem_reduce-returns-in_err-round : goal.mem_reduce-returns-in_err-round
-mem_reduce-returns-in_err-round t c =  λ style can.
+mem_reduce-returns-in_err-round t c = λ style can.
     let a = c.args in
     let mems = map plain_mem a.decls.now in
     let s = a.self.now in
@@ -427,7 +427,7 @@ mem_reduce-returns-in_err-round t c =  λ style can.
     (mem_reduce_stopped mems can.setting.roomy counters body a.into.at a.into.acc a.into.comb style s.left (store_of s) a.part (map values first) begun.left (store_of begun) c.in_ok-ranges.ensures.ran c.in_err-round.field-0.0 (combine_stops mems counters body can.setting.roomy can.setting.scope s now c.rounds.digits c.rounds.more c.rounds-test.true (part_combined mems a.into.comb a.into.acc a.part a.into.at) _ c.rounds.combines g c.in_err-round.field-0.0 (c.in_err-round.ensures.ran (mem_reduce_loop style a.into.acc a.part a.into.comb can g.stands))))
 
 pub mem_reduce-rounds-preserved : goal.mem_reduce-rounds-preserved
-mem_reduce-rounds-preserved t c = 
+mem_reduce-rounds-preserved t c =
     let a = c.args in
     let mems = map plain_mem a.decls.now in
     let s = a.self.now in
@@ -447,7 +447,7 @@ pub mem_reduce-rounds-smaller : goal.mem_reduce-rounds-smaller
 mem_reduce-rounds-smaller t c = omega (arith, c.in_ok-round.ensures.taken, c.in_ok-combine_all.ensures.keeps.left)
 
 pub mem_reduce-returns-in_err-combine_all : goal.mem_reduce-returns-in_err-combine_all
-mem_reduce-returns-in_err-combine_all t c =  λ style can.
+mem_reduce-returns-in_err-combine_all t c = λ style can.
     let a = c.args in
     let mems = map plain_mem a.decls.now in
     let s = a.self.now in
@@ -462,7 +462,7 @@ mem_reduce-returns-in_err-combine_all t c =  λ style can.
     (mem_reduce_stopped mems can.setting.roomy counters body a.into.at a.into.acc a.into.comb style s.left (store_of s) a.part (map values first) begun.left (store_of begun) c.in_ok-ranges.ensures.ran c.in_err-combine_all.field-0.0 (combine_stops_later mems counters body can.setting.roomy can.setting.scope s now c.rounds.digits c.rounds.more c.rounds-test.true (part_combined mems a.into.comb a.into.acc a.part a.into.at) _ c.rounds.combines g c.round.new.self (c.in_ok-round.ensures.ran (mem_reduce_loop style a.into.acc a.part a.into.comb can g.stands)) c.in_err-combine_all.field-0.0 c.in_err-combine_all.ensures.ran))
 
 pub mem_reduce-returns : goal.mem_reduce-returns
-mem_reduce-returns t c =  λ style can.
+mem_reduce-returns t c = λ style can.
     let a = c.args in
     let mems = map plain_mem a.decls.now in
     let s = a.self.now in
@@ -476,7 +476,7 @@ mem_reduce-returns t c =  λ style can.
     (looped (map length (map values first)) (shapes g.done) ∷ [], mem_reduce_done mems can.setting.roomy counters body a.into.at a.into.acc a.into.comb style s.left (store_of s) a.part (map values first) begun.left (store_of begun) c.in_ok-ranges.ensures.ran g.done now.left (store_of now) (loop_over (combine_step mems can.setting.roomy counters body (part_combined mems a.into.comb a.into.acc a.part a.into.at)) mems can.setting.roomy can.setting.scope _ s now _ g (ap (λ b. combining c.rounds.combines (left_if b c.rounds.digits)) c.rounds-test.false)), g.stands)
 
 pub control-returns-in-Block : goal.control-returns-in-Block
-control-returns-in-Block t c = 
+control-returns-in-Block t c =
     let a = c.args in
     let mems = map plain_mem a.decls.now in
     let s = a.self.now in
@@ -484,7 +484,7 @@ control-returns-in-Block t c =
     subst (λ k. Runs mems k a.at s c.block.result c.block.new.self) (sym e) (c.block.ensures)
 
 pub control-block-requires : goal.control-block-requires
-control-block-requires t c = 
+control-block-requires t c =
     let a = c.args in
     let mems = map plain_mem a.decls.now in
     let s = a.self.now in
@@ -492,7 +492,7 @@ control-block-requires t c =
     (search (rules, the_lemmas), subst (λ k. CanRun mems k s) e c.requires)
 
 pub control-returns-in-Foreach : goal.control-returns-in-Foreach
-control-returns-in-Foreach t c = 
+control-returns-in-Foreach t c =
     let a = c.args in
     let mems = map plain_mem a.decls.now in
     let s = a.self.now in
@@ -500,7 +500,7 @@ control-returns-in-Foreach t c =
     subst (λ k. Runs mems k a.at s c.foreach.result c.foreach.new.self) (sym e) (c.foreach.ensures c.in-Foreach.style a.at)
 
 pub control-foreach-requires : goal.control-foreach-requires
-control-foreach-requires t c = 
+control-foreach-requires t c =
     let a = c.args in
     let mems = map plain_mem a.decls.now in
     let s = a.self.now in
@@ -508,21 +508,21 @@ control-foreach-requires t c =
     (search (rules, the_lemmas), (c.in-Foreach.style, subst (λ k. CanRun mems k s) e c.requires))
 
 pub statement-returns-in-Declare : goal.statement-returns-in-Declare
-statement-returns-in-Declare t c = 
+statement-returns-in-Declare t c =
     let a = c.args in
     let mems = map plain_mem a.decls.now in
     let s = a.self.now in
     subst (λ k. Runs mems k a.at s (Ok tt) c.declare.new.self) (sym (ap plain_stmt_kind c.in-Declare.is)) (λ can. c.declare.ensures a.at can)
 
 pub statement-returns-in-Control : goal.statement-returns-in-Control
-statement-returns-in-Control t c = 
+statement-returns-in-Control t c =
     let a = c.args in
     let mems = map plain_mem a.decls.now in
     let s = a.self.now in
     subst (λ k. Runs mems k a.at s c.control.result c.control.new.self) (sym (ap plain_stmt_kind c.in-Control.is)) (subst (λ ctl. Runs mems (plain_ctl ctl) a.at s c.control.result c.control.new.self) c.deref-in-Control.ensures c.control.ensures)
 
 pub control-reduce-requires : goal.control-reduce-requires
-control-reduce-requires t c = 
+control-reduce-requires t c =
     let a = c.args in
     let mems = map plain_mem a.decls.now in
     let s = a.self.now in
@@ -530,7 +530,7 @@ control-reduce-requires t c =
     (omega (arith, reduce_falls c.in-Reduce.style c.in-Reduce.fold c.in-Reduce.acc c.in-Reduce.counters c.in-Reduce.body c.in-Reduce.value c.in-Reduce.comb, ap ctl_size c.in-Reduce.is, ap body_size c.deref-in-Reduce.ensures.value), (c.in-Reduce.style, subst (λ k. CanRun mems k s) e c.requires))
 
 pub control-returns-in-Reduce : goal.control-returns-in-Reduce
-control-returns-in-Reduce t c = 
+control-returns-in-Reduce t c =
     let a = c.args in
     let mems = map plain_mem a.decls.now in
     let s = a.self.now in
@@ -554,7 +554,7 @@ control-returns-in-MemReduce t c =
     subst (λ k. Runs mems k a.at s c.mem_reduce.result c.mem_reduce.new.self) (sym e) (c.mem_reduce.ensures c.in-MemReduce.style)
 
 pub control-fsm-requires : goal.control-fsm-requires
-control-fsm-requires t c = 
+control-fsm-requires t c =
     let a = c.args in
     let mems = map plain_mem a.decls.now in
     let s = a.self.now in
@@ -562,7 +562,7 @@ control-fsm-requires t c =
     (omega (arith, fsm_falls c.in-Fsm.start c.in-Fsm.tested c.in-Fsm.test c.in-Fsm.state c.in-Fsm.body c.in-Fsm.last c.in-Fsm.next, ap ctl_size c.in-Fsm.is, ap body_size c.deref-in-Fsm.ensures.value), subst (λ k. CanRun mems k s) e c.requires)
 
 pub control-returns-in-Fsm : goal.control-returns-in-Fsm
-control-returns-in-Fsm t c = 
+control-returns-in-Fsm t c =
     let a = c.args in
     let mems = map plain_mem a.decls.now in
     let s = a.self.now in
@@ -570,7 +570,7 @@ control-returns-in-Fsm t c =
     subst (λ k. Runs mems k a.at s c.fsm.result c.fsm.new.self) (sym e) (c.fsm.ensures a.at)
 
 pub control-word-requires : goal.control-word-requires
-control-word-requires t c = 
+control-word-requires t c =
     let a = c.args in
     let mems = map plain_mem a.decls.now in
     let s = a.self.now in
@@ -587,7 +587,7 @@ control-body-requires t c =
     (omega (arith, then_falls c.in-Branch.test c.in-Branch.yes c.in-Branch.no, ap ctl_size c.in-Branch.is, ap body_size c.deref-then-branch-eq1.ensures.value), then_can mems (plain_expr c.in-Branch.test) (plain_stmts c.deref-then-branch-eq1.result.now) (plain_stmts c.in-Branch.no.items) s (subst (λ k. CanRun mems k s) e c.requires) c.word.new.self c.in_ok-word-in-Branch.ensures.keeps)
 
 pub block-body-requires : goal.block-body-requires
-block-body-requires t c = 
+block-body-requires t c =
     let a = c.args in
     let mems = map plain_mem a.decls.now in
     let s = a.self.now in
@@ -684,7 +684,7 @@ fsm_turn-returns-in_err-turn t c =
     }
 
 pub fsm_turn-name-requires : goal.fsm_turn-name-requires
-fsm_turn-name-requires t c = 
+fsm_turn-name-requires t c =
     let a = c.args in
     let mems = map plain_mem a.decls.now in
     let s = a.self.now in
@@ -695,7 +695,7 @@ fsm_turn-name-requires t c =
     turn_named mems a.binders.state a.binders.last body next s a.from can u c.in_ok-turn.ensures.keeps
 
 pub fsm_turn-body-requires : goal.fsm_turn-body-requires
-fsm_turn-body-requires t c = 
+fsm_turn-body-requires t c =
     let a = c.args in
     let mems = map plain_mem a.decls.now in
     let s = a.self.now in
@@ -726,7 +726,7 @@ fsm_turn-returns-in_err-body t c =
     }
 
 pub fsm_turn-word_under-requires : goal.fsm_turn-word_under-requires
-fsm_turn-word_under-requires t c = 
+fsm_turn-word_under-requires t c =
     let a = c.args in
     let mems = map plain_mem a.decls.now in
     let s = a.self.now in
@@ -762,7 +762,7 @@ fsm_turn-returns t c =
     }
 
 pub fsm-word-requires : goal.fsm-word-requires
-fsm-word-requires t c = 
+fsm-word-requires t c =
     let a = c.args in
     let mems = map plain_mem a.decls.now in
     let s = a.self.now in
@@ -985,9 +985,12 @@ fsm-returns-then-branch-ne1 t c =
     let good = c.turns.invariant.is_word in
     let g = c.turns.invariant.going can in
     let t = c.word_under.new.self in
-    let later = c.in_ok-word_under.ensures.stands (fsm_test can now g.stands x good) in
-    (turned (length g.done) (shapes g.done) ∷ [], fsm_done mems can.setting.roomy start tested test state body last next at s first begun started g.done t.left (store_of t)
-    (fsm_over (test_of mems tested test) (fsm_turn mems can.setting.roomy state last body next) mems can.setting.roomy can.setting.scope _ s now x g t (test_goes mems tested test x now.left (store_of now) c.in_ok-word_under.field-0 t.left (store_of t) c.in_ok-word_under.ensures.ran false (ne_eqb _ _ c.if-branch-ne1.true))), stands_on g.stands later)
+    let later = c.in_ok-word_under.ensures.stands (fsm_test can now g.stands x good) in (
+      turned (length g.done) (shapes g.done) ∷ [],
+      fsm_done mems can.setting.roomy start tested test state body last next at s first begun started g.done t.left (store_of t)
+          (fsm_over (test_of mems tested test) (fsm_turn mems can.setting.roomy state last body next) mems can.setting.roomy can.setting.scope _ s now x g t (test_goes mems tested test x now.left (store_of now) c.in_ok-word_under.field-0 t.left (store_of t) c.in_ok-word_under.ensures.ran false (ne_eqb _ _ c.if-branch-ne1.true))),
+      stands_on g.stands later,
+    )
 
 pub fsm-returns-in_err-state-2 : goal.fsm-returns-in_err-state-2
 fsm-returns-in_err-state-2 t c =
@@ -1017,7 +1020,7 @@ fsm-returns-in_err-state-2 t c =
     (fsm_halted (test_of mems tested test) (fsm_turn mems can.setting.roomy state last body next) mems can.setting.roomy can.setting.scope _ s now x g t (test_goes mems tested test x now.left (store_of now) c.in_ok-word_under.field-0 t.left (store_of t) c.in_ok-word_under.ensures.ran true (eq-eqb _ _ c.if-branch-ne1.false)) later.left stop (c.in_err-state-2.ensures.ran (fsm_can can t (stands_on g.stands later) x good)) (no_turn mems can.setting.roomy state last body next x)))
 
 pub statement-returns-in-Let : goal.statement-returns-in-Let
-statement-returns-in-Let t c = 
+statement-returns-in-Let t c =
     let a = c.args in
     let mems = map plain_mem a.decls.now in
     let s = a.self.now in
@@ -1025,7 +1028,7 @@ statement-returns-in-Let t c =
     subst (λ k. Runs mems k a.at s c.name_word.result c.name_word.new.self) (sym e) (λ can. c.name_word.ensures a.at can)
 
 pub statement-returns-in-SetReg : goal.statement-returns-in-SetReg
-statement-returns-in-SetReg t c = 
+statement-returns-in-SetReg t c =
     let a = c.args in
     let mems = map plain_mem a.decls.now in
     let s = a.self.now in
@@ -1033,7 +1036,7 @@ statement-returns-in-SetReg t c =
     subst (λ k. Runs mems k a.at s c.set_reg.result c.set_reg.new.self) (sym e) (λ can. c.set_reg.ensures a.at can)
 
 pub statement-returns-in-SetOut : goal.statement-returns-in-SetOut
-statement-returns-in-SetOut t c = 
+statement-returns-in-SetOut t c =
     let a = c.args in
     let mems = map plain_mem a.decls.now in
     let s = a.self.now in
@@ -1049,7 +1052,7 @@ statement-returns-in-SetSram t c =
     subst (λ k. Runs mems k a.at s c.set_sram.result c.set_sram.new.self) (sym e) (λ can. c.set_sram.ensures can)
 
 pub statement-returns-in-Enq : goal.statement-returns-in-Enq
-statement-returns-in-Enq t c = 
+statement-returns-in-Enq t c =
     let a = c.args in
     let mems = map plain_mem a.decls.now in
     let s = a.self.now in
@@ -1081,7 +1084,7 @@ statement-returns-in-Store t c =
     subst (λ k. Runs mems k a.at s c.store.result c.store.new.self) (sym e) (λ can. c.store.ensures can)
 
 pub statement-returns-in-Gather : goal.statement-returns-in-Gather
-statement-returns-in-Gather t c = 
+statement-returns-in-Gather t c =
     let a = c.args in
     let mems = map plain_mem a.decls.now in
     let s = a.self.now in
@@ -1089,10 +1092,9 @@ statement-returns-in-Gather t c =
     subst (λ k. Runs mems k a.at s c.gather.result c.gather.new.self) (sym e) (λ can. c.gather.ensures can)
 
 pub statement-returns-in-Scatter : goal.statement-returns-in-Scatter
-statement-returns-in-Scatter t c = 
+statement-returns-in-Scatter t c =
     let a = c.args in
     let mems = map plain_mem a.decls.now in
     let s = a.self.now in
     let e = ap plain_stmt_kind c.in-Scatter.is ∙ ap (λ n. plain.scatter n c.in-Scatter.places (plain_expr c.in-Scatter.count) c.in-Scatter.sram) (sym c.number-in-Scatter.ensures) ∙ ap (λ n. plain.scatter c.number-in-Scatter.result n (plain_expr c.in-Scatter.count) c.in-Scatter.sram) (sym c.number-in-Scatter-2.ensures) ∙ ap (λ n. plain.scatter c.number-in-Scatter.result c.number-in-Scatter-2.result (plain_expr c.in-Scatter.count) n) (sym c.number-in-Scatter-3.ensures) in
     subst (λ k. Runs mems k a.at s c.scatter.result c.scatter.new.self) (sym e) (λ can. c.scatter.ensures can)
-
