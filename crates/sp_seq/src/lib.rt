@@ -10,6 +10,7 @@ mod digit;
 mod element;
 mod end;
 mod evaluation;
+mod line;
 mod load;
 mod memory;
 mod operators;
