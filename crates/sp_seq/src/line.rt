@@ -1,9 +1,11 @@
 //! Loads of line buffers.
 ghost use Rattle.std.specs.Prelude.{◌≡◌, ℕ, ◌-◌, ◌<◌, ◌^◌, ◌++◌, ◌∷◌, [], map, length, drop, slice_index, slice_index_or, slice_set, OnOk};
+ghost use Rattle.sp_words.specs.declared.kind.Kind.{Kind};
 ghost use Rattle.sp_words.specs.Interface.{word_count};
 ghost use Rattle.sp_words.specs.Memory.{rows};
 ghost use Rattle.sp_tree.specs.Expressions.{dims};
 ghost use Rattle.sp_tree.specs.Plain.{plain_mem};
+ghost use Rattle.sp_tree.specs.PlainProgram.{PlainMem};
 ghost use Rattle.sp_tree.specs.PlainStatement as plain;
 ghost use Rattle.sp_tree.specs.PlainTree.{plain_span};
 ghost use Rattle.sp_tree.specs.Store.{hold};
@@ -14,7 +16,7 @@ ghost use Rattle.sp_seq.specs.Lines.{newest, with_word, word_of_slice, CanFill, 
 ghost use Rattle.sp_seq.specs.Rows.{no_cells};
 ghost use Rattle.sp_seq.specs.Running.{CanRun};
 ghost use Rattle.sp_seq.specs.Slices.{offsets_at, plain_parts, RanSome};
-ghost use Rattle.sp_seq.specs.States.{blank, store_of, CellRows, IsLive, Keeps};
+ghost use Rattle.sp_seq.specs.States.{blank, store_of, CellRows, IsLive, IsStorage, Keeps};
 
 use crate::cells::Cells;
 use crate::memory::Storage;
@@ -26,7 +28,8 @@ use sp_tree::{FaultKind, MemDecl, Span};
 /// The oldest row leaves, and a row without words becomes the newest.
 fn shift(rows: &mut Vec<Cells>)
     requires { 0 < length rows.old.items }
-    ensures { rows.new.items ≡ drop 1 rows.old.items ++ blank (slice_index_or rows.old.items 0 no_cells) ∷ [] }
+    ensures rows { rows.new.items ≡ drop 1 rows.old.items ++ blank (slice_index_or rows.old.items 0 no_cells) ∷ [] }
+    ensures stored { (d : PlainMem) (n : ℕ) (kind : Kind) → IsStorage d n kind (storages.Rows rows.old) → IsStorage d n kind (storages.Rows rows.new) }
 {
     rows.rotate_left(1);
     let last = rows.len() - 1;
@@ -38,7 +41,8 @@ fn write_newest(rows: &mut Vec<Cells>, column: usize, word: u64)
     requires some { 0 < length rows.old.items }
     requires inside { column < length (newest rows.old.items).cells }
     requires fits { word < 2 ^ (newest rows.old.items).width }
-    ensures { rows.new.items ≡ slice_set rows.old.items (length rows.old.items - 1) (with_word (newest rows.old.items) column word) }
+    ensures rows { rows.new.items ≡ slice_set rows.old.items (length rows.old.items - 1) (with_word (newest rows.old.items) column word) }
+    ensures stored { (d : PlainMem) (n : ℕ) (kind : Kind) → IsStorage d n kind (storages.Rows rows.old) → IsStorage d n kind (storages.Rows rows.new) }
 {
     let last = rows.len() - 1;
     rows[last].set(column, word);
