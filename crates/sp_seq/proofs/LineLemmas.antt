@@ -1,10 +1,9 @@
 -- How rows of line buffers shift and fill, and how the words of a load are read.
-use Rattle.std.proofs.Common.{◌≡◌, ◌≢◌, ℕ, zero, suc, ◌+◌, ◌-◌, ◌*◌, ◌<◌, ◌≤◌, ◌^◌, Bool, true, false, List, [], ◌∷◌, ◌++◌, Option, Some, None, map, length, get_or, set, take, drop, replicate, ⊎_elim, refl, sym, ◌∙◌, ap, ap₂, subst, arith, All}
-use Rattle.std.specs.Prelude.{Result, Ok, Err, ◌==◌, ◌&&◌}
+use Rattle.std.proofs.Common.{◌≡◌, ◌≢◌, ℕ, zero, suc, ◌+◌, ◌-◌, ◌<◌, ◌≤◌, ◌^◌, Bool, true, false, List, [], ◌∷◌, ◌++◌, Option, Some, None, map, length, get_or, set, take, drop, replicate, ⊎_elim, refl, sym, ◌∙◌, ap, ap₂, subst, arith, All}
+use Rattle.std.specs.Prelude.{◌==◌, ◌&&◌}
 use mathlib.Core.Path.{fun_ext}
-use Rattle.std.proofs.Math.Nat.{mul-le-mul_right}
 use Rattle.std.proofs.lemmas.Bool.{cases_lt, cases_eq, eq-eqb, ne_eqb, leb-true}
-use Rattle.std.proofs.lemmas.List.{length_push, get_or_append_left, get_or_push, get_or_at, get_or-drop, get_or-map, get_or_read, get_or-set_same, get_or-set_other, length-set, length-map, length-drop, length-replicate, map-set, map_push, drop-map, set_at, take_all}
+use Rattle.std.proofs.lemmas.List.{length_push, get_or_append_left, get_or_push, get_or_at, get_or-map, get_or_read, get_or-set_same, get_or-set_other, length-set, length-map, length-replicate, map-set, map_push, drop-map, set_at, take_all}
 use Rattle.sp_words.specs.declared.types.Ty.{Ty}
 use Rattle.sp_words.specs.declared.kind.Kind.{Kind}
 use Rattle.sp_words.specs.declared.kind.Kind.TheVariants.{Reg, Sram, Fifo, LineBuf, Dram, ArgIn, ArgOut}
@@ -12,16 +11,16 @@ use Rattle.sp_words.specs.Interface.{IsCount, word_count}
 use Rattle.sp_words.specs.Memory.{Contents, rows}
 use Rattle.sp_words.specs.Types.{width_of}
 use Rattle.sp_tree.specs.declared.statement.FaultKind.TheVariants.{RowLength}
-use Rattle.sp_tree.specs.Accesses.{read_word, hold_now}
+use Rattle.sp_tree.specs.Accesses.{read_word}
 use Rattle.sp_tree.specs.Elements.{row_major}
 use Rattle.sp_tree.specs.Declarations.{HasRank}
 use Rattle.sp_tree.specs.Expressions.{mem, dims}
 use Rattle.sp_tree.specs.PlainProgram.{PlainMem, no_mem}
 use Rattle.sp_tree.specs.PlainStatement.{PlainSpan, single, range, load_line}
 use Rattle.sp_tree.specs.Sequential.{part, run, run_kind}
-use Rattle.sp_tree.specs.Shape.{Shape, moved}
-use Rattle.sp_tree.specs.Step.{Step, Went, went, more, ◌>>=◌, ◌>>◌, pure, turn, read, change, in_order}
-use Rattle.sp_tree.specs.Store.{Store, changed, hold, rows_of, words_of}
+use Rattle.sp_tree.specs.Shape.{moved}
+use Rattle.sp_tree.specs.Step.{Step, went, more, ◌>>=◌, ◌>>◌, pure, turn, read, change, in_order}
+use Rattle.sp_tree.specs.Store.{Store, hold, rows_of, words_of}
 use Rattle.sp_tree.specs.Structure.{slice_lanes}
 use Rattle.sp_tree.specs.Transfers as transfers
 use Rattle.sp_tree.specs.Typing.{range_count, EndsInRange, IsMem}

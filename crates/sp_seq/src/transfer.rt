@@ -84,7 +84,12 @@ impl State {
     }
 
     /// What spans take, in order.
-    pub(crate) fn parts(&mut self, decls: &[MemDecl], spans: &[Span], found: &mut [Part]) -> Result<(), Stop>
+    pub(crate) fn parts(
+        &mut self,
+        decls: &[MemDecl],
+        spans: &[Span],
+        found: &mut [Part],
+    ) -> Result<(), Stop>
         requires few { length spans.now ≤ length found.old }
         requires can { CanSpan (map plain_mem decls.now) (map plain_span spans.now) self.old }
         ensures ran { Ran (in_order (sequential.part (map plain_mem decls.now)) (map plain_span spans.now) self.old.left (store_of self.old)) (with_answer (plain_parts (take (length spans.now) found.new)) result) self.new }

@@ -1,4 +1,4 @@
-use Rattle.std.proofs.Common.{◌<◌, ◌^◌, map, length, drop, get_or, sym, ◌∙◌, ap, subst, arith, All}
+use Rattle.std.proofs.Common.{◌<◌, ◌^◌, length, drop, get_or, sym, ◌∙◌, ap, subst, arith, All}
 use Rattle.std.proofs.lemmas.List.{length-map, take_rest}
 use Rattle.sp_words.specs.Interface.{IsCount, word_count}
 use Rattle.sp_tree.specs.Elements.{row_major}
