@@ -10,6 +10,7 @@ pub mod DigitLemmas
 pub mod EvaluationLemmas
 pub mod FsmLemmas
 pub mod GivenLemmas
+pub mod LineLemmas
 pub mod LoadLemmas
 pub mod LoopLemmas
 pub mod OftenLemmas
