@@ -1,19 +1,18 @@
-use Rattle.std.proofs.Common.{◌≡◌, eq-eqb, ne_eqb, ◌<◌, ◌≤◌, ◌+◌, ◌∷◌, [], map, length, take, drop, true, false, refl, sym, ◌∙◌, ap, ap₂, subst, rules, arith, length-take-le}
+use Rattle.std.proofs.Common.{◌≡◌, eq-eqb, ne_eqb, ◌+◌, ◌∷◌, [], map, length, take, drop, true, false, refl, sym, ◌∙◌, ap, ap₂, subst, rules, arith, length-take-le}
 use Rattle.std.specs.Prelude.{◌==◌, IfOk, Ok}
 use Rattle.sp_words.specs.Words.{IsWord}
 use Rattle.std.proofs.lemmas.List.{length-map}
 use Rattle.sp_words.specs.declared.kind.Style.TheVariants.{Stream, Pipe, Sequential, Parallel}
 use Rattle.sp_tree.specs.declared.statement.Ctl.{the_lemmas}
-use Rattle.sp_tree.specs.Elements.{tuples}
 use Rattle.sp_tree.specs.Plain.{plain_expr, plain_exprs, plain_mem}
 use Rattle.sp_tree.specs.PlainStatement as plain
 use Rattle.sp_tree.specs.PlainTree.{plain_counter, plain_ctl, plain_span, plain_stmt_kind, plain_stmts}
 use Rattle.sp_tree.specs.Sequential.{run_all, combining}
 use Rattle.sp_tree.specs.Shape.{looped, turned, shapes}
-use Rattle.sp_tree.specs.Step.{in_order, turn}
-use Rattle.sp_tree.specs.Typing.{after_all, with_counters}
-use Rattle.sp_seq.specs.Controlling.{Runs, fsm_turn, round}
-use Rattle.sp_seq.specs.Looping.{current, values, left_if, tuples_left, word_combined, part_combined}
+use Rattle.sp_tree.specs.Step.{turn}
+use Rattle.sp_tree.specs.Typing.{after_all}
+use Rattle.sp_seq.specs.Controlling.{Runs, fsm_turn}
+use Rattle.sp_seq.specs.Looping.{current, values, left_if, word_combined, part_combined}
 use Rattle.sp_seq.specs.Running.{CanRun}
 use Rattle.sp_seq.specs.States.{store_of}
 use Rattle.sp_seq.proofs.ArmLemmas.{body_size, ctl_size, reduce_falls, mem_reduce_falls, fsm_falls, then_falls, else_falls, block_stops, block_ends, block_body, pipe_end, sequential_end, parallel_end, stream_end, branch_stops, branch_then, branch_else, then_can, else_can}
@@ -24,7 +23,7 @@ use Rattle.sp_seq.proofs.FsmLemmas.{fsm_start, fsm_untested, fsm_over, fsm_halte
 use Rattle.sp_seq.proofs.RoundLemmas.{foreach_step, foreach_unranged, foreach_stopped, foreach_done, combine_step, reduce_unranged, reduce_stopped, reduce_done, mem_reduce_unranged, mem_reduce_stopped, mem_reduce_done, loop_over}
 use Rattle.sp_seq.proofs.RunningLemmas.{finished_stop, stands_kept}
 use Rattle.sp_seq.proofs.ScopeLemmas.{stands_on}
-use Rattle.sp_seq.proofs.SeesLemmas.{setting_later, sees_later}
+use Rattle.sp_seq.proofs.SeesLemmas.{sees_later}
 use Rattle.sp_seq.proofs.StepLemmas.{bind_halted}
 use Rattle.sp_seq.proofs.TreeLemmas.{block_is, foreach_is, reduce_is, mem_reduce_is, fsm_is, branch_is}
 use Rattle.sp_seq.proofs.TurnLemmas.{finished_with_stop, not_ok, no_turn, turn_halts, body_halts, turn_ends, turn_taken, test_halts, test_goes, fsm_unstarted, fsm_stopped, fsm_done, fsm_test, fsm_can, reduce_combines, mem_reduce_combines}
