@@ -1,4 +1,4 @@
-use Rattle.std.proofs.Common.{◌≡◌, eq-eqb, ne_eqb, ◌+◌, ◌∷◌, [], map, length, take, drop, true, false, refl, sym, ◌∙◌, ap, ap₂, subst, rules, arith, length-take-le}
+use Rattle.std.proofs.Common.{◌≡◌, eq-eqb, ne_eqb, ◌+◌, ◌∷◌, [], map, length, take, drop, true, false, refl, sym, ◌∙◌, ap, subst, rules, arith, length-take-le}
 use Rattle.std.specs.Prelude.{◌==◌, IfOk, Ok}
 use Rattle.sp_words.specs.Words.{IsWord}
 use Rattle.std.proofs.lemmas.List.{length-map}
