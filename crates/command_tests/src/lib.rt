@@ -4,6 +4,8 @@
 #[cfg(test)]
 mod commands;
 #[cfg(test)]
+mod kernels;
+#[cfg(test)]
 mod setup;
 #[cfg(test)]
 mod simulation;
