@@ -188,7 +188,7 @@ def expected(kernel):
 def plain(text):
     """A program without comments and line ends, its numbers without a type of fractions behind them."""
     text = re.sub(r'//.*', '', text)
-    return ' '.join(re.sub(r'(\d)\.to\[FixPt[^]]*\]', r'\1', text).split())
+    return ' '.join(re.sub(r'(\d)\.to\[FixPt[^]]*\]\]', r'\1', text).split())
 
 
 def call(*words):
