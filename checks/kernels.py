@@ -16,6 +16,7 @@ import re
 import subprocess
 import sys
 import tomllib
+import zlib
 from fractions import Fraction
 
 HERE = os.path.dirname(os.path.abspath(__file__))
@@ -127,7 +128,24 @@ def sparse(columns, words, vector):
     return {'product': product}, 1 + 1 + loop(16, row) + transfer(16)
 
 
-KERNELS = [dot, matrix, transpose, histogram, prefix_sum, fir, convolution, power, gcd, biquad, sparse]
+def pooling(image):
+    rows = rows_of(image, 16)
+    pooled = [max(flat(line[column:column + 2] for line in rows[row:row + 2])) for row in range(0, 16, 2) for column in range(0, 16, 2)]
+    row = 2 + transfer(32) + loop(8, 1 + loop(4, 0) + 1) + transfer(8)
+    return {'pooled': pooled}, 1 + loop(8, row)
+
+
+def sort(words):
+    turns = 1 + 2 + transfer(64) + loop(64, 1 + loop(64, 2) + 1) + transfer(64)
+    return {'sorted': sorted(words)}, turns
+
+
+def crc(text):
+    turns = 1 + 2 + transfer(64) + 1 + loop(64, 1 + loop(8, 1)) + 1
+    return {'crc': zlib.crc32(bytes(text))}, turns
+
+
+KERNELS = [dot, matrix, transpose, histogram, prefix_sum, fir, convolution, pooling, power, gcd, biquad, sparse, sort, crc]
 
 
 def text_of(name):
@@ -135,59 +153,68 @@ def text_of(name):
         return text.read()
 
 
+class Type:
+    """The type of a port: its words are whole numbers, divided by 2 to the fraction bits."""
+
+    def __init__(self, signed, whole, frac):
+        self.signed, self.width, self.frac = signed, whole + frac, frac
+
+    def wrapped(self, number):
+        least = -2 ** (self.width - 1) if self.signed else 0
+        return (number - least) % 2 ** self.width + least
+
+    def word_of(self, number):
+        word = math.floor(Fraction(str(number).strip()) * 2 ** self.frac)
+        if word != self.wrapped(word):
+            raise ValueError(f'{number} is out of range')
+        return word
+
+    def text_of(self, number):
+        """The exact decimal of a whole number, wrapped to a word."""
+        word = self.wrapped(number)
+        digits = str(abs(word) * 5 ** self.frac).rjust(self.frac + 1, '0')
+        whole, fraction = digits[:len(digits) - self.frac], digits[len(digits) - self.frac:].rstrip('0')
+        return ('-' if word < 0 else '') + whole + ('.' + fraction if fraction else '')
+
+
 def ports_of(text):
-    """The arguments, outputs and DRAMs of a program: kind, name, bits, fraction bits and words of each."""
-    for name, kind, whole, frac, dims in re.findall(
-            r'^val (\w+) = (ArgIn|ArgOut|DRAM)\[(?:Int|FixPt\[TRUE,_(\d+),_(\d+)\])\](?:\((.*)\))?', text, re.M):
-        frac = int(frac or 0)
-        yield kind, name, int(whole or 32) + frac, frac, math.prod(map(int, dims.split(', '))) if dims else 1
-
-
-def word_of(number, bits, frac):
-    word = math.floor(Fraction(str(number).strip()) * 2 ** frac)
-    if not -2 ** (bits - 1) <= word < 2 ** (bits - 1):
-        raise ValueError(f'{number} is out of range')
-    return word
-
-
-def value_text(word, bits, frac):
-    """The exact decimal of a whole number, wrapped to a word with a sign."""
-    word = (word + 2 ** (bits - 1)) % 2 ** bits - 2 ** (bits - 1)
-    digits = str(abs(word) * 5 ** frac).rjust(frac + 1, '0')
-    whole, fraction = digits[:len(digits) - frac], digits[len(digits) - frac:].rstrip('0')
-    return ('-' if word < 0 else '') + whole + ('.' + fraction if fraction else '')
+    """The arguments, outputs and DRAMs of a program: kind, name, type and number of words of each."""
+    for name, kind, sign, whole, frac, dims in re.findall(
+            r'^val (\w+) = (ArgIn|ArgOut|DRAM)\[(?:Int|FixPt\[(TRUE|FALSE),_(\d+),_(\d+)\])\](?:\((.*)\))?', text, re.M):
+        size = math.prod(map(int, dims.split(', '))) if dims else 1
+        yield kind, name, Type(sign != 'FALSE', int(whole or 32), int(frac or 0)), size
 
 
 def expected(kernel):
     """What `seq` prints of a kernel."""
     ports = list(ports_of(text_of(kernel.__name__ + '.spatial')))
     setup = tomllib.loads(text_of(kernel.__name__ + '.toml'))
-    held, given = {}, {}
-    for kind, name, bits, frac, size in ports:
+    held, given, lines = {}, {}, []
+    for kind, name, ty, size in ports:
         if kind == 'ArgIn':
-            given[name] = word_of(setup['args'][name], bits, frac)
+            given[name] = ty.word_of(setup['args'][name])
         elif kind == 'DRAM':
-            file = setup['dram'].get(name)
             held[name] = [0] * size
-            if file:
-                held[name] = given[name] = [word_of(cell, bits, frac) for cell in flat(csv.reader(text_of(file).splitlines()))]
+            if name in setup['dram']:
+                cells = flat(csv.reader(text_of(setup['dram'][name]).splitlines()))
+                held[name] = given[name] = [ty.word_of(cell) for cell in cells]
     left, turns = kernel(**given)
-    lines = []
-    for kind, name, bits, frac, size in ports:
+    for kind, name, ty, _ in ports:
         if kind == 'ArgOut':
-            lines.append(f'out {name} {value_text(left[name], bits, frac)}')
-    for kind, name, bits, frac, size in ports:
+            lines.append(f'out {name} {ty.text_of(left[name])}')
+    for kind, name, ty, size in ports:
         if kind == 'DRAM':
             words = left.get(name, held[name])
             if len(words) != size:
                 raise ValueError(f'{name} has {len(words)} words, not {size}')
-            lines.append(' '.join(['dram', name, *(value_text(word, bits, frac) for word in words)]))
+            lines.append(' '.join(['dram', name, *map(ty.text_of, words)]))
     return '\n'.join([*lines, f'turns {turns}', ''])
 
 
 def plain(text):
-    """A program without comments and line ends, its numbers without a type of fractions behind them."""
+    """A program without comments and line ends, its numbers in decimal and without a type of fractions behind them."""
     text = re.sub(r'//.*', '', text)
+    text = re.sub(r'\b0x[0-9A-Fa-f]+', lambda number: str(int(number[0], 16)), text)
     return ' '.join(re.sub(r'(\d)\.to\[FixPt[^]]*\]\]', r'\1', text).split())
 
 
@@ -214,7 +241,7 @@ def stale_tests():
     """The kernels whose texts in the tests of the commands aren't those of their files."""
     with open(TESTS, encoding='ascii') as source:
         tested = set(re.findall(r': &str = "([^"]*)"', source.read()))
-    return [kernel.__name__ for kernel in KERNELS if kernel is not dot and text_of(kernel.__name__ + '.spatial') not in tested]
+    return [kernel.__name__ for kernel in KERNELS if text_of(kernel.__name__ + '.spatial') not in tested]
 
 
 def main():

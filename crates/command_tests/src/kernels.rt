@@ -1,46 +1,73 @@
-//! The kernels of examples/, as `checks/kernels.py` compares them with the files.
+//! The kernels of examples/, whose files `checks/kernels.py` compares with the texts here.
 use crate::commands::answer_with;
 use std::alloc::{AllocError, Global};
 use std::test::Fail;
 
-// The lines of a text without those that are empty or a comment, and each start of a register with its type.
-fn canonical(alloc: Global, text: &str) -> Result<String, AllocError> {
-    let mut printed = String::new(alloc);
+// The lines of a text that are neither empty nor a comment.
+fn code_lines(alloc: Global, text: &str) -> Result<String, AllocError> {
+    let mut lines = String::new(alloc);
     for line in text.lines() {
         let code = line.trim_start();
         if !code.is_empty() && !code.starts_with("//") {
-            printed.push_str(line)?;
-            printed.push('\n')?;
+            lines.push_str(line)?;
+            lines.push('\n')?;
         }
     }
-    let mut typed = String::new(alloc);
-    for part in printed.split("_28]](0)") {
-        if typed.len() > 0 {
-            typed.push_str("_28]](0.to[FixPt[TRUE,_4,_28]])")?;
-        }
-        typed.push_str(part)?;
-    }
-    Ok(typed)
+    Ok(lines)
 }
 
 #[test]
 fn kernels_are_read_and_printed(rt: HostRuntime) -> Result<(), Fail> {
     let alloc = rt.alloc();
-    for text in KERNELS {
+    for (text, printed) in KERNELS {
         let answer = answer_with(alloc, &["check", "P"], "P", text.as_bytes(), Vec::new(alloc))?;
         assert_eq!(rt; answer.out.as_slice(), b"ok\n".as_slice(), "{text}");
         assert_eq!(rt; answer.status.number(), 0, "{text}");
         let answer = answer_with(alloc, &["format", "P"], "P", text.as_bytes(), Vec::new(alloc))?;
-        let want = canonical(alloc, text)?;
+        let want = code_lines(alloc, printed)?;
         assert_eq!(rt; answer.out.as_slice(), want.as_bytes(), "{text}");
         assert_eq!(rt; answer.status.number(), 0, "{text}");
     }
     Ok(())
 }
 
-const KERNELS: [&str; 10] = [
-    MATRIX, TRANSPOSE, HISTOGRAM, PREFIX_SUM, FIR, CONVOLUTION, POWER, GCD, BIQUAD, SPARSE,
+// Each text, and the text as it is printed, but for comments and empty lines.
+const KERNELS: [(&str, &str); 14] = [
+    (DOT, DOT),
+    (MATRIX, MATRIX),
+    (TRANSPOSE, TRANSPOSE),
+    (HISTOGRAM, HISTOGRAM),
+    (PREFIX_SUM, PREFIX_SUM),
+    (FIR, FIR),
+    (CONVOLUTION, CONVOLUTION),
+    (POOLING, POOLING),
+    (POWER, POWER),
+    (GCD, GCD),
+    (SPARSE, SPARSE),
+    (SORT, SORT),
+    (BIQUAD, BIQUAD_PRINTED),
+    (CRC, CRC_PRINTED),
 ];
+
+const DOT: &str = "// The inner product of two vectors of 64 words, in tiles of 16.
+val a = DRAM[Int](64)
+val b = DRAM[Int](64)
+val product = ArgOut[Int]
+
+Accel {
+  val sum = Reg[Int](0)
+  Foreach(4 by 1){ tile =>
+    val x = SRAM[Int](16)
+    val y = SRAM[Int](16)
+    x load a(tile * 16::tile * 16 + 16 par 4)
+    y load b(tile * 16::tile * 16 + 16 par 4)
+    Fold(sum)(16 by 1 par 4){ i =>
+      x(i) * y(i)
+    }{_ + _}
+  }
+  product := sum
+}
+";
 
 const MATRIX: &str = "// The product of a matrix of 16 by 32 and one of 32 by 16: the sum of four products of tiles.
 // Two elements of a product are computed at once, each of them from four terms at once.
@@ -59,8 +86,8 @@ Accel {
       y load b(tile * 8::tile * 8 + 8, 0::16 par 4)
     }
     Foreach(16 by 1, 16 by 1 par 2){ (i, j) =>
-      val sum = Reg[Int](0)
-      Fold(sum)(8 by 1 par 4){ k =>
+      val sum = Reg[Int]
+      Reduce(sum)(8 by 1 par 4){ k =>
         x(i, k) * y(k, j)
       }{_ + _}
       part(i, j) = sum
@@ -149,8 +176,8 @@ Accel {
     val y = SRAM[Int](16)
     last load frames(frame + 3, 0::16)
     Foreach(16 by 1 par 2){ channel =>
-      val sum = Reg[Int](0)
-      Fold(sum)(4 by 1 par 4){ k =>
+      val sum = Reg[Int]
+      Reduce(sum)(4 by 1 par 4){ k =>
         h(k) * last(3 - k, channel)
       }{_ + _}
       y(channel) = sum
@@ -175,14 +202,35 @@ Accel {
     if (row >= 2) {
       val y = SRAM[Int](14)
       Foreach(14 by 1 par 2){ column =>
-        val sum = Reg[Int](0)
-        Fold(sum)(3 by 1, 3 by 1 par 3){ (i, j) =>
+        val sum = Reg[Int]
+        Reduce(sum)(3 by 1, 3 by 1 par 3){ (i, j) =>
           m(i, j) * rows(i, column + j)
         }{_ + _}
         y(column) = sum
       }
       result(row - 2, 0::14 par 2) store y
     }
+  }
+}
+";
+
+const POOLING: &str = "// The greatest word of each square of 2 by 2 in an image of 16 by 16.
+val image = DRAM[Int](16, 16)
+val pooled = DRAM[Int](8, 8)
+
+Accel {
+  Foreach(8 by 1){ row =>
+    val x = SRAM[Int](2, 16)
+    val y = SRAM[Int](8)
+    x load image(row * 2::row * 2 + 2, 0::16 par 4)
+    Foreach(8 by 1 par 2){ column =>
+      val greatest = Reg[Int]
+      Reduce(greatest)(2 by 1, 2 by 1 par 2){ (i, j) =>
+        x(i, column * 2 + j)
+      }{(a, b) => max(a, b)}
+      y(column) = greatest
+    }
+    pooled(row, 0::8 par 2) store y
   }
 }
 ";
@@ -232,6 +280,53 @@ Accel {
 }
 ";
 
+const SPARSE: &str = "// The product of a sparse matrix of 16 by 64, with four words in each row, and a vector.
+// Each word has its column beside it, and the words of the vector at the columns of a row are gathered.
+val columns = DRAM[Int](16, 4)
+val words = DRAM[Int](16, 4)
+val vector = DRAM[Int](64)
+val product = DRAM[Int](16)
+
+Accel {
+  val y = SRAM[Int](16)
+  Foreach(16 by 1){ row =>
+    val places = SRAM[Int](4)
+    val a = SRAM[Int](4)
+    val x = SRAM[Int](4)
+    val sum = Reg[Int]
+    places load columns(row, 0::4)
+    a load words(row, 0::4 par 4)
+    x gather vector(places, 4)
+    Reduce(sum)(4 by 1 par 4){ k =>
+      a(k) * x(k)
+    }{_ + _}
+    y(row) = sum
+  }
+  product(0::16 par 4) store y
+}
+";
+
+const SORT: &str = "// 64 words in order. The place of a word is how many stand before it, and each is scattered to its place.
+val words = DRAM[Int](64)
+val sorted = DRAM[Int](64)
+
+Accel {
+  val x = SRAM[Int](64)
+  val places = SRAM[Int](64)
+  x load words(0::64 par 4)
+  Foreach(64 by 1 par 2){ i =>
+    val place = Reg[Int]
+    Reduce(place)(64 by 1 par 4){ j =>
+      val less = x(j) < x(i)
+      val equal = x(j) == x(i) & j < i
+      mux(less | equal, 1, 0)
+    }{_ + _}
+    places(i) = place
+  }
+  sorted(places, 64) scatter x
+}
+";
+
 const BIQUAD: &str = "// A recursive filter of second order over 64 samples of 16 bits, computed in 32 bits.
 val b0 = ArgIn[FixPt[TRUE,_4,_28]]
 val b1 = ArgIn[FixPt[TRUE,_4,_28]]
@@ -265,28 +360,68 @@ Accel {
 }
 ";
 
-const SPARSE: &str = "// The product of a sparse matrix of 16 by 64, with four words in each row, and a vector.
-// Each word has its column beside it, and the words of the vector at the columns of a row are gathered.
-val columns = DRAM[Int](16, 4)
-val words = DRAM[Int](16, 4)
-val vector = DRAM[Int](64)
-val product = DRAM[Int](16)
+const BIQUAD_PRINTED: &str = "val b0 = ArgIn[FixPt[TRUE,_4,_28]]
+val b1 = ArgIn[FixPt[TRUE,_4,_28]]
+val b2 = ArgIn[FixPt[TRUE,_4,_28]]
+val a1 = ArgIn[FixPt[TRUE,_4,_28]]
+val a2 = ArgIn[FixPt[TRUE,_4,_28]]
+val samples = DRAM[FixPt[TRUE,_2,_14]](64)
+val filtered = DRAM[FixPt[TRUE,_2,_14]](64)
+Accel {
+  val x1 = Reg[FixPt[TRUE,_4,_28]](0.to[FixPt[TRUE,_4,_28]])
+  val x2 = Reg[FixPt[TRUE,_4,_28]](0.to[FixPt[TRUE,_4,_28]])
+  val y1 = Reg[FixPt[TRUE,_4,_28]](0.to[FixPt[TRUE,_4,_28]])
+  val y2 = Reg[FixPt[TRUE,_4,_28]](0.to[FixPt[TRUE,_4,_28]])
+  Foreach(4 by 1){ tile =>
+    val s = SRAM[FixPt[TRUE,_2,_14]](16)
+    val t = SRAM[FixPt[TRUE,_2,_14]](16)
+    s load samples(tile * 16::tile * 16 + 16 par 2)
+    Foreach(16 by 1){ i =>
+      val x = s(i).to[FixPt[TRUE,_4,_28]]
+      val y = b0 * x + b1 * x1 + b2 * x2 - a1 * y1 - a2 * y2
+      x2 := x1
+      x1 := x
+      y2 := y1
+      y1 := y
+      t(i) = y.to[FixPt[TRUE,_2,_14]]
+    }
+    filtered(tile * 16::tile * 16 + 16 par 2) store t
+  }
+}
+";
+
+const CRC: &str = "// The CRC-32 of 64 bytes, as zip files and Ethernet have it, bit by bit.
+val text = DRAM[FixPt[FALSE,_8,_0]](64)
+val crc = ArgOut[FixPt[FALSE,_32,_0]]
 
 Accel {
-  val y = SRAM[Int](16)
-  Foreach(16 by 1){ row =>
-    val places = SRAM[Int](4)
-    val a = SRAM[Int](4)
-    val x = SRAM[Int](4)
-    val sum = Reg[Int](0)
-    places load columns(row, 0::4)
-    a load words(row, 0::4 par 4)
-    x gather vector(places, 4)
-    Fold(sum)(4 by 1 par 4){ k =>
-      a(k) * x(k)
-    }{_ + _}
-    y(row) = sum
+  val x = SRAM[FixPt[FALSE,_8,_0]](64)
+  val rest = Reg[FixPt[FALSE,_32,_0]]
+  x load text(0::64 par 4)
+  rest := 0xFFFFFFFF
+  Foreach(64 by 1){ i =>
+    rest := rest ^ x(i).to[FixPt[FALSE,_32,_0]]
+    Foreach(8 by 1){ bit =>
+      rest := mux((rest & 1) == 1, rest >> 1 ^ 0xEDB88320, rest >> 1)
+    }
   }
-  product(0::16 par 4) store y
+  crc := ~rest
+}
+";
+
+const CRC_PRINTED: &str = "val text = DRAM[FixPt[FALSE,_8,_0]](64)
+val crc = ArgOut[FixPt[FALSE,_32,_0]]
+Accel {
+  val x = SRAM[FixPt[FALSE,_8,_0]](64)
+  val rest = Reg[FixPt[FALSE,_32,_0]]
+  x load text(0::64 par 4)
+  rest := 4294967295.to[FixPt[FALSE,_32,_0]]
+  Foreach(64 by 1){ i =>
+    rest := rest ^ x(i).to[FixPt[FALSE,_32,_0]]
+    Foreach(8 by 1){ bit =>
+      rest := mux((rest & 1.to[FixPt[FALSE,_32,_0]]) == 1.to[FixPt[FALSE,_32,_0]], rest >> 1 ^ 3988292384.to[FixPt[FALSE,_32,_0]], rest >> 1)
+    }
+  }
+  crc := ~rest
 }
 ";
