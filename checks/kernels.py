@@ -240,7 +240,7 @@ def faults_of(kernel):
 def stale_tests():
     """The kernels whose texts in the tests of the commands aren't those of their files."""
     with open(TESTS, encoding='ascii') as source:
-        tested = set(re.findall(r': &str = "([^"]*)"', source.read()))
+        tested = set(re.findall(r': &str =\s+"([^"]*)"', source.read()))
     return [kernel.__name__ for kernel in KERNELS if text_of(kernel.__name__ + '.spatial') not in tested]
 
 

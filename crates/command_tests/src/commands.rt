@@ -45,7 +45,7 @@ pub(crate) fn answer_with(
     })
 }
 
-fn answer_to(alloc: Global, words: &[&str], text: &str) -> Result<Answer, AllocError> {
+pub(crate) fn answer_to(alloc: Global, words: &[&str], text: &str) -> Result<Answer, AllocError> {
     answer_with(alloc, words, "P", text.as_bytes(), Vec::new(alloc))
 }
 

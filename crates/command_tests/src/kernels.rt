@@ -1,5 +1,5 @@
 //! The kernels of examples/, whose files `checks/kernels.py` compares with the texts here.
-use crate::commands::answer_with;
+use crate::commands::answer_to;
 use std::alloc::{AllocError, Global};
 use std::test::Fail;
 
@@ -20,10 +20,10 @@ fn code_lines(alloc: Global, text: &str) -> Result<String, AllocError> {
 fn kernels_are_read_and_printed(rt: HostRuntime) -> Result<(), Fail> {
     let alloc = rt.alloc();
     for (text, printed) in KERNELS {
-        let answer = answer_with(alloc, &["check", "P"], "P", text.as_bytes(), Vec::new(alloc))?;
+        let answer = answer_to(alloc, &["check", "P"], text)?;
         assert_eq!(rt; answer.out.as_slice(), b"ok\n".as_slice(), "{text}");
         assert_eq!(rt; answer.status.number(), 0, "{text}");
-        let answer = answer_with(alloc, &["format", "P"], "P", text.as_bytes(), Vec::new(alloc))?;
+        let answer = answer_to(alloc, &["format", "P"], text)?;
         let want = code_lines(alloc, printed)?;
         assert_eq!(rt; answer.out.as_slice(), want.as_bytes(), "{text}");
         assert_eq!(rt; answer.status.number(), 0, "{text}");
@@ -69,7 +69,8 @@ Accel {
 }
 ";
 
-const MATRIX: &str = "// The product of a matrix of 16 by 32 and one of 32 by 16: the sum of four products of tiles.
+const MATRIX: &str =
+    "// The product of a matrix of 16 by 32 and one of 32 by 16: the sum of four products of tiles.
 // Two elements of a product are computed at once, each of them from four terms at once.
 val a = DRAM[Int](16, 32)
 val b = DRAM[Int](32, 16)
@@ -116,7 +117,8 @@ Accel {
 }
 ";
 
-const HISTOGRAM: &str = "// How often each number from 0 to 15 stands among 512 words, which are read in tiles of 64.
+const HISTOGRAM: &str =
+    "// How often each number from 0 to 15 stands among 512 words, which are read in tiles of 64.
 val words = DRAM[Int](512)
 val counts = DRAM[Int](16)
 
@@ -138,7 +140,8 @@ Accel {
 }
 ";
 
-const PREFIX_SUM: &str = "// The sums of the first 1, 2, 3 .. of 128 words, in tiles of 16. The sum goes on from tile to tile.
+const PREFIX_SUM: &str =
+    "// The sums of the first 1, 2, 3 .. of 128 words, in tiles of 16. The sum goes on from tile to tile.
 val words = DRAM[Int](128)
 val sums = DRAM[Int](128)
 val total = ArgOut[Int]
@@ -159,7 +162,8 @@ Accel {
 }
 ";
 
-const FIR: &str = "// A filter with four taps over time, on 16 channels. A frame has one word of each channel.
+const FIR: &str =
+    "// A filter with four taps over time, on 16 channels. A frame has one word of each channel.
 // The line buffer holds the last four frames, its newest in row 3; three stand there before the first result.
 val taps = DRAM[Int](4)
 val frames = DRAM[Int](32, 16)
@@ -187,7 +191,8 @@ Accel {
 }
 ";
 
-const CONVOLUTION: &str = "// An image of 16 by 16 under a mask of 3 by 3, where the mask lies inside the image.
+const CONVOLUTION: &str =
+    "// An image of 16 by 16 under a mask of 3 by 3, where the mask lies inside the image.
 // The line buffer holds the last three rows. Once there are three, each row that comes gives one of the result.
 val mask = DRAM[Int](3, 3)
 val image = DRAM[Int](16, 16)
@@ -235,7 +240,8 @@ Accel {
 }
 ";
 
-const POWER: &str = "// The power of 32 complex samples. Their real and imaginary parts stand one after the other.
+const POWER: &str =
+    "// The power of 32 complex samples. Their real and imaginary parts stand one after the other.
 // One stage squares all words, the other adds two squares at a time; both run at once, with a FIFO between them.
 val samples = DRAM[Int](64)
 val powers = DRAM[Int](32)
@@ -258,7 +264,8 @@ Accel {
 }
 ";
 
-const GCD: &str = "// The greatest common divisor of two numbers, by the remainders of Euclid, and how many of them it took.
+const GCD: &str =
+    "// The greatest common divisor of two numbers, by the remainders of Euclid, and how many of them it took.
 val a = ArgIn[Int]
 val b = ArgIn[Int]
 val divisor = ArgOut[Int]
@@ -280,7 +287,8 @@ Accel {
 }
 ";
 
-const SPARSE: &str = "// The product of a sparse matrix of 16 by 64, with four words in each row, and a vector.
+const SPARSE: &str =
+    "// The product of a sparse matrix of 16 by 64, with four words in each row, and a vector.
 // Each word has its column beside it, and the words of the vector at the columns of a row are gathered.
 val columns = DRAM[Int](16, 4)
 val words = DRAM[Int](16, 4)
@@ -306,7 +314,8 @@ Accel {
 }
 ";
 
-const SORT: &str = "// 64 words in order. The place of a word is how many stand before it, and each is scattered to its place.
+const SORT: &str =
+    "// 64 words in order. The place of a word is how many stand before it, and each is scattered to its place.
 val words = DRAM[Int](64)
 val sorted = DRAM[Int](64)
 
@@ -327,7 +336,8 @@ Accel {
 }
 ";
 
-const BIQUAD: &str = "// A recursive filter of second order over 64 samples of 16 bits, computed in 32 bits.
+const BIQUAD: &str =
+    "// A recursive filter of second order over 64 samples of 16 bits, computed in 32 bits.
 val b0 = ArgIn[FixPt[TRUE,_4,_28]]
 val b1 = ArgIn[FixPt[TRUE,_4,_28]]
 val b2 = ArgIn[FixPt[TRUE,_4,_28]]
