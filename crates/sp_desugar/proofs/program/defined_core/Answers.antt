@@ -14,7 +14,7 @@ use Rattle.sp_sugar.specs.Values.{no_sources}
 use Rattle.sp_operations.specs.Sources.{sources_of}
 use Rattle.sp_desugar.specs.Tree.{alone_node}
 use Rattle.sp_desugar.proofs.ProgramLemmas.{core_is, no_source}
-use Rattle.sp_desugar.proofs.program.desugar.Goals as goal
+use Rattle.sp_desugar.proofs.program.defined_core.Goals as goal
 
 pub core_of_parts-requires : goal.core_of_parts-requires
 core_of_parts-requires c =
