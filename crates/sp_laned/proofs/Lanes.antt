@@ -1,15 +1,14 @@
 -- No part of the core of a program stands in more lanes than the program's limit says.
-use Rattle.std.proofs.Common.{◌≡◌, ℕ, suc, ◌+◌, ◌*◌, ◌^◌, ◌≤◌, ◌==◌, Bool, true, false, cond, List, [], ◌∷◌, ◌++◌, length, None, Some, refl, sym, ◌∙◌, ap, subst, arith}
-use Rattle.std.proofs.lemmas.List.Sums.{sum_by-le}
+use Rattle.std.proofs.Common.{◌≡◌, ℕ, suc, ◌+◌, ◌*◌, ◌≤◌, ◌==◌, Bool, true, false, cond, List, [], ◌∷◌, length, None, Some, refl, sym, ◌∙◌, subst, arith}
 use Rattle.std.proofs.Math.Nat.{le-max_left, le-max_right}
-use Rattle.std.specs.Prelude.{max, sum_by, All}
+use Rattle.std.specs.Prelude.{max}
 use Rattle.sp_words.specs.declared.kind.Style.{Style}
 use Rattle.sp_words.specs.declared.kind.Style.TheVariants.{Pipe}
 use Rattle.sp_tree.specs.Counts.{lanes_in, kind_lanes}
-use Rattle.sp_tree.specs.Expressions.{mem, dims}
+use Rattle.sp_tree.specs.Expressions.{dims}
 use Rattle.sp_tree.specs.Invariant.{IsProgram, outer_scope}
 use Rattle.sp_tree.specs.PlainExpression.{PlainExpr, type_of}
-use Rattle.sp_tree.specs.PlainProgram.{PlainMem, PlainProgram}
+use Rattle.sp_tree.specs.PlainProgram.{PlainProgram}
 use Rattle.sp_tree.specs.PlainStatement as tree
 use Rattle.sp_tree.specs.PlainStatement.{PlainSpan, PlainStmtKind, PlainStmts, stmt, declare, name, set_reg, set_out, set_sram, enq, load_sram, load_line, store, gather, scatter, block, foreach, reduce, mem_reduce, fsm, branch, no_stmt, more_stmt}
 use Rattle.sp_tree.specs.Structure as structure

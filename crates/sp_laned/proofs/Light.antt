@@ -1,8 +1,7 @@
 -- The core of a program is small enough for its lanes.
-use Rattle.std.proofs.Common.{◌≡◌, ℕ, suc, ◌+◌, ◌*◌, ◌^◌, ◌≤◌, Bool, true, false, List, [], ◌∷◌, ◌++◌, length, refl, sym, ◌∙◌, ap, subst, arith, if◌then◌else◌, length-append}
-use Rattle.std.proofs.lemmas.List.Sums.{sum_by-le, sum_by-cons}
-use Rattle.std.specs.Prelude.{sum_by, All}
-use Rattle.sp_tree.specs.Counts.{node_count}
+use Rattle.std.proofs.Common.{◌≡◌, ℕ, zero, suc, ◌*◌, ◌≤◌, Bool, true, false, List, [], ◌∷◌, length, refl, arith, if◌then◌else◌, length-append}
+use Rattle.std.proofs.lemmas.List.Sums.{sum_by-cons}
+use Rattle.std.specs.Prelude.{sum_by}
 use Rattle.sp_tree.specs.Invariant.{IsProgram}
 use Rattle.sp_tree.specs.PlainProgram.{PlainProgram}
 use Rattle.sp_core.specs.Around.{is_port_kind}
@@ -11,7 +10,7 @@ use Rattle.sp_core.specs.Elements.{numbers_below}
 use Rattle.sp_core.specs.Invariant.{owned_in}
 use Rattle.sp_core.specs.NodeRules.{is_owned_once}
 use Rattle.sp_core.specs.PlainCore.{PlainCore}
-use Rattle.sp_copies.specs.Copies.{occurrences, copies_in}
+use Rattle.sp_copies.specs.Copies.{copies_in}
 use Rattle.sp_copies.proofs.Owned.{once_most}
 use Rattle.sp_sugar.specs.Core.{core_of}
 use Rattle.sp_sugar.proofs.Owners.{one_owner}
@@ -36,7 +35,7 @@ module _ (core : PlainCore) (once : is_owned_once core [] (owned_in core.root) �
   memories_most (x ∷ xs) = omega (arith, sum_by-cons (memory_weight core) x xs, memory_most x, memories_most xs)
 
 below_length : (n : ℕ) → length (numbers_below n) ≡ n
-below_length 0 = refl
+below_length zero = refl
 below_length (suc n) = omega (arith, below_length n, length-append (numbers_below n) (n ∷ []))
 
 pub program_light : (p : PlainProgram) → IsProgram p → IsLight (core_of p)

@@ -1,5 +1,6 @@
 -- Lanes and combinations of the core of a program stand where they may.
-use Rattle.std.proofs.Common.{◌≡◌, ℕ, suc, ◌+◌, ◌==◌, Bool, true, false, cond, List, [], ◌∷◌, ◌++◌, length, None, Some, refl}
+use Rattle.std.specs.Prelude.{map}
+use Rattle.std.proofs.Common.{ℕ, suc, ◌+◌, ◌==◌, Bool, true, false, cond, List, [], ◌∷◌, ◌++◌, length, None, refl}
 use Rattle.std.proofs.lemmas.List.{length-append}
 use Rattle.sp_words.specs.declared.kind.Style.{Style}
 use Rattle.sp_words.specs.declared.kind.Style.TheVariants.{Pipe}
@@ -10,21 +11,21 @@ use Rattle.sp_tree.specs.PlainExpression.{PlainExpr, type_of}
 use Rattle.sp_tree.specs.PlainProgram.{PlainMem, PlainProgram}
 use Rattle.sp_tree.specs.PlainStatement as tree
 use Rattle.sp_tree.specs.PlainStatement.{PlainSpan, PlainStmtKind, PlainStmts, stmt, declare, name, set_reg, set_out, set_sram, enq, load_sram, load_line, store, gather, scatter, block, foreach, reduce, mem_reduce, fsm, branch, no_stmt, more_stmt}
-use Rattle.sp_tree.specs.Structure.{is_inner, slice_lanes}
+use Rattle.sp_tree.specs.Structure.{is_inner, own_mems, slice_lanes}
 use Rattle.sp_tree.specs.Typing.{Scope, BodyTyped, StmtTyped, LanesAtEnd, after, with_counters, with_val}
 use Rattle.sp_core.specs.PlainCore as core
 use Rattle.sp_core.specs.PlainCore.{PlainOp, PlainCounter, PlainNode, PlainStages, no_stage, more_stage}
 use Rattle.sp_sugar.specs.Combination.{element_counters, element_value, element_loop}
 use Rattle.sp_sugar.specs.Core.{core_of}
-use Rattle.sp_sugar.specs.Early.{registers_for, counters_of, is_early, is_early_slice, is_early_part, parts_of, into_register, slice_ops, bounds_of, bound_stages, slice_stage, early_stages, after as after_word, from_register}
+use Rattle.sp_sugar.specs.Early.{registers_for, counters_of, is_early, is_early_slice, is_early_part, parts_of, into_register, slice_ops, bounds_of, bound_stages, slice_stage, early_stages, after as after_word}
 use Rattle.sp_sugar.specs.Numbers.{mem_number, written_mems}
-use Rattle.sp_sugar.specs.Operations.{Code}
+use Rattle.sp_sugar.specs.Operations.{Code, alone, read_op}
 use Rattle.sp_sugar.specs.Registers.{ending_of, beside, inside, registers_in}
 use Rattle.sp_sugar.specs.Runs.{Run, no_run, with_stmt}
 use Rattle.sp_sugar.specs.Stages.{run_stage, first_of, Combines, nothing, folds, reduces, reduces_elements, combines, combination, combination_stage, inner_node, last_stages, style_of, outer_node, body_node, stages, node}
 use Rattle.sp_sugar.specs.Uses.{Ending, no_more, in_last_run, in_combination}
 use Rattle.sp_sugar.specs.Values.{Sources, no_sources, with_state}
-use Rattle.sp_laned.specs.Marks.{LanesAtLast, Combination, folded, reduced, element, IsMarked, IsLastCombination, IsLaned, AreLaned}
+use Rattle.sp_laned.specs.Marks.{LanesAtLast, folded, reduced, element, IsLaned, AreLaned}
 
 run_laned : (ops : List PlainOp) (rest : PlainStages) → AreLaned rest → AreLaned (run_stage ops rest)
 run_laned [] rest h = h
@@ -117,14 +118,14 @@ module _ (p : PlainProgram) (counters : ℕ) where
   last_laned run n (in_combination x) (reduces acc begun comb e) h = reduced_last run.ops _ acc begun comb e
   last_laned run n (in_combination x) (reduces_elements part acc begun comb) h = elements_last run.ops part acc begun comb
   last_laned run n (in_last_run x) nothing h = absurd h
-  last_laned run n (in_last_run x) (folds acc comb e) h = folded_last _ _ acc comb e
-  last_laned run n (in_last_run x) (reduces acc begun comb e) h = reduced_last _ _ acc begun comb e
+  last_laned run n (in_last_run x) (folds acc comb e) h = folded_last _ (alone 0 (read_op (type_of x) n [])) acc comb e
+  last_laned run n (in_last_run x) (reduces acc begun comb e) h = reduced_last _ (alone 0 (read_op (type_of x) n [])) acc begun comb e
   last_laned run n (in_last_run x) (reduces_elements part acc begun comb) h = elements_last run.ops part acc begun comb
 
   inner_laned : (sources : Sources) (loops : List PlainCounter) (body : PlainStmts) (c : Combines) → LanesAtLast loops → IsLaned (inner_node p.mems counters sources loops body c)
   inner_laned sources loops body nothing h = (h, tt)
-  inner_laned sources loops body (folds acc comb e) h = folded_marked _ _ acc comb e loops _ h
-  inner_laned sources loops body (reduces acc begun comb e) h = reduced_marked _ _ acc begun comb e loops _ h
+  inner_laned sources loops body (folds acc comb e) h = folded_marked _ _ acc comb e loops (map (mem_number p.mems) (own_mems body)) h
+  inner_laned sources loops body (reduces acc begun comb e) h = reduced_marked _ _ acc begun comb e loops (map (mem_number p.mems) (own_mems body)) h
   inner_laned sources loops body (reduces_elements part acc begun comb) h = (h, tt)
 
   body_laned : (sources : Sources) (n : ℕ) (loops : List PlainCounter) (style : Style) (body : PlainStmts) (ending : Ending) (c : Combines) (all : PlainStages) → LanesAtLast loops → AreLaned all

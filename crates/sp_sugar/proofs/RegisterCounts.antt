@@ -1,36 +1,18 @@
 -- How many registers the core of a body adds.
-use Rattle.std.proofs.Common.{◌≡◌, ℕ, suc, ◌+◌, ◌*◌, ◌≤◌, Bool, true, false, List, [], ◌∷◌, ◌++◌, Option, Some, None, refl, sym, ◌∙◌, subst, arith, length-append, ◌==◌, if◌then◌else◌}
-use Rattle.std.proofs.lemmas.List.Sums.{sum_by-cons}
-use Rattle.std.specs.Prelude.{length, map, sum_by}
-use Rattle.sp_words.specs.declared.kind.Style.{Style}
-use Rattle.sp_words.specs.declared.kind.Style.TheVariants.{Pipe}
-use Rattle.sp_words.specs.declared.types.Ty.{Ty}
-use Rattle.sp_words.specs.declared.kind.BinOp.TheVariants as binary
-use Rattle.sp_words.specs.declared.types.Ty.TheVariants.{Bit}
+use Rattle.std.proofs.Common.{ℕ, ◌+◌, ◌*◌, ◌≤◌, Bool, true, false, List, [], ◌∷◌, ◌++◌, arith, length-append, if◌then◌else◌}
+use Rattle.std.specs.Prelude.{length, sum_by}
 use Rattle.sp_words.specs.Types.{int_type}
-use Rattle.sp_tree.specs.declared.statement.Comb.{Comb}
 use Rattle.sp_tree.specs.Counts.{nodes_in, kind_nodes}
-use Rattle.sp_tree.specs.Expressions.{mem, dims}
-use Rattle.sp_tree.specs.PlainExpression.{PlainExpr, PlainExprKind, PlainExprs, expr, literal, counter, value, get_reg, get_arg, get_sram, get_line, deq, one, two, shift, mux, cast, no_expr, more_expr, type_of}
-use Rattle.sp_tree.specs.PlainProgram.{PlainMem}
-use Rattle.sp_tree.specs.PlainStatement.{PlainSpan, single, range, PlainCounter, PlainStmtKind, PlainStmts, stmt, declare, name, set_reg, set_out, set_sram, enq, load_sram, load_line, store, gather, scatter, block, foreach, reduce, mem_reduce, fsm, branch, no_stmt, more_stmt}
-use Rattle.sp_tree.specs.Structure.{lanes_of, own_mems, is_inner, slice_lanes, outside}
-use Rattle.sp_tree.specs.Tallies.{Tally, tally, kind_tally, tallies, slice_tally, bound_tallies}
-use Rattle.sp_core.specs.declared.operation.OpKind.TheVariants as kind
-use Rattle.sp_core.specs.Numbering.{node_count, node_count_in, counters_size, spans_size, operation_count, operation_count_in}
+use Rattle.sp_tree.specs.PlainExpression.{PlainExpr, type_of}
+use Rattle.sp_tree.specs.PlainStatement.{PlainStmtKind, PlainStmts, stmt, declare, name, set_reg, set_out, set_sram, enq, load_sram, load_line, store, gather, scatter, block, foreach, reduce, mem_reduce, fsm, branch, no_stmt, more_stmt}
+use Rattle.sp_tree.specs.Structure.{is_inner, outside}
+use Rattle.sp_tree.specs.Tallies.{Tally, tally, slice_tally}
 use Rattle.sp_core.specs.PlainCore as core
 use Rattle.sp_core.specs.PlainCore.{PlainOp, PlainNode, PlainStages, more_stage, no_stage}
-use Rattle.sp_core.specs.Sequential.{has_reset}
-use Rattle.sp_sugar.specs.Combination.{operator_of, element_counters, element_indices, is_last_at, conjunction, is_last_element, element_value, element_ops, element_loop}
-use Rattle.sp_sugar.specs.Early.{bounds_of, parts_of, is_early, is_early_slice, is_early_part, registers_for, after, into_register, from_register, counters_of, spans_from, bound_stages, part_ops, slice_ops, slice_stage, stage_of, early_stages}
-use Rattle.sp_sugar.specs.Operations.{Code, Codes, computes, under, literal_op, accesses, alone, read_op, write_op, source_code, code, code_of, codes, word_list}
+use Rattle.sp_sugar.specs.Early.{bounds_of, parts_of, is_early, is_early_part, registers_for}
 use Rattle.sp_sugar.specs.Registers.{ending_of, at_end, beside, inside, registers, registers_in}
-use Rattle.sp_sugar.specs.Runs.{Run, no_run, with_ops, next_code, with_computed, with_named, with_reset, with_word, with_stmt, inner_run}
-use Rattle.sp_sugar.specs.Stages.{run_stage, first_of, Combines, nothing, folds, reduces, reduces_elements, combines, combining, combination, combination_stage, inner_node, last_stages, load_node, store_node, style_of, outer_node, body_node, stages, node}
 use Rattle.sp_sugar.specs.Uses.{is_bare, does_cross, Ending, no_more, in_last_run, in_combination}
-use Rattle.sp_sugar.specs.Values.{Source, at_place, in_register, constant, count, Sources, no_sources, with_state}
-use Rattle.sp_sugar.specs.Numbers.{begun_register, crossing_register, mem_number}
-use Rattle.sp_sugar.proofs.NumberLemmas.{either}
+use Rattle.sp_sugar.specs.Numbers.{begun_register, crossing_register}
 use Rattle.sp_sugar.proofs.Sizes.{all_nodes, some_nodes, bound_nodes, part_nodes, alone_nodes}
 
 -- the registers that are added

@@ -24,12 +24,12 @@ use Rattle.sp_core.specs.Sequential.{has_reset}
 use Rattle.sp_sugar.specs.Combination.{operator_of, element_counters, element_indices, is_last_at, conjunction, is_last_element, element_value, element_ops, element_loop}
 use Rattle.sp_sugar.specs.Early.{bounds_of, parts_of, is_early, is_early_slice, is_early_part, registers_for, after, into_register, from_register, counters_of, spans_from, bound_stages, part_ops, slice_ops, slice_stage, stage_of, early_stages}
 use Rattle.sp_sugar.specs.Operations.{Code, Codes, computes, under, literal_op, accesses, alone, read_op, write_op, source_code, code, code_of, codes, word_list}
-use Rattle.sp_sugar.specs.Registers.{ending_of, at_end, beside, inside, registers, registers_in}
+use Rattle.sp_sugar.specs.Registers.{ending_of, beside, inside, registers_in}
 use Rattle.sp_sugar.specs.Runs.{Run, no_run, with_ops, next_code, with_computed, with_named, with_reset, with_word, with_stmt, inner_run}
 use Rattle.sp_sugar.specs.Stages.{run_stage, first_of, Combines, nothing, folds, reduces, reduces_elements, combines, combining, combination, combination_stage, inner_node, last_stages, load_node, store_node, style_of, outer_node, body_node, stages, node}
-use Rattle.sp_sugar.specs.Uses.{is_bare, does_cross, Ending, no_more, in_last_run, in_combination}
+use Rattle.sp_sugar.specs.Uses.{is_bare, Ending, no_more, in_last_run, in_combination}
 use Rattle.sp_sugar.specs.Values.{Source, at_place, in_register, constant, count, Sources, no_sources, with_state}
-use Rattle.sp_sugar.specs.Numbers.{begun_register, crossing_register, mem_number}
+use Rattle.sp_sugar.specs.Numbers.{mem_number}
 use Rattle.sp_sugar.proofs.NumberLemmas.{either}
 
 abbrev pub nodes_of : PlainExpr → ℕ
