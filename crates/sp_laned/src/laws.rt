@@ -15,7 +15,7 @@ pub fn programs_have_lanes()
 /// In the core of a program only the last counter of a controller has several lanes, and a combination stands where it is
 /// marked.
 pub fn programs_are_laned()
-    ensures { (p : PlainProgram) → IsProgram p → IsLaned (core_of p).root }
+    ensures { (p : PlainProgram) → IsProgram p → IsLaned (core_of p) (core_of p).root }
 {}
 
 /// The core of a program is small enough for its lanes to stand one after the other.
