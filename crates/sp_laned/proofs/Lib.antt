@@ -1,3 +1,5 @@
+pub mod Earlier
+pub mod Ending
 pub mod Heavy
 pub mod Lanes
 pub mod Light
@@ -5,4 +7,5 @@ pub mod Marked
 pub mod Naming
 pub mod Owning
 pub mod Parting
+pub mod Passing
 pub mod Ports

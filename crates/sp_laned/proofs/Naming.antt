@@ -1,20 +1,17 @@
 -- What the operations of expressions and of runs of statements name.
-use Rattle.std.proofs.Common.{◌≡◌, ℕ, zero, suc, ◌+◌, ◌<◌, ◌≤◌, ◌==◌, Bool, true, false, not, cond, List, [], ◌∷◌, ◌++◌, length, map, Option, None, Some, refl, sym, ◌∙◌, ap, subst, arith}
+use Rattle.std.proofs.Common.{◌≡◌, ℕ, zero, suc, ◌+◌, ◌<◌, ◌==◌, Bool, true, false, not, cond, List, [], ◌∷◌, ◌++◌, length, Option, None, Some, refl, ◌∙◌, ap, subst, arith}
 use Rattle.std.specs.Prelude.{Contains, IsTrue}
-use Rattle.sp_words.specs.declared.kind.BinOp.TheVariants as binary
 use Rattle.sp_words.specs.declared.kind.Kind.{Kind}
-use Rattle.sp_words.specs.declared.kind.Kind.TheVariants.{Reg, Sram, Fifo, LineBuf, Dram, ArgIn, ArgOut}
+use Rattle.sp_words.specs.declared.kind.Kind.TheVariants.{Reg, Sram, Fifo, LineBuf, ArgIn, ArgOut}
 use Rattle.sp_words.specs.declared.types.Ty.{Ty}
-use Rattle.sp_words.specs.declared.types.Ty.TheVariants.{Bit}
-use Rattle.sp_words.specs.Types.{int_type}
 use Rattle.sp_tree.specs.Expressions.{mem}
 use Rattle.sp_tree.specs.Footprint.{Names, KindNames, AllName, StmtKindNames, BodyNames}
 use Rattle.sp_tree.specs.Meaning.{is_dram}
 use Rattle.sp_tree.specs.PlainExpression.{PlainExpr, PlainExprKind, PlainExprs, expr, literal, counter, value, get_reg, get_arg, get_sram, get_line, deq, one, two, shift, mux, cast, no_expr, more_expr, type_of}
 use Rattle.sp_tree.specs.PlainProgram.{PlainMem, PlainProgram}
-use Rattle.sp_tree.specs.PlainStatement.{PlainStmtKind, PlainStmts, stmt, declare, name, set_reg, set_out, set_sram, enq, load_sram, load_line, store, gather, scatter, block, foreach, reduce, mem_reduce, fsm, branch, no_stmt, more_stmt}
+use Rattle.sp_tree.specs.PlainStatement.{PlainStmtKind, PlainStmts, stmt, declare, name, set_reg, set_out, set_sram, enq, no_stmt, more_stmt}
 use Rattle.sp_tree.specs.Structure.{mems_declared, mems_in}
-use Rattle.sp_tree.specs.Typing.{Scope, IsMem, Typed, KindTyped, IndicesTyped, BodyTyped, StmtTyped, after, with_counters}
+use Rattle.sp_tree.specs.Typing.{Scope, IsMem, Typed, KindTyped, IndicesTyped, BodyTyped, StmtTyped, after}
 use Rattle.sp_core.specs.declared.operation.OpKind.TheVariants as kind
 use Rattle.sp_core.specs.Declarations.{dram_number}
 use Rattle.sp_core.specs.Footprint.{MayName, ListNames}
@@ -22,10 +19,9 @@ use Rattle.sp_core.specs.PlainCore.{PlainOp, PlainCore}
 use Rattle.sp_core.specs.Sequential.{has_reset}
 use Rattle.sp_core.specs.Store.{changed}
 use Rattle.sp_sugar.specs.Numbers.{is_off_dram, mem_number}
-use Rattle.sp_sugar.specs.Operations.{Code, Codes, accesses, read_op, write_op, source_code, code, code_of, codes}
-use Rattle.sp_sugar.specs.Runs.{Run, no_run, with_ops, next_code, with_computed, with_named, with_reset, with_word, with_stmt, inner_run}
+use Rattle.sp_sugar.specs.Operations.{Code, Codes, accesses, write_op, source_code, code, code_of, codes}
+use Rattle.sp_sugar.specs.Runs.{Run, with_ops, next_code, with_computed, with_named, with_word, with_stmt, inner_run}
 use Rattle.sp_sugar.specs.Values.{Source, at_place, in_register, constant, count, Sources, Values, with_value}
-use Rattle.sp_sugar.proofs.Entering.{same_mems}
 use Rattle.sp_sugar.proofs.RunKeeps.{in_front, in_back}
 
 -- where a value is found, a register passes a test

@@ -1,39 +1,33 @@
 -- What bounds, slices, early stages and combinations name.
-use Rattle.std.proofs.Common.{◌≡◌, ℕ, zero, suc, ◌+◌, ◌<◌, ◌≤◌, ◌==◌, Bool, true, false, not, cond, List, [], ◌∷◌, ◌++◌, length, map, Option, None, Some, refl, sym, ◌∙◌, ap, subst, arith, if◌then◌else◌}
+use Rattle.std.proofs.Common.{ℕ, zero, suc, ◌+◌, ◌≤◌, Bool, true, false, List, [], ◌∷◌, ◌++◌, length, map, refl, subst, arith, if◌then◌else◌}
 use Rattle.std.specs.Prelude.{Contains, IsTrue}
 use Rattle.sp_words.specs.declared.kind.BinOp.TheVariants as binary
-use Rattle.sp_words.specs.declared.kind.Kind.TheVariants.{Reg, Sram, Fifo, LineBuf, Dram, ArgIn, ArgOut}
-use Rattle.sp_words.specs.declared.kind.Style.{Style}
-use Rattle.sp_words.specs.declared.kind.Style.TheVariants.{Pipe}
 use Rattle.sp_words.specs.declared.types.Ty.{Ty}
 use Rattle.sp_words.specs.declared.types.Ty.TheVariants.{Bit}
 use Rattle.sp_words.specs.Types.{int_type}
 use Rattle.sp_tree.specs.declared.statement.Comb.{Comb}
-use Rattle.sp_tree.specs.Expressions.{mem, dims}
 use Rattle.sp_tree.specs.Footprint as tree_names
 use Rattle.sp_tree.specs.Footprint.{Names, AllName, StmtKindNames, BodyNames}
-use Rattle.sp_tree.specs.PlainExpression.{PlainExpr, PlainExprs, expr, literal, counter, get_sram, two, no_expr, more_expr, type_of}
-use Rattle.sp_tree.specs.PlainProgram.{PlainMem, PlainProgram}
+use Rattle.sp_tree.specs.PlainExpression.{PlainExpr, expr, get_sram, two}
+use Rattle.sp_tree.specs.PlainProgram.{PlainProgram}
 use Rattle.sp_tree.specs.PlainStatement as tree
 use Rattle.sp_tree.specs.PlainStatement.{PlainSpan, single, range, PlainStmtKind, PlainStmts, stmt, declare, name, set_reg, set_out, set_sram, enq, load_sram, load_line, store, gather, scatter, block, foreach, reduce, mem_reduce, fsm, branch, no_stmt, more_stmt}
-use Rattle.sp_tree.specs.Structure.{mems_declared, mems_in, own_mems, is_inner, slice_lanes}
-use Rattle.sp_tree.specs.Typing.{Scope, BodyTyped, StmtTyped, BoundsTyped, SpansTyped, after, after_all, with_counters, with_val}
+use Rattle.sp_tree.specs.Structure.{mems_declared, mems_in, own_mems}
+use Rattle.sp_tree.specs.Typing.{Scope, StmtTyped, BoundsTyped, SpansTyped, after, after_all, with_counters}
 use Rattle.sp_core.specs.declared.operation.OpKind.TheVariants as kind
-use Rattle.sp_core.specs.Declarations.{dram_number as dram_place}
-use Rattle.sp_core.specs.Footprint.{MayName, AllPass, ListNames, CountersName, SpansName, NodeNames, StagesName}
+use Rattle.sp_core.specs.Footprint.{AllPass, CountersName, SpansName, NodeNames, StagesName}
 use Rattle.sp_core.specs.PlainCore as core_tree
 use Rattle.sp_core.specs.PlainCore.{PlainOp, PlainCounter, PlainNode, PlainStages, PlainCore, no_stage, more_stage}
 use Rattle.sp_sugar.specs.Combination.{element_counters, element_indices, is_last_at, conjunction, is_last_element, element_value, element_ops, element_loop, operator_of}
-use Rattle.sp_sugar.specs.Early.{bounds_of, parts_of, is_early, is_early_slice, is_early_part, registers_for, after as after_word, into_register, from_register, counters_of, spans_from, bound_stages, part_ops, slice_ops, slice_stage, stage_of, early_stages}
-use Rattle.sp_sugar.specs.Numbers.{mem_number, dram_number, numbers_from}
-use Rattle.sp_sugar.specs.Operations.{Code, Codes, alone, read_op, write_op, literal_op, computes, under, code, codes, word_list}
-use Rattle.sp_sugar.specs.Registers.{ending_of, at_end, beside, inside, registers_in, owned_registers}
-use Rattle.sp_sugar.specs.Runs.{Run, no_run, next_code, with_stmt, inner_run}
-use Rattle.sp_sugar.specs.Stages.{run_stage, first_of, Combines, nothing, folds, reduces, reduces_elements, combines, combining, combination, combination_stage, inner_node, last_stages, load_node, store_node, style_of, outer_node, body_node, stages, node}
-use Rattle.sp_sugar.specs.Uses.{Ending, no_more, in_last_run, in_combination}
-use Rattle.sp_sugar.specs.Values.{Sources, no_sources, in_register, with_state}
-use Rattle.sp_sugar.proofs.Entering.{same_mems, own_declared}
-use Rattle.sp_laned.proofs.Naming.{SourceHas, SourcesHave, ValuesHave, RegisterHas, changed_have, Test, InRange, Declared, declared_front, declared_back, range_after, is_chip, chip_passes, names_pass, Pass, pass_append, IsPassed, code_passes, codes_pass, RunPasses, next_passes, stmt_passes, inner_passes}
+use Rattle.sp_sugar.specs.Early.{bounds_of, parts_of, is_early, is_early_slice, is_early_part, after as after_word, into_register, from_register, counters_of, spans_from, bound_stages, part_ops, slice_ops, slice_stage, stage_of, early_stages}
+use Rattle.sp_sugar.specs.Numbers.{mem_number, numbers_from}
+use Rattle.sp_sugar.specs.Operations.{Code, Codes, read_op, write_op, literal_op, computes, under, code, codes, word_list}
+use Rattle.sp_sugar.specs.Registers.{at_end, beside, inside, owned_registers}
+use Rattle.sp_sugar.specs.Stages.{run_stage, first_of, Combines, nothing, folds, reduces, reduces_elements, combining, combination}
+use Rattle.sp_sugar.specs.Uses.{Ending}
+use Rattle.sp_sugar.specs.Values.{Sources, no_sources}
+use Rattle.sp_sugar.proofs.Entering.{same_mems}
+use Rattle.sp_laned.proofs.Naming.{SourcesHave, RegisterHas, Test, InRange, Declared, declared_front, declared_back, range_after, is_chip, names_pass, Pass, pass_append, IsPassed, code_passes, codes_pass}
 
 pub first_has : (P : ℕ → Type 0) (n : ℕ) (l : List core_tree.PlainMem) → P n → RegisterHas P (first_of n l)
 first_has P n [] h = tt
@@ -106,13 +100,21 @@ module _ (p : PlainProgram) where
     if_ops true xs ys h k = h
     if_ops false xs ys h k = k
 
-    if_stages : (b : Bool) (xs ys : PlainStages) → StagesName core t.is xs → StagesName core t.is ys → StagesName core t.is (if b then xs else ys)
-    if_stages true xs ys h k = h
-    if_stages false xs ys h k = k
+    -- what holds of stages still does where others come before them, which name what passes
+    pub record Holding : Type 1 where
+      pub Good : PlainStages → Type 0
+      pub good : (ops : List PlainOp) (rest : PlainStages) → Pass p core t ops → Good rest → Good (stage_of ops rest)
 
-    pub run_pass : (ops : List PlainOp) (rest : PlainStages) → Pass p core t ops → StagesName core t.is rest → StagesName core t.is (run_stage ops rest)
-    run_pass [] rest h k = k
-    run_pass (op ∷ ops) rest h k = ((tt, tt, h), k)
+    abbrev pub naming : Holding
+    naming = record { Good = λ xs. StagesName core t.is xs; good = λ ops rest h k. ((tt, tt, h), k) }
+
+    if_stages : (g : Holding) (b : Bool) (xs ys : PlainStages) → g.Good xs → g.Good ys → g.Good (if b then xs else ys)
+    if_stages g true xs ys h k = h
+    if_stages g false xs ys h k = k
+
+    pub run_pass : (g : Holding) (ops : List PlainOp) (rest : PlainStages) → Pass p core t ops → g.Good rest → g.Good (run_stage ops rest)
+    run_pass g [] rest h k = k
+    run_pass g (op ∷ ops) rest h k = g.good (op ∷ ops) rest h k
 
     module _ (sources : Sources) (have : SourcesHave (IsPassed p core t) sources) where
       pub list_passes : (e : PlainExpr) → Names (is_chip p core t) e → Pass p core t (word_list p.mems sources e)
@@ -145,11 +147,11 @@ module _ (p : PlainProgram) where
           let most : first ≤ second = after_least crosses first b in
           (from_passes crosses r a o.0 (h r (omega arith)), from_passes crosses first b o.1.0 (h first le), spans_pass crosses second spans o.1.1 (regs_more r second (omega (arith, le, most)) h))
 
-      pub bounds_pass : (r : ℕ) (es : List PlainExpr) (rest : PlainStages) → Parts es → Regs r → StagesName core t.is rest → StagesName core t.is (bound_stages p.mems sources r es rest)
-      bounds_pass r [] rest o h k = k
-      bounds_pass r (e ∷ es) rest o h k =
-          if_stages (is_early e) (stage_of (into_register p.mems sources 0 r e) (bound_stages p.mems sources (suc r) es rest)) (bound_stages p.mems sources r es rest)
-          ((tt, tt, into_passes 0 r e o.0 (h r (omega arith))), bounds_pass (suc r) es rest o.1 (regs_more r (suc r) (omega arith) h) k) (bounds_pass r es rest o.1 h k)
+      pub bounds_pass : (g : Holding) (r : ℕ) (es : List PlainExpr) (rest : PlainStages) → Parts es → Regs r → g.Good rest → g.Good (bound_stages p.mems sources r es rest)
+      bounds_pass g r [] rest o h k = k
+      bounds_pass g r (e ∷ es) rest o h k =
+          if_stages g (is_early e) (stage_of (into_register p.mems sources 0 r e) (bound_stages p.mems sources (suc r) es rest)) (bound_stages p.mems sources r es rest)
+          (g.good (into_register p.mems sources 0 r e) (bound_stages p.mems sources (suc r) es rest) (into_passes 0 r e o.0 (h r (omega arith))) (bounds_pass g (suc r) es rest o.1 (regs_more r (suc r) (omega arith) h) k)) (bounds_pass g r es rest o.1 h k)
 
       parts_pass : (crosses : PlainExpr → Bool) (at r : ℕ) (es : List PlainExpr) → Parts es → Regs r → Pass p core t (slice_ops p.mems sources crosses at r es)
       parts_pass crosses at r [] o h = tt
@@ -159,22 +161,22 @@ module _ (p : PlainProgram) where
           (if_ops (crosses e) (into_register p.mems sources at r e) [] (into_passes at r e o.0 (h r (omega arith))) tt)
           (parts_pass crosses (at + length first) (after_word crosses r e) es o.1 (regs_more r (after_word crosses r e) (after_least crosses r e) h))
 
-      pub slice_pass : (r : ℕ) (spans : List PlainSpan) (rest : PlainStages) → Parts (parts_of spans) → Regs r → StagesName core t.is rest → StagesName core t.is (slice_stage p.mems sources r spans rest)
-      slice_pass r spans rest o h k =
-          if_stages (is_early_slice spans) (stage_of (slice_ops p.mems sources (is_early_part spans) 0 r (parts_of spans)) rest) rest
-          ((tt, tt, parts_pass (is_early_part spans) 0 r (parts_of spans) o h), k) k
+      pub slice_pass : (g : Holding) (r : ℕ) (spans : List PlainSpan) (rest : PlainStages) → Parts (parts_of spans) → Regs r → g.Good rest → g.Good (slice_stage p.mems sources r spans rest)
+      slice_pass g r spans rest o h k =
+          if_stages g (is_early_slice spans) (stage_of (slice_ops p.mems sources (is_early_part spans) 0 r (parts_of spans)) rest) rest
+          (g.good (slice_ops p.mems sources (is_early_part spans) 0 r (parts_of spans)) rest (parts_pass (is_early_part spans) 0 r (parts_of spans) o h) k) k
 
       -- the early stages of a statement
-      pub early_pass : (scope : Scope) → InRange p scope → (r : ℕ) (k : PlainStmtKind) (rest : PlainStages) → StmtTyped p scope k → StmtKindNames t.ok k → Regs r → StagesName core t.is rest → StagesName core t.is (early_stages p.mems sources r k rest)
-      early_pass scope ran r (load_sram sram dram spans) rest typed o h k = slice_pass r spans rest (slice_parts scope ran spans typed.1.spans_typed o.2) h k
-      early_pass scope ran r (load_line line dram spans) rest typed o h k = slice_pass r spans rest (slice_parts scope ran spans typed.1.spans_typed o.2) h k
-      early_pass scope ran r (store dram spans sram) rest typed o h k = slice_pass r spans rest (slice_parts scope ran spans typed.1.spans_typed o.2) h k
-      early_pass scope ran r (gather sram dram places e) rest typed o h k = bounds_pass r (e ∷ []) rest (names_pass p core t scope ran e typed.1.how_many.0.0 o.3, tt) h k
-      early_pass scope ran r (scatter dram places e sram) rest typed o h k = bounds_pass r (e ∷ []) rest (names_pass p core t scope ran e typed.1.how_many.0.0 o.2, tt) h k
-      early_pass scope ran r (foreach style loops body) rest typed o h k = bounds_pass r (bounds_of loops) rest (bound_parts scope ran loops typed.1.bounds o.0) h k
-      early_pass scope ran r (reduce style fold acc loops body e comb) rest typed o h k = bounds_pass r (bounds_of loops) rest (bound_parts scope ran loops typed.1.bounds o.1) h k
-      early_pass scope ran r (mem_reduce style acc loops body part comb) rest typed o h k = bounds_pass r (bounds_of loops) rest (bound_parts scope ran loops typed.1.bounds o.2) h k
-      early_pass scope ran r _ rest typed o h k = k
+      pub early_pass : (g : Holding) (scope : Scope) → InRange p scope → (r : ℕ) (k : PlainStmtKind) (rest : PlainStages) → StmtTyped p scope k → StmtKindNames t.ok k → Regs r → g.Good rest → g.Good (early_stages p.mems sources r k rest)
+      early_pass g scope ran r (load_sram sram dram spans) rest typed o h k = slice_pass g r spans rest (slice_parts scope ran spans typed.1.spans_typed o.2) h k
+      early_pass g scope ran r (load_line line dram spans) rest typed o h k = slice_pass g r spans rest (slice_parts scope ran spans typed.1.spans_typed o.2) h k
+      early_pass g scope ran r (store dram spans sram) rest typed o h k = slice_pass g r spans rest (slice_parts scope ran spans typed.1.spans_typed o.2) h k
+      early_pass g scope ran r (gather sram dram places e) rest typed o h k = bounds_pass g r (e ∷ []) rest (names_pass p core t scope ran e typed.1.how_many.0.0 o.3, tt) h k
+      early_pass g scope ran r (scatter dram places e sram) rest typed o h k = bounds_pass g r (e ∷ []) rest (names_pass p core t scope ran e typed.1.how_many.0.0 o.2, tt) h k
+      early_pass g scope ran r (foreach style loops body) rest typed o h k = bounds_pass g r (bounds_of loops) rest (bound_parts scope ran loops typed.1.bounds o.0) h k
+      early_pass g scope ran r (reduce style fold acc loops body e comb) rest typed o h k = bounds_pass g r (bounds_of loops) rest (bound_parts scope ran loops typed.1.bounds o.1) h k
+      early_pass g scope ran r (mem_reduce style acc loops body part comb) rest typed o h k = bounds_pass g r (bounds_of loops) rest (bound_parts scope ran loops typed.1.bounds o.2) h k
+      early_pass g scope ran r _ rest typed o h k = k
 
     -- what a loop combines: its accumulator, what tells whether that holds a word, and a word
     abbrev pub CombPasses : Combines → Type 0

@@ -54,7 +54,7 @@ module _ (core : PlainCore) where
   -- stages of which the last one is a combination, and no other names what is its own
   abbrev pub LastCombines : (is : ℕ → Bool) → PlainStages → Type 0
   LastCombines is (more_stage first last false node rest) = NodeNames core is node × LastCombines is rest
-  LastCombines is (more_stage first last true (inner counters owned ops (Some at)) no_stage) = (c : Combination) × (is_other c ≡ is) × IsCombined c ops at
+  LastCombines is (more_stage first last true (inner counters owned ops (Some at)) no_stage) = LanesAtLast counters × ((c : Combination) × (is_other c ≡ is) × IsCombined c ops at)
   LastCombines is stages = ⊥
 
   abbrev mutual
@@ -67,4 +67,5 @@ module _ (core : PlainCore) where
 
     pub AreLaned : PlainStages → Type 0
     AreLaned no_stage = Unit {0}
-    AreLaned (more_stage first last comb node rest) = IsLaned node × AreLaned rest
+    AreLaned (more_stage first last true node rest) = AreLaned rest
+    AreLaned (more_stage first last false node rest) = IsLaned node × AreLaned rest
