@@ -86,7 +86,7 @@ fn core_of_parts(
 fn defined_core(alloc: Global, program: &Program) -> Result<Core, NoMemory>
     ensures core { IfOk result (λ core. plain_core core ≡ core_of (plain_program program.now)) }
     ensures ports { IfOk result (λ core. core.ports ≡ program.now.ports) }
-    ensures program { IfOk result (λ core. IsProgram (plain_program program.now)) }
+    ensures program { IsProgram (plain_program program.now) }
 {
     let mut mems = Vec::new(alloc);
     push_written(alloc, &mut mems, program.mems())?;
@@ -102,9 +102,8 @@ fn defined_core(alloc: Global, program: &Program) -> Result<Core, NoMemory>
 /// The core of a program: its memories without its DRAMs, in the order of the text, and then the registers that are
 /// added; its ports; and its block as a tree of loops and transfers over lists of operations, before its lanes stand one
 /// after the other. Where the program ends, its core ends with the same words, and counts as much. No combination owns a
-/// memory; only the last counter of a controller has several lanes; a combination stands where it is marked, and nothing else in its
-/// loop names what is its own; and the core
-/// is small enough for its lanes to stand one after the other.
+/// memory; only the last counter of a controller has several lanes; a combination stands where it is marked, and nothing
+/// else in its loop names its accumulator; and the core is small enough for its lanes to stand one after the other.
 pub fn desugar(alloc: Global, program: &Program) -> Result<Core, NoMemory>
     ensures core { IfOk result (λ core. plain_core core ≡ core_of (plain_program program.now)) }
     ensures ports { IfOk result (λ core. core.ports ≡ program.now.ports) }

@@ -6,7 +6,6 @@ use Rattle.sp_tree.specs.ProgramParts.{plain_program}
 use Rattle.sp_core.specs.CoreParts.{plain_core}
 use Rattle.sp_core.specs.Invariant.{IsCore}
 use Rattle.sp_core.specs.Plain.{plain_mem, plain_node}
-use Rattle.sp_sugar.specs.Core.{core_of}
 use Rattle.sp_sugar.specs.Numbers.{written_mems}
 use Rattle.sp_sugar.specs.Registers.{registers_in}
 use Rattle.sp_sugar.specs.Uses.{no_more}
