@@ -1,14 +1,14 @@
 -- How many operations the lanes of a body have.
-use Rattle.std.proofs.Common.{◌≡◌, ℕ, zero, suc, ◌+◌, ◌-◌, ◌*◌, ◌≤◌, ◌==◌, Bool, true, false, List, [], ◌∷◌, ◌++◌, length, map, take, drop, Option, None, Some, refl, sym, ◌∙◌, ap, subst, arith, if◌then◌else◌, length-append}
+use Rattle.std.proofs.Common.{◌≡◌, ℕ, zero, suc, ◌+◌, ◌-◌, ◌*◌, ◌≤◌, Bool, true, false, List, [], ◌∷◌, ◌++◌, length, take, drop, Option, None, Some, refl, sym, subst, arith, if◌then◌else◌, length-append}
 use Rattle.std.proofs.lemmas.List.{length-map}
 use Rattle.std.proofs.lemmas.Nat.{mul-le}
 use Rattle.std.specs.Prelude.{nat_le, slice_index}
 use Rattle.sp_words.specs.declared.kind.BinOp.{BinOp}
 use Rattle.sp_words.specs.declared.types.Ty.{Ty}
 use Rattle.sp_core.specs.PlainCore.{PlainOp}
-use Rattle.sp_lanes.specs.Bodies.{under, masked, in_mask, at_places, Body, lane_from, lane_body, more_bodies, lane_bodies, nowhere, standing, all_ops}
+use Rattle.sp_lanes.specs.Bodies.{masked, in_mask, at_places, Body, lane_from, lane_body, more_bodies, lane_bodies, nowhere, standing, all_ops}
 use Rattle.sp_lanes.specs.Combined.{Meeting, meeting, count_up_to, is_choice, moved, moved_place, met_ops, without_first, first_place, first_places, last_op, after_joined, meeting_in_order, in_order, combined, laned_ops}
-use Rattle.sp_lanes.specs.Joined.{LaneWord, Round, is_balanced, lane_words, joined_by, joined_word, one_round, rounds}
+use Rattle.sp_lanes.specs.Joined.{LaneWord, Round, is_balanced, lane_words, joined_by, one_round, rounds}
 use Rattle.sp_lanes.specs.Shared.{shared}
 use Rattle.sp_lanes.specs.Within.{Within, op_in, ops_in}
 

@@ -1,15 +1,14 @@
 -- How large the tree of a core is in lanes, by its weight.
-use Rattle.std.proofs.Common.{◌≡◌, ℕ, zero, suc, ◌+◌, ◌-◌, ◌*◌, ◌≤◌, ◌==◌, Bool, true, false, List, [], ◌∷◌, ◌++◌, length, map, Option, None, Some, option_map, refl, sym, ◌∙◌, ap, subst, arith, if◌then◌else◌, length-append, ◌⊎◌, inl, inr}
-use Rattle.std.proofs.lemmas.List.{length-map}
+use Rattle.std.proofs.Common.{◌≡◌, ℕ, zero, suc, ◌+◌, ◌*◌, ◌≤◌, ◌==◌, Bool, true, false, List, [], ◌∷◌, length, map, Option, None, Some, option_map, refl, sym, ◌∙◌, ap, arith, length-append, ◌⊎◌, inl, inr}
 use Rattle.std.proofs.lemmas.Nat.{mul-le}
 use Rattle.std.proofs.Math.Nat.{mul_assoc}
-use Rattle.std.proofs.Math.Option.{some-ne-none}
+use Rattle.std.proofs.lemmas.Option.{none-some}
 use Rattle.sp_core.specs.Around.{lanes_of}
 use Rattle.sp_core.specs.Elements.{numbers_below}
 use Rattle.sp_core.specs.Numbering.{node_count, node_count_in, operation_count, operation_count_in, counters_size, spans_size}
 use Rattle.sp_core.specs.PlainCore.{PlainOp, PlainCounter, PlainSpan, single, range, PlainNode, PlainStages, inner, outer, fsm, branch, load, store, sparse, no_stage, more_stage}
 use Rattle.sp_lanes.specs.Unrolled.{last_number, stages_in, stages_by_lane, stage_after, combination_of, owned_in_lanes, ops_in_lanes, inner_ops, combination_in, node_in, left_as_they_are, nodes_in}
-use Rattle.sp_lanes.specs.Within.{Within, owning, in_lane, ops_in, counter_in, counters_in, spans_in}
+use Rattle.sp_lanes.specs.Within.{Within, owning, in_lane, ops_in, counters_in, spans_in}
 use Rattle.sp_laned.specs.Weights.{node_weight, stages_weight}
 use Rattle.sp_laned.proofs.Heavy.{IsWithin, AreWithin}
 use Rattle.sp_unrolled_size.proofs.Bodies.{if_size, ops_size, plain_size, laned_size}
@@ -110,7 +109,7 @@ module _ (order : List ℕ) where
   lanes_size w counters owned ops None h k l = omega (arith, k, plain_size (last_number counters) (in_lane order counters owned w) owned (lanes_of counters) ops h)
   lanes_size w counters owned ops (Some at) h k (inr l) =
       omega (arith, laned_size (last_number counters) (in_lane order counters owned w) owned (lanes_of counters) ops at h, mul-le (lanes_of counters) 1 (lanes_of counters) (length ops) (omega arith) l)
-  lanes_size w counters owned ops (Some at) h k (inl l) = absurd (some-ne-none at l)
+  lanes_size w counters owned ops (Some at) h k (inl l) = absurd (none-some at (sym l))
 
   inner_size : (w : Within) (counters : List PlainCounter) (owned : List ℕ) (ops : List PlainOp) (comb : Option ℕ) → 1 ≤ lanes_of counters → lanes_of counters ≤ 16 → (comb ≡ None) ⊎ (1 ≤ length ops)
       → length (inner_ops order w counters owned ops comb) ≤ 16 + 7 * (lanes_of counters * length ops)
@@ -166,7 +165,7 @@ module _ (order : List ℕ) where
           arith,
           bounds,
           weight,
-          split_weight stages,
+          ap (λ n. all * n) (split_weight stages),
           after_size w counters owned stages l.0 most l.1,
           below_length all,
           rows_size (17 * plain_weight stages) 0 (λ m. nodes_in order (in_lane order counters owned w m) stages) (numbers_below all) last (λ m. row_small (in_lane order counters owned w m) (a * all) stages some k.1 l.1),
