@@ -135,6 +135,77 @@ format F|val x = ArgIn[Int];val k = ArgIn[FixPt[TRUE,_4,_4]];Accel {;val f = FIF
 format F|val img = DRAM[Int](4, 2);val a = DRAM[Int](4, 2);val y0 = ArgOut[Int];val y = ArgOut[Bit];val k = ArgIn[Int];Accel {;val n = Reg[Int](-15);;if (false ^ mux(false, false, n > k)) {;};;val acc = Reg[Bit](true);;acc := acc ^ n.to[Bit];;y := acc;;y := (0x14 % n).to[Bit];;};|-|-|0|val img = DRAM[Int](4, 2);val a = DRAM[Int](4, 2);val y0 = ArgOut[Int];val y = ArgOut[Bit];val k = ArgIn[Int];Accel {;  val n = Reg[Int](-15);  if (false ^ mux(false, false, n > k)) {;  };  val acc = Reg[Bit](true);  acc := acc ^ n.to[Bit];  y := acc;  y := (20 % n).to[Bit];};\n\
 format F|val zZ9_ = ArgIn[Int];val d = DRAM[Int](8);val x0 = ArgIn[Int];val x = ArgIn[Int];val X = DRAM[Int](10);Accel {;val p = SRAM[Int](3);MemReduce(p)(-3 until -8 by 1){ (i) =>;val m = SRAM[Int](3);Foreach(3){ c =>;m(c) = i;};m;}{_ + _};val v = (max(x0, zZ9_.value) & 3);};|-|-|0|val zZ9_ = ArgIn[Int];val d = DRAM[Int](8);val x0 = ArgIn[Int];val x = ArgIn[Int];val X = DRAM[Int](10);Accel {;  val p = SRAM[Int](3);  MemReduce(p)(-3 until -8 by 1){ i =>;    val m = SRAM[Int](3);    Foreach(3 by 1){ c =>;      m(c) = i;    };    m;  }{_ + _};  val v = max(x0, zZ9_) & 3;};\n\
 format F|val y = ArgOut[Bit];val y0 = ArgOut[Int];val k = ArgIn[Int];val a = DRAM[Bit](5);Accel {;if (true) {;val v = (~(7) % 7 + 7) % 7;;FSM(v + 0)(q => q < 8){ q => }{ q => q + 3 } } else {;if (false) {;} ; ;;Foreach(19 by 5){ c =>;val p = SRAM[Bit](10);} };val acc = Reg[Int](-14);y0 := acc;y0 := -14.to[Int];};|-|-|0|val y = ArgOut[Bit];val y0 = ArgOut[Int];val k = ArgIn[Int];val a = DRAM[Bit](5);Accel {;  if (true) {;    val v = (~7 % 7 + 7) % 7;    FSM(v + 0)(q => q < 8){ q =>;    }{ q => q + 3 };  } else {;    if (false) {;    };    Foreach(19 by 5){ c =>;      val p = SRAM[Bit](10);    };  };  val acc = Reg[Int](-14);  y0 := acc;  y0 := -14;};\n\
+seq F S|val x = ArgIn[Int];val y = ArgOut[Int];Accel {;  y := x + 3;};|[args];x = 4;|-|0|out y 7;turns 2;\n\
+seq F S|val x = ArgIn[Int];val y = ArgOut[Int];Accel {;  y := x + 3;};|[args];x = 2147483647;|-|0|out y -2147483646;turns 2;\n\
+seq F S|val x = ArgIn[Int];val y = ArgOut[Int];Accel {;  y := x + 3;};|turns = 2;[args];x = 4;|-|0|out y 7;turns 2;\n\
+seq F S|val x = ArgIn[Int];val y = ArgOut[Int];Accel {;  y := x + 3;};|turns = 1;[args];x = 4;|-|7|turns spent: 1;\n\
+seq F S|val x = ArgIn[Int];val y = ArgOut[Int];Accel {;  y := x + 3;};|turns = 0;[args];x = 4;|-|5|setup: range turns at 0;\n\
+seq F S|val x = ArgIn[Int];val y = ArgOut[Int];Accel {;  y := x + 3;};|delays = [0, 1000001];[args];x = 4;|-|5|setup: range delays at 1;\n\
+seq F S|val x = ArgIn[Int];val y = ArgOut[Int];Accel {;  y := x + 3;};|[args];x = \"4.75\";|-|0|out y 7;turns 2;\n\
+seq F S|val x = ArgIn[Int];val y = ArgOut[Int];Accel {;  y := x + 3;};|[args];x = \"-0.5\";|-|0|out y 2;turns 2;\n\
+seq F S|val x = ArgIn[Int];val y = ArgOut[Int];Accel {;  y := x + 3;};||-|5|setup: missing args.x;\n\
+seq F S|val x = ArgIn[Int];val y = ArgOut[Int];Accel {;  y := x + 3;};|[args];x = 2147483648;|-|5|setup: range args.x at 0;\n\
+seq F S|val x = ArgIn[Int];val y = ArgOut[Int];Accel {;  y := x + 3;};|[args];x = 4;z = 1;|-|5|setup: key args.z;\n\
+seq F S|val x = ArgIn[Int];val y = ArgOut[Int];Accel {;  y := x + 3;};|x = = 1;|-|5|setup: no toml;\n\
+seq F S|val x = ArgIn[Int];val y = ArgOut[Int];Accel {;  y := x + 3;};|-|-|8|read fault;\n\
+seq F S|val y = ArgOut[Int]; Accel { Foreach(0 by 1){ i => y := i } }||-|0|out y 0;turns 2;\n\
+seq F S|val y = ArgOut[Int]; Accel { Foreach(15 until 0){ i => y := i } }||-|0|out y 0;turns 2;\n\
+seq F S|val c = DRAM[Int](10);Accel {;val s = SRAM[Int](10);Foreach(10 by 1 par 4){ i => s(i) = i * i };c(0::10) store s;};||-|0|dram c 0 1 4 9 16 25 36 49 64 81;turns 34;\n\
+seq F S|val a = DRAM[Int](8);val c = DRAM[Int](4);Accel {;  val s = SRAM[Int](8);  val h = SRAM[Int](4);  s load a(0::8);  Foreach(4 by 1){ j => h(j) = 0 };  Foreach(8 by 1){ i =>;    val v = s(i);    h(v) = h(v) + 1;  };  c(0::4) store h;};|[dram];a = \"a\";|0,1,1,3;1,0,2,1;|0|dram a 0 1 1 3 1 0 2 1;dram c 2 4 1 1;turns 51;\n\
+seq F S|val a = DRAM[Int](8);Accel {;};|[dram];a = \"a\";|0,1,1,3;1,0,2;|5|setup: size dram.a, want 8, got 7;\n\
+seq F S|val a = DRAM[Int](4);Accel {;};|[dram];a = \"a\";|1,2;3,four;|5|setup: csv dram.a row 2;\n\
+seq F S|val y = ArgOut[Int]; Accel { val s = SRAM[Int](2); y := s(0) }||-|6|fault: Unwritten at 56;\n\
+seq F S|val y = ArgOut[Int]; Accel { val s = SRAM[Int](2); y := s(2) }||-|6|fault: Bounds at 56;\n\
+seq F S|val y = ArgOut[Int]; Accel { val f = FIFO[Int](4); Foreach(5 by 1){ i => f.enq(i) } }||-|6|fault: FifoFull at 73;\n\
+seq F S|val x = ArgIn[Int];val y = ArgOut[Int];Accel {;val n = Reg[Int](0);FSM(x)(s => s > 0){ s => n := n + s }{ s => s - 1 };y := n;};|[args];x = 0;|-|0|out y 0;turns 4;\n\
+seq F S|val x = ArgIn[Int];val y = ArgOut[Int];Accel {;val n = Reg[Int](0);FSM(x)(s => s > 0){ s => n := n + s }{ s => s - 1 };y := n;};|[args];x = 5;|-|0|out y 15;turns 14;\n\
+seq F S|val x = ArgIn[Int];val y = ArgOut[Int];Accel {;val n = Reg[Int](0);FSM(x)(s => s > 0){ s => n := n + s }{ s => s - 1 };y := n;};|turns = 1;[args];x = 5;|-|7|turns spent: 1;\n\
+seq F S|val x = ArgIn[Int];val y = ArgOut[Int];Accel {;val n = Reg[Int](0);FSM(x)(s => s > 0){ s => n := n + s }{ s => s - 1 };y := n;};|turns = 2;[args];x = 5;|-|7|turns spent: 2;\n\
+seq F S|val x = ArgIn[Int];val y = ArgOut[Int];Accel {;val n = Reg[Int](0);FSM(x)(s => s > 0){ s => n := n + s }{ s => s - 1 };y := n;};|turns = 3;[args];x = 5;|-|7|turns spent: 3;\n\
+seq F S|val x = ArgIn[Int];val y = ArgOut[Int];Accel {;val n = Reg[Int](0);FSM(x)(s => s > 0){ s => n := n + s }{ s => s - 1 };y := n;};|turns = 4;[args];x = 5;|-|7|turns spent: 4;\n\
+seq F S|val x = ArgIn[Int];val y = ArgOut[Int];Accel {;val n = Reg[Int](0);FSM(x)(s => s > 0){ s => n := n + s }{ s => s - 1 };y := n;};|turns = 5;[args];x = 5;|-|7|turns spent: 5;\n\
+seq F S|val x = ArgIn[Int];val y = ArgOut[Int];Accel {;val n = Reg[Int](0);FSM(x)(s => s > 0){ s => n := n + s }{ s => s - 1 };y := n;};|turns = 6;[args];x = 5;|-|7|turns spent: 6;\n\
+seq F S|val x = ArgIn[Int];val y = ArgOut[Int];Accel {;val n = Reg[Int](0);FSM(x)(s => s > 0){ s => n := n + s }{ s => s - 1 };y := n;};|turns = 7;[args];x = 5;|-|7|turns spent: 7;\n\
+seq F S|val x = ArgIn[Int];val y = ArgOut[Int];Accel {;val n = Reg[Int](0);FSM(x)(s => s > 0){ s => n := n + s }{ s => s - 1 };y := n;};|turns = 8;[args];x = 5;|-|7|turns spent: 8;\n\
+seq F S|val x = ArgIn[Int];val y = ArgOut[Int];Accel {;val n = Reg[Int](0);FSM(x)(s => s > 0){ s => n := n + s }{ s => s - 1 };y := n;};|turns = 9;[args];x = 5;|-|7|turns spent: 9;\n\
+seq F S|val x = ArgIn[Int];val y = ArgOut[Int];Accel {;val n = Reg[Int](0);FSM(x)(s => s > 0){ s => n := n + s }{ s => s - 1 };y := n;};|turns = 10;[args];x = 5;|-|7|turns spent: 10;\n\
+seq F S|val x = ArgIn[Int];val y = ArgOut[Int];Accel {;val n = Reg[Int](0);FSM(x)(s => s > 0){ s => n := n + s }{ s => s - 1 };y := n;};|turns = 11;[args];x = 5;|-|7|turns spent: 11;\n\
+seq F S|val x = ArgIn[Int];val y = ArgOut[Int];Accel {;val n = Reg[Int](0);FSM(x)(s => s > 0){ s => n := n + s }{ s => s - 1 };y := n;};|turns = 12;[args];x = 5;|-|7|turns spent: 12;\n\
+seq F S|val x = ArgIn[Int];val y = ArgOut[Int];Accel {;val n = Reg[Int](0);FSM(x)(s => s > 0){ s => n := n + s }{ s => s - 1 };y := n;};|turns = 13;[args];x = 5;|-|7|turns spent: 13;\n\
+seq F S|val x = ArgIn[Int];val y = ArgOut[Int];Accel {;val n = Reg[Int](0);FSM(x)(s => s > 0){ s => n := n + s }{ s => s - 1 };y := n;};|turns = 14;[args];x = 5;|-|0|out y 15;turns 14;\n\
+seq F S|val c = DRAM[Int](4);Accel {;val f = FIFO[Int](4);val s = SRAM[Int](4);Foreach(4 by 1){ i => f.enq(i * i) };Foreach(4 by 1){ i => s(i) = f.deq() };c(0::4) store s;};||-|0|dram c 0 1 4 9;turns 26;\n\
+seq F S|val a = DRAM[FixPt[FALSE,_64,_0]](2);Accel {;};|[dram];a = \"a\";|18446744073709551615,0;|0|dram a 18446744073709551615 0;turns 1;\n\
+seq F S|val x = ArgIn[FixPt[TRUE,_8,_8]];val z = ArgIn[FixPt[TRUE,_8,_8]];val y = ArgOut[FixPt[TRUE,_8,_8]];Accel {;y := x * z;};|[args];x = \"1.5\";z = \"-2.25\";|-|0|out y -3.375;turns 2;\n\
+seq F S|val x = ArgIn[FixPt[TRUE,_8,_8]];val z = ArgIn[FixPt[TRUE,_8,_8]];val y = ArgOut[FixPt[TRUE,_8,_8]];Accel {;y := x * z;};|[args];x = \"0.00390625\";z = \"-0.00390625\";|-|0|out y -0.00390625;turns 2;\n\
+seq F S|Acc||-|1|source: no parse at 0;\n\
+seq F S|val y = ArgOut[Int]; Accel { y := z }||-|3|types: unknown name at 34;\n\
+seq F S|val y = ArgOut[Int]; Accel { Foreach(4 by 1 par 17){ i => y := i } }||-|4|limit: lanes 17;\n\
+seq F S|val b = DRAM[Int](5);Accel {;Foreach(4 by 1 par 2){ t => val s = SRAM[Int](2); Foreach(2 by 1){ j => s(j) = t }; b(t::t + 2) store s };};||-|0|dram b 0 1 2 3 3;turns 42;\n\
+seq F S|val c = DRAM[Int](2);Accel {;val acc = SRAM[Int](2);MemReduce(acc)(3 by 1){ k => val p = SRAM[Int](2); Foreach(2 by 1){ i => p(i) = k * 10 + i }; p }{_ + _};c(0::2) store acc;};||-|0|dram c 30 33;turns 33;\n\
+seq F S|val a = DRAM[Int](8);val b = DRAM[Int](8);Accel {;Foreach(8 by 4){ t => val s = SRAM[Int](4); s load a(t::t + 4); b(t::t + 4) store s };};|[dram];a = \"a\";|1,2,3,4;5,6,7,8;|0|dram a 1 2 3 4 5 6 7 8;dram b 1 2 3 4 5 6 7 8;turns 26;\n\
+seq F S|val img = DRAM[Int](4, 5);val res = DRAM[Int](2, 3);Accel {;  val lb = LineBuffer[Int](3, 5);  val o = SRAM[Int](3);  Foreach(4 by 1){ r =>;    lb load img(r, 0::5);    if (r >= 2) {;      Foreach(3 by 1){ c =>;        val s = Reg[Int](0);        Reduce(s)(3 by 1, 3 by 1){ (i, j) => lb(i, c + j) }{_ + _};        o(c) = s;      };      res(r - 2, 0::3) store o;    };  };};|[dram];img = \"a\";|0,1,2,3,4,5,6,7,8,9,10,11,12,13,14,15,16,17,18,19;|0|dram img 0 1 2 3 4 5 6 7 8 9 10 11 12 13 14 15 16 17 18 19;dram res 54 63 72 99 108 117;turns 124;\n\
+seq F S|val img = DRAM[Int](4, 5);val res = DRAM[Int](2, 3);Accel {;  val lb = LineBuffer[Int](3, 4);  val o = SRAM[Int](3);  Foreach(4 by 1){ r =>;    lb load img(r, 0::5);    if (r >= 2) {;      Foreach(3 by 1){ c =>;        val s = Reg[Int](0);        Reduce(s)(3 by 1, 3 by 1){ (i, j) => lb(i, c + j) }{_ + _};        o(c) = s;      };      res(r - 2, 0::3) store o;    };  };};|[dram];img = \"a\";|0,1,2,3,4,5,6,7,8,9,10,11,12,13,14,15,16,17,18,19;|6|fault: RowLength at 144;\n\
+seq F S|val y = ArgOut[Int];Accel {;val acc = Reg[Int](0);Stream { val f = FIFO[Int](2); val g = FIFO[Int](2); Foreach(8 by 1){ i => f.enq(i) }; Foreach(8 by 1){ i => g.enq(f.deq() * 2) }; Reduce(acc)(8 by 1){ i => g.deq() }{_ + _} };y := acc;};||-|0|out y 56;turns 49;\n\
+seq F S|val y = ArgOut[Int]; Accel { Stream { val f = FIFO[Int](2); Foreach(8 by 1){ i => f.enq(i) }; Foreach(5 by 1){ i => y := f.deq() } } }||-|6|fault: FifoFull at 29;\n\
+seq F S|val y = ArgOut[Int]; Accel { Stream { val f = FIFO[Int](2); Foreach(8 by 1){ i => f.enq(i) }; Foreach(6 by 1){ i => y := f.deq() } } }||-|0|out y 5;turns 33;\n\
+seq F S|val y = ArgOut[Int];Accel {;val s = SRAM[Int](1);s(0) = 7;Foreach(4 by 1){ i => y := s(mux(i == 0, 1, 0)) };};||-|6|fault: Bounds at 85;\n\
+seq F S|val y = ArgOut[Int];Accel {;val s = SRAM[Int](2);s(0) = 7;Foreach(4 by 1){ i => y := s(mux(i == 0, 1, 0)) };};||-|6|fault: Unwritten at 85;\n\
+seq F S|val y = ArgOut[Int];Accel {;val f = FIFO[Int](1);Foreach(4 by 1){ i => f.enq(i);if (i == 0) { f.enq(7) };y := f.deq() };};||-|6|fault: FifoFull at 94;\n\
+seq F S|val y = ArgOut[Int];Accel {;val f = FIFO[Int](1);Foreach(4 by 1){ i => f.enq(i);if (i == 0) { y := f.deq() };y := f.deq() + 1 };};||-|6|fault: FifoEmpty at 114;\n\
+seq F S|val a = DRAM[Int](4);Accel {;val s = SRAM[Int](2);Foreach(4 by 1){ i => s load a(mux(i == 0, 3, 0)::mux(i == 0, 5, 2)) };};||-|6|fault: DramBounds at 72;\n\
+seq F S|val a = DRAM[Int](2, 4);Accel {;val l = LineBuffer[Int](2, 2);Foreach(4 by 1){ i => l load a(0, 0::mux(i == 0, 3, 2)) };};||-|6|fault: RowLength at 84;\n\
+seq F S|val y = ArgOut[Int];Accel {;val s = SRAM[Int](1);s(0) = 7;Foreach(4 by 1){ i => y := s(mux(i == 2, 1, 0)) };};||-|6|fault: Bounds at 85;\n\
+seq F S|val y = ArgOut[Int];Accel {;val s = SRAM[Int](2);s(0) = 7;Foreach(4 by 1){ i => y := s(mux(i == 2, 1, 0)) };};||-|6|fault: Unwritten at 85;\n\
+seq F S|val y = ArgOut[Int];Accel {;val f = FIFO[Int](1);Foreach(4 by 1){ i => f.enq(i);if (i == 2) { f.enq(7) };y := f.deq() };};||-|6|fault: FifoFull at 94;\n\
+seq F S|val y = ArgOut[Int];Accel {;val f = FIFO[Int](1);Foreach(4 by 1){ i => f.enq(i);if (i == 2) { y := f.deq() };y := f.deq() + 1 };};||-|6|fault: FifoEmpty at 114;\n\
+seq F S|val a = DRAM[Int](4);Accel {;val s = SRAM[Int](2);Foreach(4 by 1){ i => s load a(mux(i == 2, 3, 0)::mux(i == 2, 5, 2)) };};||-|6|fault: DramBounds at 72;\n\
+seq F S|val a = DRAM[Int](2, 4);Accel {;val l = LineBuffer[Int](2, 2);Foreach(4 by 1){ i => l load a(0, 0::mux(i == 2, 3, 2)) };};||-|6|fault: RowLength at 84;\n\
+seq F S|val y = ArgOut[Int];Accel {;val s = SRAM[Int](1);s(0) = 7;Foreach(4 by 1){ i => y := s(mux(i == 3, 1, 0)) };};||-|6|fault: Bounds at 85;\n\
+seq F S|val y = ArgOut[Int];Accel {;val s = SRAM[Int](2);s(0) = 7;Foreach(4 by 1){ i => y := s(mux(i == 3, 1, 0)) };};||-|6|fault: Unwritten at 85;\n\
+seq F S|val y = ArgOut[Int];Accel {;val f = FIFO[Int](1);Foreach(4 by 1){ i => f.enq(i);if (i == 3) { f.enq(7) };y := f.deq() };};||-|6|fault: FifoFull at 94;\n\
+seq F S|val y = ArgOut[Int];Accel {;val f = FIFO[Int](1);Foreach(4 by 1){ i => f.enq(i);if (i == 3) { y := f.deq() };y := f.deq() + 1 };};||-|6|fault: FifoEmpty at 114;\n\
+seq F S|val a = DRAM[Int](4);Accel {;val s = SRAM[Int](2);Foreach(4 by 1){ i => s load a(mux(i == 3, 3, 0)::mux(i == 3, 5, 2)) };};||-|6|fault: DramBounds at 72;\n\
+seq F S|val a = DRAM[Int](2, 4);Accel {;val l = LineBuffer[Int](2, 2);Foreach(4 by 1){ i => l load a(0, 0::mux(i == 3, 3, 2)) };};||-|6|fault: RowLength at 84;\n\
 format F|val a = DRAM[Int](67108865); Accel { }|-|-|4|limit: dram 67108865;\n\
 format F|Accel { y := 3|-|-|1|source: no parse at 14;\n\
 format F|val y = ArgOut[Int]; Accel { y := z }|-|-|3|types: unknown name at 34;\n\
