@@ -1,11 +1,9 @@
 -- A program that ends within its setup's turns isn't refused.
-use Rattle.std.proofs.Common.{◌≡◌, inl, inr, ap, sym, ◌∙◌, ◌∷◌, subst, ℕ, List, Ok, String, arith}
-use Rattle.std.specs.Prelude.{⊤, Result}
+use Rattle.std.proofs.Common.{◌≡◌, inl, inr, ap, sym, ◌∙◌, ◌∷◌, subst, ℕ, List, String, arith}
+use Rattle.std.specs.Prelude.{⊤}
 use Rattle.std.specs.declared.alloc.Global.{Global}
 use Rattle.sp_edges.specs.Standing.{Standing, IsAllOf}
 use Rattle.sp_edges.specs.Calls.{Call, given}
-use Rattle.sp_reader.specs.declared.error.ReadError.{ReadError}
-use Rattle.sp_reader.specs.PlainStatement.{PlainSyntax}
 use Rattle.sp_setup.specs.declared.error.SetupError.{SetupError}
 use Rattle.sp_setup.specs.declared.error.SetupEnd.{SetupEnd}
 use Rattle.sp_setup.specs.declared.error.SetupEnd.TheVariants as setup
@@ -13,7 +11,6 @@ use Rattle.sp_setup.specs.Setup.{PlainSetup, IsSetup, SetupEnds, files_named}
 use Rattle.sp_setup.specs.Laws.{AreTold, SetupEnds-wide, SetupEnds-read_fault}
 use Rattle.sp_source.specs.Texts.{Spells}
 use Rattle.sp_tree.specs.PlainProgram.{PlainProgram}
-use Rattle.sp_typed.specs.Programs.{program_of}
 use Rattle.sp_words.specs.Ports.{PlainPorts}
 use Rattle.sp_top.specs.Status.{PlainStatus, done, words, setup_refused, read_fault, write_fault, memory, listing_refused, conflict, cycles_spent, stopped_at, turns_spent, too_long, unbuilt, source_refused}
 use Rattle.sp_top.specs.Check.{CheckRefuses}
@@ -29,19 +26,13 @@ use Rattle.sp_top.proofs.CompleteRuns.{first_letter, second_letter, read_part}
 -- what is used of the layers below
 pub record HasSeqLaws : Type 0 where
   pub texts : AreNotRefused
+  pub one_program : (text : List ℕ) (p q : PlainProgram) → Spells text p → Spells text q → p ≡ q
   pub not_refused : (told : List ℕ → Standing) (ports : PlainPorts) (bytes : List ℕ) (plain : PlainSetup) (e : SetupError) → AreTold told (files_named ports bytes)
       → IsSetup told ports bytes plain → SetupEnds told (λ _. ⊤) (λ _. ⊤) ports bytes (setup.Refused e) → ⊥
   pub not_long : (told : List ℕ → Standing) (ports : PlainPorts) (bytes : List ℕ) (plain : PlainSetup) (name : String Global) → AreTold told (files_named ports bytes)
       → IsSetup told ports bytes plain → SetupEnds told (λ _. ⊤) (λ _. ⊤) ports bytes (setup.TooLong name) → ⊥
   pub one_setup : (told : List ℕ → Standing) (ports : PlainPorts) (bytes : List ℕ) (one other : PlainSetup) → AreTold told (files_named ports bytes)
       → IsSetup told ports bytes one → IsSetup told ports bytes other → one ≡ other
-
--- a text spells one program
-one_tree : (r : Result PlainSyntax ReadError) (a b : PlainSyntax) → r ≡ Ok a → r ≡ Ok b → a ≡ b
-one_tree r a b e f = cc
-
-spells_one : (text : List ℕ) (p q : PlainProgram) → Spells text p → Spells text q → p ≡ q
-spells_one text p q one other = one.is_program ∙ ap program_of (one_tree _ one.tree other.tree one.is_read other.is_read) ∙ sym other.is_program
 
 module _ (laws : HasSeqLaws) (told : List ℕ → Standing) (sure failed : List ℕ → Type 0) (asked : List Call → Type 0) (fine : (name : List ℕ) → sure name → failed name → ⊥)
     (name setup_name : List ℕ) (program : PlainProgram) (plain : PlainSetup) (r : CanBeRun told sure name setup_name program plain) where
@@ -51,7 +42,7 @@ module _ (laws : HasSeqLaws) (told : List ℕ → Standing) (sure failed : List 
   program_part status refuses = checks laws.texts told failed asked name r.text program status (fine name r.name_sure) r.text_told r.text_not_long r.spells refuses
 
   one_program : (other : PlainProgram) → GivesProgram (told name) other → other ≡ program
-  one_program other gives = spells_one r.text other program (subst (λ (b : List ℕ). Spells b other) (same_bytes (told name) r.text gives.bytes r.text_told gives.gives.all) gives.spells) r.spells
+  one_program other gives = laws.one_program r.text other program (subst (λ (b : List ℕ). Spells b other) (same_bytes (told name) r.text gives.bytes r.text_told gives.gives.all) gives.spells) r.spells
 
   -- ---- the setup
 

@@ -27,7 +27,7 @@ use sp_edges::{Inputs, Sink};
 use sp_listing::{listing_breaks_nowhere, listing_has_one_reading};
 use sp_netlist::{one_ending, refusals_exact};
 use sp_setup::{setups_are_not_refused, setups_are_one};
-use sp_source::spelled_texts_are_not_refused;
+use sp_source::{spelled_texts_are_not_refused, texts_spell_one_program};
 use std::alloc::Global;
 
 // The texts of a command, or why it refuses.
@@ -41,9 +41,7 @@ fn texts_of<I: Inputs>(alloc: Global, command: Command<'_>, inputs: &mut I) -> R
         Command::Format { program } => print_canonical(alloc, program, inputs),
         Command::Compile { program } => compile(alloc, program, inputs),
         Command::Verilog { program } => print_verilog(alloc, program, inputs),
-        Command::Seq { program, setup } => {
-            run_sequentially(alloc, program, setup, inputs)
-        },
+        Command::Seq { program, setup } => run_sequentially(alloc, program, setup, inputs),
         Command::Simulate { listing, setup } => {
             simulate(alloc, View::Outcome, listing, setup, inputs)
         }
@@ -128,5 +126,6 @@ pub fn spatialc<I: Inputs, K: Sink, A: Sink>(
     setups_are_not_refused();
     setups_are_one();
     spelled_texts_are_not_refused();
+    texts_spell_one_program();
     answer(alloc, words, inputs, out, aside)
 }

@@ -32,6 +32,7 @@ returns-clause-runs g c = λ program setup plain plan is runnable in_time.
     let laws : HasSeqLaws =
     record {
       texts = c.spelled_texts_are_not_refused.ensures;
+      one_program = c.texts_spell_one_program.ensures;
       not_refused = c.setups_are_not_refused.ensures.refused;
       not_long = c.setups_are_not_refused.ensures.too_long;
       one_setup = c.setups_are_one.ensures;
