@@ -70,10 +70,10 @@ fn run_text(alloc: Global, program: &Program, setup: &Setup) -> Result<String, S
     ensures text { IfOk result (λ text. Leaves (plain_program program.now) (plain_setup setup.now) (string_bytes text)) }
     ensures refused { IfErr result (λ status. Stops (plain_program program.now) (plain_setup setup.now) (plain_status status)) }
 {
-    let mut run = Seq::load(alloc, program, &setup.input)?;
-    match run.run(setup.turns) {
+    let mut interpreter = Seq::load(alloc, program, &setup.input)?;
+    match interpreter.run(setup.turns) {
         SeqEnd::Ended { turns } => {
-            let output = run.outputs(alloc)?;
+            let output = interpreter.outputs(alloc)?;
             let text = turns_text(alloc, program.ports(), &output, turns)?;
             Ok(text)
         }
