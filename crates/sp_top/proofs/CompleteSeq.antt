@@ -1,4 +1,4 @@
--- A program that ends within its setup's turns isn't refused.
+-- The run of a program tells how the program ends.
 use Rattle.std.proofs.Common.{◌≡◌, inl, inr, ap, sym, ◌∙◌, ◌∷◌, subst, ℕ, List, String, arith}
 use Rattle.std.specs.Prelude.{⊤}
 use Rattle.std.specs.declared.alloc.Global.{Global}
@@ -14,14 +14,15 @@ use Rattle.sp_tree.specs.PlainProgram.{PlainProgram}
 use Rattle.sp_words.specs.Ports.{PlainPorts}
 use Rattle.sp_top.specs.Status.{PlainStatus, done, words, setup_refused, read_fault, write_fault, memory, listing_refused, conflict, cycles_spent, stopped_at, turns_spent, too_long, unbuilt, source_refused}
 use Rattle.sp_top.specs.Check.{CheckRefuses}
-use Rattle.sp_top.specs.Commands.{Command, check, format, compile, verilog, seq, simulate, waves, IsCommand, MayRefuse, MayEnd, NotRefused}
-use Rattle.sp_top.specs.Complete.{CanBeRun, EndsInTime}
+use Rattle.sp_top.specs.Commands.{Command, check, format, compile, verilog, seq, simulate, waves, IsCommand, DoneTexts, MayRefuse, Refuses, MayEnd, NotRefused}
+use Rattle.sp_top.specs.Complete.{CanBeRun, EndsInTime, TellsEnd}
 use Rattle.sp_top.specs.Record.{SinkChange, Records}
-use Rattle.sp_top.specs.Seq.{GivesProgram, Stops, SeqRefuses}
+use Rattle.sp_top.specs.Seq.{GivesProgram, RunsProgram, Stops, SeqRefuses}
 use Rattle.sp_top.specs.Simulate.{longest_setup, end_status, SetupRefuses}
 use Rattle.sp_top.proofs.CheckLemmas.{AreNotRefused, checks}
-use Rattle.sp_top.proofs.CompleteLemmas.{same_bytes, ends_well}
+use Rattle.sp_top.proofs.CompleteLemmas.{same_bytes}
 use Rattle.sp_top.proofs.CompleteRuns.{first_letter, second_letter, read_part}
+use Rattle.sp_top.proofs.RefusalLemmas.{IsRefusal, check_refuses, setup_refuses}
 
 -- what is used of the layers below
 pub record HasSeqLaws : Type 0 where
@@ -74,66 +75,110 @@ module _ (laws : HasSeqLaws) (told : List ℕ → Standing) (sure failed : List 
   the_plain bytes other all is =
       laws.one_setup told program.ports r.setup_bytes other plain r.files_told (subst (λ (b : List ℕ). IsSetup told program.ports b other) (the_setup bytes all) is) r.is_setup
 
-  -- ---- the run
-
-  run_part : EndsInTime program plain → (status : PlainStatus) → Stops program plain status → NotRefused status
-  run_part in_time done stops = absurd stops
-  run_part in_time words stops = absurd stops
-  run_part in_time (setup_refused refusal) stops = absurd stops
-  run_part in_time read_fault stops = absurd stops
-  run_part in_time (write_fault which) stops = absurd stops
-  run_part in_time memory stops = tt
-  run_part in_time (listing_refused error) stops = absurd stops
-  run_part in_time (conflict cycle bank port) stops = absurd stops
-  run_part in_time (cycles_spent cycles) stops = absurd stops
-  run_part in_time (stopped_at kind at) stops = let same = sym in_time.ends ∙ stops in absurd (cc)
-  run_part in_time (turns_spent turns) stops = let same = sym in_time.ends ∙ stops.1 in absurd (cc)
-  run_part in_time (too_long text) stops = absurd stops
-  run_part in_time (source_refused error) stops = absurd stops
-  run_part in_time (unbuilt line) stops = absurd stops
-
   setup_of : (other : PlainProgram) → other ≡ program → (status : PlainStatus) → SetupRefuses told failed (λ calls. asked (given name ∷ calls)) other.ports setup_name status → NotRefused status
   setup_of other same status refuses =
       let P : PlainProgram → Type 0 = λ p. SetupRefuses told failed (λ calls. asked (given name ∷ calls)) p.ports setup_name status in
       setup_part (λ calls. asked (given name ∷ calls)) status (subst P same refuses)
 
-  run_of : EndsInTime program plain → (other : PlainProgram) (plan : PlainSetup) (bytes : List ℕ) → other ≡ program → IsAllOf (told setup_name) bytes → IsSetup told other.ports bytes plan
-      → (status : PlainStatus) → Stops other plan status → NotRefused status
-  run_of in_time other plan bytes same all is status stops =
-      let P : PlainProgram → Type 0 = λ p. IsSetup told p.ports bytes plan in
-      let Q : PlainProgram → Type 0 = λ p. Stops p plan status in
-      let R : PlainSetup → Type 0 = λ s. Stops program s status in
-      run_part in_time status (subst R (the_plain bytes plan all (subst P same is)) (subst Q same stops))
+  -- ---- the run
 
-  refuses_well : EndsInTime program plain → (status : PlainStatus) → SeqRefuses told failed asked name setup_name status → NotRefused status
-  refuses_well in_time status (inl refuses) = program_part status refuses
-  refuses_well in_time status (inr (inl refuses)) = setup_of refuses.program (one_program refuses.program refuses.gives_program) status refuses.refuses
-  refuses_well in_time status (inr (inr stops)) =
+  -- where a command refuses, and nothing but memory was wanting
+  wants : (status : PlainStatus) → NotRefused status → IsRefusal status → Stops program plain status
+  wants done fine is = absurd is
+  wants words fine is = absurd fine
+  wants (setup_refused refusal) fine is = absurd fine
+  wants read_fault fine is = absurd fine
+  wants (write_fault which) fine is = absurd is
+  wants memory fine is = tt
+  wants (listing_refused error) fine is = absurd fine
+  wants (conflict cycle bank port) fine is = absurd fine
+  wants (cycles_spent cycles) fine is = absurd fine
+  wants (stopped_at kind at) fine is = absurd fine
+  wants (turns_spent turns) fine is = absurd fine
+  wants (too_long text) fine is = absurd fine
+  wants (source_refused error) fine is = absurd fine
+  wants (unbuilt line) fine is = absurd fine
+
+  tells_stop : (status : PlainStatus) → Stops program plain status → TellsEnd program plain status
+  tells_stop done stops = absurd stops
+  tells_stop words stops = stops
+  tells_stop (setup_refused refusal) stops = stops
+  tells_stop read_fault stops = stops
+  tells_stop (write_fault which) stops = tt
+  tells_stop memory stops = stops
+  tells_stop (listing_refused error) stops = stops
+  tells_stop (conflict cycle bank port) stops = stops
+  tells_stop (cycles_spent cycles) stops = stops
+  tells_stop (stopped_at kind at) stops = stops
+  tells_stop (turns_spent turns) stops = stops
+  tells_stop (too_long text) stops = stops
+  tells_stop (source_refused error) stops = stops
+  tells_stop (unbuilt line) stops = stops
+
+  -- what was run is this program with this setup
+  same_run : (P : PlainProgram → PlainSetup → Type 0) (other : PlainProgram) (plan : PlainSetup) (bytes : List ℕ) → other ≡ program → IsAllOf (told setup_name) bytes → IsSetup told other.ports bytes plan
+      → P other plan → P program plain
+  same_run P other plan bytes same all is holds =
+      let Q : PlainProgram → Type 0 = λ p. IsSetup told p.ports bytes plan in
+      let R : PlainProgram → Type 0 = λ p. P p plan in
+      subst (P program) (the_plain bytes plan all (subst Q same is)) (subst R same holds)
+
+  stop_of : (status : PlainStatus) → SeqRefuses told failed asked name setup_name status → Stops program plain status
+  stop_of status (inl refuses) = wants status (program_part status refuses) (check_refuses told failed asked name status refuses)
+  stop_of status (inr (inl refuses)) =
+      wants status (setup_of refuses.program (one_program refuses.program refuses.gives_program) status refuses.refuses)
+      (setup_refuses told failed (λ calls. asked (given name ∷ calls)) refuses.program.ports setup_name status refuses.refuses)
+  stop_of status (inr (inr stops)) =
       let there = stops.is_given in
-      run_of in_time stops.program stops.plain there.gives_setup.bytes (one_program stops.program there.gives_program) there.gives_setup.gives.all there.gives_setup.is status stops.stops
+      same_run (λ p s. Stops p s status) stops.program stops.plain there.gives_setup.bytes (one_program stops.program there.gives_program) there.gives_setup.gives.all there.gives_setup.is stops.stops
+
+  end_of : (out aside : List ℕ) → RunsProgram told asked name setup_name out aside → EndsInTime program plain
+  end_of out aside runs =
+      let there = runs.is_given in
+      let left = runs.leaves in
+      same_run EndsInTime runs.program runs.plain there.gives_setup.bytes (one_program runs.program there.gives_program) there.gives_setup.gives.all there.gives_setup.is
+      (record { outs = left.outs; drams = left.drams; turns = left.turns; shape = left.shape; ends = left.ends })
 
   -- words are one command
-  seq_alone : (said : List (List ℕ)) (status : PlainStatus) (command : Command) → IsCommand said (seq name setup_name) → IsCommand said command
-      → MayRefuse told failed asked command status → SeqRefuses told failed asked name setup_name status
-  seq_alone said status (check other) is also refuses = let a = is.0 in let b = also.0 in absurd (cc)
-  seq_alone said status (format other) is also refuses = let a = is.0 in let b = also.0 in absurd (cc)
-  seq_alone said status (compile other) is also refuses = let a = is.0 in let b = also.0 in absurd (cc)
-  seq_alone said status (verilog other) is also refuses = let a = is.0 in let b = also.0 in absurd (cc)
-  seq_alone said status (seq p s) is also refuses =
+  seq_alone : (said : List (List ℕ)) (command : Command) → IsCommand said (seq name setup_name) → IsCommand said command → command ≡ seq name setup_name
+  seq_alone said (check other) is also = let a = is.0 in let b = also.0 in absurd (cc)
+  seq_alone said (format other) is also = let a = is.0 in let b = also.0 in absurd (cc)
+  seq_alone said (compile other) is also = let a = is.0 in let b = also.0 in absurd (cc)
+  seq_alone said (verilog other) is also = let a = is.0 in let b = also.0 in absurd (cc)
+  seq_alone said (seq p s) is also =
       let a = is.0 in
       let b = also.0 in
       let one : p ≡ name = cc in
       let two : s ≡ setup_name = cc in
-      let P : List ℕ → Type 0 = λ n. SeqRefuses told failed asked n s status in
-      let Q : List ℕ → Type 0 = λ n. SeqRefuses told failed asked name n status in
-      subst Q two (subst P one refuses)
-  seq_alone said status (simulate l s) is also refuses =
+      ap (λ n. seq n s) one ∙ ap (λ n. seq name n) two
+  seq_alone said (simulate l s) is also =
       let letters : 101 ≡ 105 = sym (ap second_letter is.0) ∙ ap second_letter also.0 in absurd (omega (arith, letters))
-  seq_alone said status (waves l s) is also refuses =
+  seq_alone said (waves l s) is also =
       let letters : 115 ≡ 119 = sym (ap first_letter is.0) ∙ ap first_letter also.0 in absurd (omega (arith, letters))
 
+  refusal_tells : (said : List (List ℕ)) (status : PlainStatus) → IsCommand said (seq name setup_name) → Refuses said told failed asked status → TellsEnd program plain status
+  refusal_tells said status is refuses =
+      let P : Command → Type 0 = λ command. MayRefuse told failed asked command status in
+      tells_stop status (stop_of status (subst P (seq_alone said refuses.0 is refuses.1) refuses.2))
+
+  done_tells : (said : List (List ℕ)) (command : Command) (out aside : List ℕ) → IsCommand said (seq name setup_name) → IsCommand said command → DoneTexts told asked command out aside → EndsInTime program plain
+  done_tells said command out aside is also texts =
+      let P : Command → Type 0 = λ one. DoneTexts told asked one out aside in
+      end_of out aside (subst P (seq_alone said command is also) texts)
+
   pub seq_complete : (said : List (List ℕ)) (out aside : SinkChange) (result : PlainStatus) → Records (MayEnd said told failed asked) out aside result
-      → IsCommand said (seq name setup_name) → EndsInTime program plain → NotRefused result
-  seq_complete said out aside result records is in_time =
-      ends_well said told failed asked (λ none. none (seq name setup_name) is)
-      (λ status refuses. refuses_well in_time status (seq_alone said status refuses.0 is refuses.1 refuses.2)) out aside result records
+      → IsCommand said (seq name setup_name) → TellsEnd program plain result
+  seq_complete said out aside done records is = done_tells said records.2.0 records.0 records.1 is records.2.1 records.2.2
+  seq_complete said out aside words records is = absurd (records.2.0 (seq name setup_name) is)
+  seq_complete said out aside (setup_refused refusal) records is = refusal_tells said (setup_refused refusal) is records.2.0
+  seq_complete said out aside read_fault records is = refusal_tells said read_fault is records.2.0
+  seq_complete said out aside (write_fault which) records is = tt
+  seq_complete said out aside memory records is = tt
+  seq_complete said out aside (listing_refused error) records is = refusal_tells said (listing_refused error) is records.2.0
+  seq_complete said out aside (conflict cycle bank port) records is = refusal_tells said (conflict cycle bank port) is records.2.0
+  seq_complete said out aside (cycles_spent cycles) records is = refusal_tells said (cycles_spent cycles) is records.2.0
+  seq_complete said out aside (stopped_at kind at) records is = refusal_tells said (stopped_at kind at) is records.2.0
+  seq_complete said out aside (turns_spent turns) records is = refusal_tells said (turns_spent turns) is records.2.0
+  seq_complete said out aside (too_long text) records is = refusal_tells said (too_long text) is records.2.0
+  seq_complete said out aside (source_refused error) records is = refusal_tells said (source_refused error) is records.2.0
+  seq_complete said out aside (unbuilt line) records is = refusal_tells said (unbuilt line) is records.2.0

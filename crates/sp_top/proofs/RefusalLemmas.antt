@@ -74,7 +74,7 @@ compile_refuses told failed asked program (too_long text) refuses = tt
 compile_refuses told failed asked program (source_refused error) refuses = tt
 compile_refuses told failed asked program (unbuilt line) refuses = tt
 
-check_refuses : (told : List ℕ → Standing) (failed : List ℕ → Type 0) (asked : List Call → Type 0) (program : List ℕ) (status : PlainStatus) → CheckRefuses told failed asked program status → IsRefusal status
+pub check_refuses : (told : List ℕ → Standing) (failed : List ℕ → Type 0) (asked : List Call → Type 0) (program : List ℕ) (status : PlainStatus) → CheckRefuses told failed asked program status → IsRefusal status
 check_refuses told failed asked program done refuses = absurd refuses
 check_refuses told failed asked program words refuses = absurd refuses
 check_refuses told failed asked program (setup_refused refusal) refuses = tt
@@ -106,7 +106,7 @@ listing_refuses standing failed asked name (too_long text) refuses = tt
 listing_refuses standing failed asked name (source_refused error) refuses = tt
 listing_refuses standing failed asked name (unbuilt line) refuses = tt
 
-setup_refuses : (told : List ℕ → Standing) (failed : List ℕ → Type 0) (asked : List Call → Type 0) (ports : PlainPorts) (name : List ℕ) (status : PlainStatus) → SetupRefuses told failed asked ports name status → IsRefusal status
+pub setup_refuses : (told : List ℕ → Standing) (failed : List ℕ → Type 0) (asked : List Call → Type 0) (ports : PlainPorts) (name : List ℕ) (status : PlainStatus) → SetupRefuses told failed asked ports name status → IsRefusal status
 setup_refuses told failed asked ports name status (inl refuses) = read_refuses (told name) (failed name) asked longest_setup name status refuses
 setup_refuses told failed asked ports name status (inr stops) = subst IsRefusal stops.is (end_refuses stops.end)
 

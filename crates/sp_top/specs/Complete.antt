@@ -1,4 +1,4 @@
--- What `seq`, `simulate` and `waves` don't refuse.
+-- What `simulate` and `waves` don't refuse, and what the status of `seq` tells.
 use Rattle.std.specs.Prelude.{◌≡◌, ℕ, ◌≤◌, List, length, Contains}
 use Rattle.sp_edges.specs.Standing.{Standing, Holds}
 use Rattle.sp_netlist.specs.Cells.{PlainCell}
@@ -11,8 +11,9 @@ use Rattle.sp_tree.specs.Meaning.{ended, seq}
 use Rattle.sp_tree.specs.PlainProgram.{PlainProgram}
 use Rattle.sp_tree.specs.Shape.{Shape}
 use Rattle.sp_top.specs.Compile.{longest_program}
-use Rattle.sp_top.specs.Seq.{input_of}
+use Rattle.sp_top.specs.Seq.{input_of, Stops}
 use Rattle.sp_top.specs.Simulate.{GivesNetlist, longest_setup, setting_of}
+use Rattle.sp_top.specs.Status.{PlainStatus, done, write_fault}
 
 -- The listing of a netlist and a setup for its ports stand under these names. They, and the files that the setup names,
 -- are told and can be read.
@@ -52,10 +53,16 @@ pub record CanBeRun (told : List ℕ → Standing) (sure : List ℕ → Type 0) 
   pub files_sure : (file : List ℕ) → Contains (files_named program.ports setup_bytes) file → sure file
   pub files_told : AreTold told (files_named program.ports setup_bytes)
 
--- the program ends within the setup's turns
+-- the program has an end within the setup's turns
 pub record EndsInTime (program : PlainProgram) (plain : PlainSetup) : Type 0 where
   pub outs : List ℕ
   pub drams : List (List ℕ)
   pub turns : ℕ
   pub shape : Shape
   pub ends : seq plain.turns program (input_of plain) ≡ ended outs drams turns shape
+
+-- the status tells how the program ends with the setup's turns, where neither memory nor a sink was wanting
+abbrev pub TellsEnd : PlainProgram → PlainSetup → PlainStatus → Type 0
+TellsEnd program plain done = EndsInTime program plain
+TellsEnd program plain (write_fault which) = Unit {0}
+TellsEnd program plain status = Stops program plain status

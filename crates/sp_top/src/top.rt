@@ -9,7 +9,7 @@ ghost use Rattle.sp_netlist.specs.Cells.{PlainCell};
 ghost use Rattle.sp_setup.specs.Setup.{PlainSetup};
 ghost use Rattle.sp_source.specs.Texts.{Spells};
 ghost use Rattle.sp_tree.specs.PlainProgram.{PlainProgram};
-ghost use Rattle.sp_top.specs.Complete.{CanBeRun, EndsInTime, IsRunnable, IsDoneInTime};
+ghost use Rattle.sp_top.specs.Complete.{CanBeRun, TellsEnd, IsRunnable, IsDoneInTime};
 ghost use Rattle.sp_top.specs.Compile.{longest_program};
 ghost use Rattle.sp_top.specs.Commands as commands;
 ghost use Rattle.sp_top.specs.Said.{plain_command};
@@ -110,10 +110,10 @@ pub fn spatialc<I: Inputs, K: Sink, A: Sink>(
     // Nor is a text that spells a program by `check` or `format`.
     ensures checks { (program bytes : List ℕ) (plain : PlainProgram) → IsCommand (map string_bytes words.now) (commands.check program) ⊎ IsCommand (map string_bytes words.now) (commands.format program) → I.sure inputs.old program
         → I.told inputs.old program ≡ Holds bytes → length bytes ≤ longest_program → Spells bytes plain → NotRefused (plain_status result) }
-    // Nor is the run of a program that ends within its setup's turns.
+    // The run of a program tells how the program ends: it isn't refused but for want of memory.
     ensures runs { (program setup : List ℕ) (plain : PlainProgram) (plan : PlainSetup) → IsCommand (map string_bytes words.now) (commands.seq program setup)
-        → CanBeRun (I.told inputs.old) (I.sure inputs.old) program setup plain plan → EndsInTime plain plan → NotRefused (plain_status result) }
-    // Nor is the simulation of a listing that is done within its setup's cycles, nor the dump of any run.
+        → CanBeRun (I.told inputs.old) (I.sure inputs.old) program setup plain plan → TellsEnd plain plan (plain_status result) }
+    // The simulation of a listing that is done within its setup's cycles isn't refused, nor is the dump of any run.
     ensures simulates { (listing setup : List ℕ) (cells : List PlainCell) (plain : PlainSetup) → IsCommand (map string_bytes words.now) (commands.simulate listing setup)
         → IsRunnable (I.told inputs.old) (I.sure inputs.old) listing setup cells plain → IsDoneInTime cells plain → NotRefused (plain_status result) }
     ensures dumps { (listing setup : List ℕ) (cells : List PlainCell) (plain : PlainSetup) → IsCommand (map string_bytes words.now) (commands.waves listing setup)
