@@ -92,8 +92,8 @@ const SUM_VERILOG: &str = "module spatial(
 endmodule
 ";
 
-// Rows: words; what stands under `F`, `S` and `a`, where `-` is nothing; the status; and what `out` takes. A `;` ends
-// a line.
+// Rows: words; what stands under `F`, `S` and `a`, where `-` is nothing and what follows a `&` stands under `b`; the
+// status; and what `out` takes. A `;` ends a line.
 const ROWS: &str = "\
 |val x = ArgIn[Int];val y = ArgOut[Int];Accel {;  y := x + 3;};|-|-|2|words: not in the command table;\n\
 check|val x = ArgIn[Int];val y = ArgOut[Int];Accel {;  y := x + 3;};|-|-|2|words: not in the command table;\n\
@@ -177,9 +177,9 @@ seq F S|val c = DRAM[Int](4);Accel {;val f = FIFO[Int](4);val s = SRAM[Int](4);F
 seq F S|val a = DRAM[FixPt[FALSE,_64,_0]](2);Accel {;};|[dram];a = \"a\";|18446744073709551615,0;|0|dram a 18446744073709551615 0;turns 1;\n\
 seq F S|val x = ArgIn[FixPt[TRUE,_8,_8]];val z = ArgIn[FixPt[TRUE,_8,_8]];val y = ArgOut[FixPt[TRUE,_8,_8]];Accel {;y := x * z;};|[args];x = \"1.5\";z = \"-2.25\";|-|0|out y -3.375;turns 2;\n\
 seq F S|val x = ArgIn[FixPt[TRUE,_8,_8]];val z = ArgIn[FixPt[TRUE,_8,_8]];val y = ArgOut[FixPt[TRUE,_8,_8]];Accel {;y := x * z;};|[args];x = \"0.00390625\";z = \"-0.00390625\";|-|0|out y -0.00390625;turns 2;\n\
-seq F S|Acc||-|1|source: no parse at 0;\n\
-seq F S|val y = ArgOut[Int]; Accel { y := z }||-|3|types: unknown name at 34;\n\
-seq F S|val y = ArgOut[Int]; Accel { Foreach(4 by 1 par 17){ i => y := i } }||-|4|limit: lanes 17;\n\
+seq F S|Acc|-|-|1|source: no parse at 0;\n\
+seq F S|val y = ArgOut[Int]; Accel { y := z }|-|-|3|types: unknown name at 34;\n\
+seq F S|val y = ArgOut[Int]; Accel { Foreach(4 by 1 par 17){ i => y := i } }|-|-|4|limit: lanes 17;\n\
 seq F S|val b = DRAM[Int](5);Accel {;Foreach(4 by 1 par 2){ t => val s = SRAM[Int](2); Foreach(2 by 1){ j => s(j) = t }; b(t::t + 2) store s };};||-|0|dram b 0 1 2 3 3;turns 42;\n\
 seq F S|val c = DRAM[Int](2);Accel {;val acc = SRAM[Int](2);MemReduce(acc)(3 by 1){ k => val p = SRAM[Int](2); Foreach(2 by 1){ i => p(i) = k * 10 + i }; p }{_ + _};c(0::2) store acc;};||-|0|dram c 30 33;turns 33;\n\
 seq F S|val a = DRAM[Int](8);val b = DRAM[Int](8);Accel {;Foreach(8 by 4){ t => val s = SRAM[Int](4); s load a(t::t + 4); b(t::t + 4) store s };};|[dram];a = \"a\";|1,2,3,4;5,6,7,8;|0|dram a 1 2 3 4 5 6 7 8;dram b 1 2 3 4 5 6 7 8;turns 26;\n\
@@ -206,6 +206,16 @@ seq F S|val y = ArgOut[Int];Accel {;val f = FIFO[Int](1);Foreach(4 by 1){ i => f
 seq F S|val y = ArgOut[Int];Accel {;val f = FIFO[Int](1);Foreach(4 by 1){ i => f.enq(i);if (i == 3) { y := f.deq() };y := f.deq() + 1 };};||-|6|fault: FifoEmpty at 114;\n\
 seq F S|val a = DRAM[Int](4);Accel {;val s = SRAM[Int](2);Foreach(4 by 1){ i => s load a(mux(i == 3, 3, 0)::mux(i == 3, 5, 2)) };};||-|6|fault: DramBounds at 72;\n\
 seq F S|val a = DRAM[Int](2, 4);Accel {;val l = LineBuffer[Int](2, 2);Foreach(4 by 1){ i => l load a(0, 0::mux(i == 3, 3, 2)) };};||-|6|fault: RowLength at 84;\n\
+seq F S|val c = DRAM[Int](4);Accel {;val f = FIFO[Int](4);val s = SRAM[Int](4);Foreach(4 by 1){ i => f.enq(i * i) };Foreach(5 by 1){ i => s(mux(i == 4, 0, i)) = f.deq() };c(0::4) store s;};||-|6|fault: FifoEmpty at 153;\n\
+seq F S|val a = DRAM[Int](64);val b = DRAM[Int](64);val y = ArgOut[Int];Accel {;  val acc = Reg[Int](0);  Reduce(acc)(64 by 16){ t =>;    val ta = SRAM[Int](16);    val tb = SRAM[Int](16);    ta load a(t::t + 16);    tb load b(t::t + 16);    val part = Reg[Int](0);    Reduce(part)(16 by 1 par 4){ i => ta(i) * tb(i) }{_ + _};    part;  }{_ + _};  y := acc;};|[dram];a = \"a\";b = \"b\";|0,1,2,3,4,5,6,7,8,9,10,11,12,13,14,15,16,17,18,19,20,21,22,23,24,25,26,27,28,29,30,31,32,33,34,35,36,37,38,39,40,41,42,43,44,45,46,47,48,49,50,51,52,53,54,55,56,57,58,59,60,61,62,63;&1,1,1,1,1,1,1,1,1,1,1,1,1,1,1,1,1,1,1,1,1,1,1,1,1,1,1,1,1,1,1,1,1,1,1,1,1,1,1,1,1,1,1,1,1,1,1,1,1,1,1,1,1,1,1,1,1,1,1,1,1,1,1,1;|0|out y 2016;dram a 0 1 2 3 4 5 6 7 8 9 10 11 12 13 14 15 16 17 18 19 20 21 22 23 24 25 26 27 28 29 30 31 32 33 34 35 36 37 38 39 40 41 42 43 44 45 46 47 48 49 50 51 52 53 54 55 56 57 58 59 60 61 62 63;dram b 1 1 1 1 1 1 1 1 1 1 1 1 1 1 1 1 1 1 1 1 1 1 1 1 1 1 1 1 1 1 1 1 1 1 1 1 1 1 1 1 1 1 1 1 1 1 1 1 1 1 1 1 1 1 1 1 1 1 1 1 1 1 1 1;turns 224;\n\
+seq F S|val a = DRAM[FixPt[TRUE,_8,_8]](4);val y = ArgOut[FixPt[TRUE,_8,_8]];Accel {;val s = SRAM[FixPt[TRUE,_8,_8]](4);s load a(0::4);val r = Reg[FixPt[TRUE,_8,_8]];Reduce(r)(4 by 1 par 4){ i => s(i) }{_ * _};y := r;};|[dram];a = \"a\";|0.01171875,1,0.5,2;|0|out y 0.0078125;dram a 0.01171875 1 0.5 2;turns 14;\n\
+seq F S|val a = DRAM[Int](8);val q = DRAM[Int](4);val b = DRAM[Int](8);Accel {;  val p = SRAM[Int](4);  val s = SRAM[Int](4);  p load q(0::4);  s gather a(p, 4);  b(p, 4) scatter s;};|[dram];a = \"a\";q = \"b\";|10,20,30,40;50,60,70,80;&3,0,7,7;|0|dram a 10 20 30 40 50 60 70 80;dram q 3 0 7 7;dram b 10 0 0 40 0 0 0 80;turns 18;\n\
+seq F S|val a = DRAM[Int](8);val q = DRAM[Int](4);val b = DRAM[Int](8);Accel {;  val p = SRAM[Int](4);  val s = SRAM[Int](4);  p load q(0::4);  s gather a(p, 4);  b(p, 4) scatter s;};|[dram];a = \"a\";q = \"b\";|10,20,30,40;50,60,70,80;&3,0,8,7;|6|fault: DramBounds at 136;\n\
+seq F|val x = ArgIn[Int];val y = ArgOut[Int];Accel {;  y := x + 3;};|[args];x = 4;|-|2|words: not in the command table;\n\
+seq F S S|val x = ArgIn[Int];val y = ArgOut[Int];Accel {;  y := x + 3;};|[args];x = 4;|-|2|words: not in the command table;\n\
+seq F -S|val x = ArgIn[Int];val y = ArgOut[Int];Accel {;  y := x + 3;};|[args];x = 4;|-|2|words: not in the command table;\n\
+seq Q S|val x = ArgIn[Int];val y = ArgOut[Int];Accel {;  y := x + 3;};|[args];x = 4;|-|8|read fault;\n\
+seq S F|[args];x = 4;|val x = ArgIn[Int];val y = ArgOut[Int];Accel {;  y := x + 3;};|-|0|out y 7;turns 2;\n\
 format F|val a = DRAM[Int](67108865); Accel { }|-|-|4|limit: dram 67108865;\n\
 format F|Accel { y := 3|-|-|1|source: no parse at 14;\n\
 format F|val y = ArgOut[Int]; Accel { y := z }|-|-|3|types: unknown name at 34;\n\
@@ -293,8 +303,12 @@ fn calls_end_with_their_status_and_text(rt: HostRuntime) -> Result<(), Fail> {
             words.push(String::from_str(alloc, word)?)?;
         }
         let mut files = Vec::new(alloc);
-        for name in ["F", "S", "a"] {
+        for name in ["F", "S"] {
             add_file(alloc, &mut files, name, field(&rt, fields.next()))?;
+        }
+        let mut tables = field(&rt, fields.next()).split("&");
+        for name in ["a", "b"] {
+            add_file(alloc, &mut files, name, tables.next().unwrap_or("-"))?;
         }
         let mut inputs = MemInputs::new(files, Vec::new(alloc));
         let mut out = MemSink::new(alloc, 10_000, Vec::new(alloc))?;
@@ -338,5 +352,41 @@ fn a_failed_put_ends_the_call(rt: HostRuntime) -> Result<(), Fail> {
     let answer = answer_with(alloc, &["compile", "P"], "P", b"no program", stop)?;
     assert_eq!(rt; answer.status.number(), 9);
     assert_eq!(rt; answer.out.len(), 0);
+    Ok(())
+}
+
+// The run of a program under an empty setup, where `out` stops as told.
+fn run_of(alloc: Global, program: &str, stops: Vec<SinkStop>) -> Result<Answer, AllocError> {
+    let mut said = Vec::new(alloc);
+    let mut files = Vec::new(alloc);
+    said.push(String::from_str(alloc, "seq")?)?;
+    for (name, text) in [("P", program), ("S", "")] {
+        said.push(String::from_str(alloc, name)?)?;
+        add_file(alloc, &mut files, name, text)?;
+    }
+    let mut inputs = MemInputs::new(files, Vec::new(alloc));
+    let mut out = MemSink::new(alloc, 100_000, stops)?;
+    let mut aside = MemSink::new(alloc, 10_000, Vec::new(alloc))?;
+    let status = spatialc(alloc, &said, &mut inputs, &mut out, &mut aside);
+    Ok(Answer {
+        status,
+        out: Vec::from_slice(alloc, out.bytes())?,
+        aside: Vec::from_slice(alloc, aside.bytes())?,
+    })
+}
+
+#[test]
+fn a_long_result_is_put_in_two_pieces(rt: HostRuntime) -> Result<(), Fail> {
+    let alloc = rt.alloc();
+    let program = "val a = DRAM[Int](40000); Accel { }";
+    let stop = vec![in alloc; SinkStop { call: 2, takes: 0 }]?;
+    let answer = run_of(alloc, program, stop)?;
+    assert_eq!(rt; answer.status.number(), 0);
+    assert_eq!(rt; answer.out.len(), 80_015);
+    let stop = vec![in alloc; SinkStop { call: 1, takes: 10 }]?;
+    let answer = run_of(alloc, program, stop)?;
+    assert_eq!(rt; answer.status.number(), 9);
+    assert_eq!(rt; answer.out.len(), 65_546);
+    assert_eq!(rt; answer.aside.len(), 0);
     Ok(())
 }
