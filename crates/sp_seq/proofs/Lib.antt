@@ -1,4 +1,5 @@
 pub mod AccessLemmas
+pub mod ArmLemmas
 pub mod BeginLemmas
 pub mod BlockLemmas
 pub mod BodyLemmas
@@ -9,6 +10,7 @@ pub mod DigitLemmas
 pub mod EvaluationLemmas
 pub mod FsmLemmas
 pub mod GivenLemmas
+pub mod LineLemmas
 pub mod LoadLemmas
 pub mod LoopLemmas
 pub mod OftenLemmas
@@ -22,9 +24,11 @@ pub mod SeesLemmas
 pub mod SizeLemmas
 pub mod SliceLemmas
 pub mod SparseLemmas
+pub mod StartLemmas
 pub mod StepLemmas
 pub mod StoreLemmas
 pub mod TellLemmas
 pub mod TransferLemmas
 pub mod TreeLemmas
+pub mod TurnLemmas
 pub mod WordLemmas

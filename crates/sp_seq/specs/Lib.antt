@@ -1,6 +1,7 @@
 pub mod Controlling
 pub mod Ending
 pub mod Evaluating
+pub mod Lines
 pub mod Loading
 pub mod Looping
 pub mod Moving

@@ -1,5 +1,5 @@
 -- What an interpreter holds before and after its run.
-use Rattle.std.specs.Prelude.{◌≡◌, ℕ, suc, ◌<◌, ◌≤◌, Bool, true, false, List, [], ◌∷◌, length, drop, slice_index, slice_index_or, All, Option, Some, None}
+use Rattle.std.specs.Prelude.{◌≡◌, ℕ, suc, ◌<◌, ◌≤◌, Bool, true, false, List, [], ◌∷◌, length, drop, slice_index, slice_index_or, All, Option, Some, None, Result, Ok, Err}
 use Rattle.sp_words.specs.declared.kind.Kind.{Kind}
 use Rattle.sp_words.specs.declared.kind.Kind.TheVariants.{Dram, ArgIn, ArgOut}
 use Rattle.sp_words.specs.Interface.{word_count}
@@ -9,9 +9,10 @@ use Rattle.sp_words.specs.Words.{IsWord}
 use Rattle.sp_tree.specs.Counts.{is_port}
 use Rattle.sp_tree.specs.Expressions.{mem}
 use Rattle.sp_tree.specs.Invariant.{IsProgram, outer_scope}
-use Rattle.sp_tree.specs.Meaning.{first_store, out_words, dram_words, seq, ended, is_arg, is_dram}
+use Rattle.sp_tree.specs.Meaning.{first_store, out_words, dram_words, run_program, seq, ended, is_arg, is_dram}
 use Rattle.sp_tree.specs.PlainProgram.{PlainMem, PlainProgram}
 use Rattle.sp_tree.specs.Shape.{Shape}
+use Rattle.sp_tree.specs.Step.{went}
 use Rattle.sp_tree.specs.Streams.{room, roomy_in}
 use Rattle.sp_tree.specs.Structure.{mems_declared, vals_declared, counters_declared}
 use Rattle.sp_seq.specs.declared.end.Run as declared
@@ -20,10 +21,11 @@ use Rattle.sp_seq.specs.declared.end.SeqEnd.TheVariants.{Ended}
 use Rattle.sp_seq.specs.declared.memory.Memory.{Memory}
 use Rattle.sp_seq.specs.declared.memory.Storage.TheVariants.{Words}
 use Rattle.sp_seq.specs.declared.state.State.{State}
+use Rattle.sp_seq.specs.declared.state.Stop.{Stop}
 use Rattle.sp_seq.specs.Progress.{Run}
 use Rattle.sp_seq.specs.Rows.{WordRow}
 use Rattle.sp_seq.specs.Running.{Numbered, BodyTold}
-use Rattle.sp_seq.specs.States.{IsStorage, held_of, memory_of, Sees, store_of}
+use Rattle.sp_seq.specs.States.{IsStorage, halted, held_of, memory_of, Sees, store_of}
 
 -- the run, if there was one
 abbrev pub run_of : Option declared.Run → Option Run
@@ -96,3 +98,8 @@ module _ (p : PlainProgram) (input : PlainInput) where
   abbrev pub IsSeq : Option Run → State → Type 0
   IsSeq None s = IsLoaded s
   IsSeq (Some run) s = HasRun run.given run.end s
+
+  -- how a run went that was given so many turns, and what the state stands for after its end
+  abbrev pub RanWhole : (given : ℕ) → Result (Unit {0}) Stop → State → Type 0
+  RanWhole given (Ok u) s = (inner : List Shape) × (run_program p given (first_store p input) ≡ went inner s.left (store_of s)) × PortsStand p.mems s × (s.left ≤ given)
+  RanWhole given (Err stop) s = run_program p given (first_store p input) ≡ halted stop

@@ -2,9 +2,10 @@
 ghost use Rattle.std.specs.Prelude.{◌≡◌};
 
 use crate::NoMemory;
-use crate::end::Run;
+use crate::end::{Run, SeqEnd};
 use crate::load::first_state;
 use crate::over::results;
+use crate::start::go;
 use crate::state::State;
 use sp_tree::Program;
 use sp_words::{Input, Output};
@@ -58,8 +59,21 @@ impl<'a> Seq<'a> {
 }
 
 impl Seq<'_> {
-    ghost use Rattle.std.specs.Prelude.{map, IfOk};
-    ghost use Rattle.sp_seq.specs.Progress.{HasEnded, Leaves};
+    ghost use Rattle.std.specs.Prelude.{◌≡◌, map, IfOk, Some, None};
+    ghost use Rattle.sp_tree.specs.Meaning.{seq};
+    ghost use Rattle.sp_tree.specs.ProgramParts.{plain_program};
+    ghost use Rattle.sp_seq.specs.Progress.{end_of, HasEnded, Leaves};
+
+    /// Runs the program, with so many turns.
+    pub fn run(&mut self, turns: u64) -> SeqEnd
+        requires { self.old.ran ≡ None }
+        ensures end { result ≡ end_of (seq turns (plain_program self.old.program) self.old.input) }
+        ensures ran { self.new ≡ record { program = self.old.program; input = self.old.input; ran = Some (record { given = turns; end = result }) } }
+    {
+        let end = go(self.program, self.input, &mut self.state, turns);
+        self.ran = Some(Run { given: turns, end });
+        end
+    }
 
     /// The words of the outputs and of the DRAMs after a run that ended.
     pub fn outputs(&self, alloc: Global) -> Result<Output, NoMemory>

@@ -21,7 +21,7 @@ use crate::state::{State, Stop};
 use sp_tree::{Expr, FaultKind, MemDecl, Span};
 
 /// How many words a transfer moves: none where a range is empty.
-fn extent(
+pub(crate) fn extent(
     parts: &[Part],
     dims: &[u32],
     limits: &[u32],
@@ -84,7 +84,12 @@ impl State {
     }
 
     /// What spans take, in order.
-    fn parts(&mut self, decls: &[MemDecl], spans: &[Span], found: &mut [Part]) -> Result<(), Stop>
+    pub(crate) fn parts(
+        &mut self,
+        decls: &[MemDecl],
+        spans: &[Span],
+        found: &mut [Part],
+    ) -> Result<(), Stop>
         requires few { length spans.now ≤ length found.old }
         requires can { CanSpan (map plain_mem decls.now) (map plain_span spans.now) self.old }
         ensures ran { Ran (in_order (sequential.part (map plain_mem decls.now)) (map plain_span spans.now) self.old.left (store_of self.old)) (with_answer (plain_parts (take (length spans.now) found.new)) result) self.new }
