@@ -1,5 +1,5 @@
 -- The text of a program under a sure name isn't refused by `check` or `format`.
-use Rattle.std.proofs.Common.{◌≡◌, ◌≢◌, ◌⊎◌, inl, inr, ◌≤◌, ℕ, List, length, subst}
+use Rattle.std.proofs.Common.{◌≡◌, ◌⊎◌, inl, inr, ◌≤◌, ℕ, List, length, subst}
 use Rattle.sp_edges.specs.Standing.{Standing, Holds}
 use Rattle.sp_edges.specs.Calls.{Call}
 use Rattle.sp_tree.specs.PlainProgram.{PlainProgram}

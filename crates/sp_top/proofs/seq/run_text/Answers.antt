@@ -1,14 +1,10 @@
-use Rattle.std.proofs.Common.{◌≡◌, ℕ, List, map, refl, sym, ◌∙◌, ap, subst, string_bytes}
-use Rattle.std.specs.Prelude.{Some, None}
+use Rattle.std.proofs.Common.{◌≡◌, ℕ, List, map, refl, subst, string_bytes}
 use Rattle.std.specs.Global.{Vec}
 use Rattle.sp_words.specs.Ports.{PlainPorts}
 use Rattle.sp_tree.specs.Meaning as sequential
 use Rattle.sp_tree.specs.ProgramParts.{plain_program}
-use Rattle.sp_setup.specs.Setup.{plain_setup}
-use Rattle.sp_seq.specs.declared.end.SeqEnd.TheVariants as ends
 use Rattle.sp_seq.specs.Progress.{Progress}
 use Rattle.sp_top.specs.ResultText.{result_text, turns_line}
-use Rattle.sp_top.specs.Seq.{input_of}
 use Rattle.sp_top.proofs.SeqLemmas.{fault_told, spent_told, has_ended, left_words}
 use Rattle.sp_top.proofs.seq.run_text.Goals as goal
 
