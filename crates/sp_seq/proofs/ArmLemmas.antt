@@ -1,5 +1,5 @@
 -- How branches and blocks go, by how their bodies do.
-use Rattle.std.proofs.Common.{◌≡◌, ◌<◌, ℕ, Bool, true, false, List, [], ◌∷◌, length, Vec, Global, rules, arith, refl, sym, ◌∙◌, ap, Contains}
+use Rattle.std.proofs.Common.{◌≡◌, ◌<◌, ℕ, Bool, true, false, List, [], ◌∷◌, length, Vec, Global, rules, refl, ◌∙◌, ap}
 use Rattle.std.specs.Prelude.{◌==◌, Result, Ok, Err}
 use Rattle.sp_words.specs.declared.kind.Style.{Style}
 use Rattle.sp_words.specs.declared.kind.Style.TheVariants.{Stream, Pipe, Sequential, Parallel}

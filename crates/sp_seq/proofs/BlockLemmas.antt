@@ -1,6 +1,6 @@
 -- The FIFOs that a block declares, at its end.
-use Rattle.std.proofs.Common.{◌≡◌, ℕ, zero, suc, ◌<◌, ◌≤◌, ◌+◌, ◌⊎◌, inl, inr, ⊎_elim, Bool, true, false, cond, List, [], ◌∷◌, ◌++◌, map, length, get_or, drop, refl, sym, ◌∙◌, ap, subst, arith, Contains}
-use Rattle.std.specs.Prelude.{nat_le, filter, max, Result, Ok, Err}
+use Rattle.std.proofs.Common.{◌≡◌, ℕ, zero, suc, ◌<◌, ◌≤◌, ◌+◌, ◌⊎◌, inl, inr, ⊎_elim, Bool, true, false, cond, List, [], ◌∷◌, length, get_or, drop, refl, sym, ◌∙◌, ap, subst, arith, Contains}
+use Rattle.std.specs.Prelude.{nat_le, filter, max}
 use Rattle.std.proofs.lemmas.Bool.{cases_lt, le-leb, lt-leb}
 use Rattle.std.proofs.lemmas.List.{drop_all}
 use Rattle.sp_words.specs.declared.kind.Kind.{Kind}
@@ -11,24 +11,22 @@ use Rattle.sp_tree.specs.declared.statement.FaultKind.TheVariants.{FifoFull}
 use Rattle.sp_tree.specs.declared.statement.Stmt.{Stmt}
 use Rattle.sp_tree.specs.Expressions.{mem, dims}
 use Rattle.sp_tree.specs.PlainProgram.{PlainMem}
-use Rattle.sp_tree.specs.PlainStatement.{PlainStmtKind, PlainStmts, stmt, declare, name, set_reg, set_out, set_sram, enq, load_sram, load_line, store, gather, scatter, block, foreach, reduce, mem_reduce, fsm, branch, no_stmt, more_stmt}
+use Rattle.sp_tree.specs.PlainStatement.{PlainStmtKind, PlainStmts, stmt, declare, name, set_reg, set_out, set_sram, enq, load_sram, load_line, store, gather, scatter, block, foreach, reduce, mem_reduce, fsm, branch, more_stmt}
 use Rattle.sp_tree.specs.PlainTree.{plain_stmt_kind, plain_stmts}
 use Rattle.sp_tree.specs.Sequential.{keep_depth, end_block}
-use Rattle.sp_tree.specs.Step.{Step, Went, went, faulted, ◌>>=◌, ◌>>◌, pure, fault, ensure, read, in_order}
-use Rattle.sp_tree.specs.Store.{Store, queue_of}
+use Rattle.sp_tree.specs.Step.{Went, went, faulted, ◌>>=◌, pure, fault, ensure, read, in_order}
+use Rattle.sp_tree.specs.Store.{queue_of}
 use Rattle.sp_tree.specs.Streams.{is_fifo, is_proper, own_fifos, room, stream_room}
 use Rattle.sp_tree.specs.Structure.{own_mems}
-use Rattle.sp_tree.specs.Tallies.{is_among}
 use Rattle.sp_seq.specs.declared.memory.Storage.TheVariants.{Cells, Queue, Rows, Words}
 use Rattle.sp_seq.specs.declared.state.State.{State}
 use Rattle.sp_seq.specs.declared.state.Stop.TheVariants.{Fault}
 use Rattle.sp_seq.specs.Ending.{CanEnd, IsOver, DoesFit}
 use Rattle.sp_seq.specs.Rows.{CellRow, WordRow, WordQueue}
-use Rattle.sp_seq.specs.States.{CellRows, store_of, held_of, memory_of, IsStorage, IsLive}
+use Rattle.sp_seq.specs.States.{CellRows, store_of, held_of, memory_of, IsStorage}
 use Rattle.sp_seq.proofs.RunningLemmas.{first_or_rest, contained_first}
 use Rattle.sp_seq.proofs.ScopeLemmas.{contained_later}
 use Rattle.sp_seq.proofs.StepLemmas.{bind_went, bind_halted}
-use Rattle.sp_seq.proofs.StoreLemmas.{held_live}
 
 -- only a FIFO is stored as a queue
 pub queue_is : (d : PlainMem) (n : ℕ) (kind : Kind) (q : WordQueue) → IsStorage d n kind (Queue q) → (is_fifo kind ≡ true) × (q.room ≡ n)

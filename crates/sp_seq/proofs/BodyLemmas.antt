@@ -1,24 +1,23 @@
 -- How the statements of a body go, one after another.
-use Rattle.std.proofs.Common.{◌≡◌, ℕ, zero, suc, ◌≤◌, List, [], ◌∷◌, ◌++◌, length, refl, sym, ◌∙◌, ap, subst, arith, append_assoc}
+use Rattle.std.proofs.Common.{◌≡◌, ℕ, ◌≤◌, List, [], ◌++◌, length, refl, sym, ◌∙◌, ap, subst, arith, append_assoc}
 use mathlib.Core.Path.{fun_ext}
-use Rattle.std.specs.Prelude.{Result, Ok, Err}
+use Rattle.std.specs.Prelude.{Ok, Err}
 use Rattle.sp_tree.specs.PlainProgram.{PlainMem}
 use Rattle.sp_tree.specs.PlainStatement.{PlainStmtKind, PlainStmts, stmt, no_stmt, more_stmt}
 use Rattle.sp_tree.specs.Sequential.{run, run_kind, run_all}
 use Rattle.sp_tree.specs.Shape.{Shape}
 use Rattle.sp_tree.specs.Structure.{mems_in, mems_declared, vals_in, vals_declared, counters_in, counters_declared}
-use Rattle.sp_tree.specs.Step.{Step, Went, went, ◌>>=◌, ◌>>◌, pure, turn}
+use Rattle.sp_tree.specs.Step.{Step, Went, went, ◌>>=◌, pure, turn}
 use Rattle.sp_tree.specs.Store.{Store}
 use Rattle.sp_tree.specs.Typing.{Scope, after, after_all}
 use Rattle.sp_seq.specs.declared.state.State.{State}
 use Rattle.sp_seq.specs.declared.state.Stop.{Stop}
-use Rattle.sp_seq.specs.Evaluating.{Setting}
 use Rattle.sp_seq.specs.Controlling.{Runs}
 use Rattle.sp_seq.specs.Running.{CanRun, CanRunAll, Finished, Stands}
 use Rattle.sp_seq.specs.States.{store_of, halted, Keeps}
 use Rattle.sp_seq.proofs.RunningLemmas.{stands_kept}
-use Rattle.sp_seq.proofs.ScopeLemmas.{stands_on, numbered_first, numbered_rest, numbered_later}
-use Rattle.sp_seq.proofs.SeesLemmas.{setting_later, keeps_same}
+use Rattle.sp_seq.proofs.ScopeLemmas.{numbered_first, numbered_rest, numbered_later}
+use Rattle.sp_seq.proofs.SeesLemmas.{setting_later}
 use Rattle.sp_seq.proofs.StepLemmas.{bind_went, bind_halted, bind_pure, bind_bind}
 
 -- the statements that are left, of which some are done

@@ -1,11 +1,10 @@
 -- How controllers go, by how the rounds of their bodies do.
-use Rattle.std.proofs.Common.{◌≡◌, ℕ, suc, ◌<◌, ◌≤◌, Bool, true, false, List, [], ◌∷◌, ◌++◌, ◌+◌, map, length, get_or, set, drop, refl, sym, ◌∙◌, ap, subst, arith, Contains, All}
-use Rattle.std.specs.Result.{IsErrAnd, OnOk}
+use Rattle.std.proofs.Common.{◌≡◌, ℕ, ◌<◌, ◌≤◌, Bool, true, false, List, [], ◌∷◌, ◌++◌, ◌+◌, map, length, get_or, set, drop, refl, sym, ◌∙◌, ap, subst, arith, Contains, All}
+use Rattle.std.specs.Result.{OnOk}
 use Rattle.std.proofs.lemmas.List.{drop_more, drop_all, length-set}
 use Rattle.std.proofs.lemmas.List.Elements.{Contains-append_left, Contains-append_right}
 use Rattle.std.specs.Prelude.{◌==◌, flat_map, Result, Ok, Err}
 use Rattle.sp_words.specs.declared.kind.Style.{Style}
-use Rattle.sp_words.specs.declared.types.Ty.{Ty}
 use Rattle.sp_words.specs.Words.{IsWord}
 use Rattle.sp_tree.specs.declared.statement.Comb.{Comb}
 use Rattle.sp_tree.specs.declared.statement.Stmt.{Stmt}
@@ -16,10 +15,9 @@ use Rattle.sp_tree.specs.PlainProgram.{PlainMem}
 use Rattle.sp_tree.specs.PlainStatement as plain
 use Rattle.sp_tree.specs.PlainStatement.{PlainCounter, PlainStmts, more_stmt}
 use Rattle.sp_tree.specs.PlainTree.{plain_stmt, plain_stmts}
-use Rattle.sp_tree.specs.Sequential.{run, run_kind, run_all, combining, name_now, count_now}
+use Rattle.sp_tree.specs.Sequential.{run_all, combining, name_now, count_now}
 use Rattle.sp_tree.specs.Shape.{Shape, ran, shapes}
 use Rattle.sp_tree.specs.Step.{Step, Went, went, ◌>>=◌, ◌>>◌, pure, turn, in_order, as_long_as}
-use Rattle.sp_tree.specs.Store.{Store}
 use Rattle.sp_tree.specs.Structure.{mems_declared, vals_declared, counters_declared, counter_numbers}
 use Rattle.sp_tree.specs.Typing.{Scope, BodyTyped, after_all, with_counters, with_val}
 use Rattle.sp_seq.specs.declared.digit.Digit.{Digit}
@@ -37,7 +35,7 @@ use Rattle.sp_seq.proofs.RoundLemmas.{LoopGo, loop_start, loop_more, loop_halted
 use Rattle.sp_seq.proofs.RunningLemmas.{contained_first, sees_named, stands_kept}
 use Rattle.sp_seq.proofs.SeesLemmas.{sees_later}
 use Rattle.sp_seq.proofs.ScopeLemmas.{numbered_later, numbered_some, stands_on, stands_within, within_on, within_counters, within_after_all, within_val, contained_later}
-use Rattle.sp_seq.proofs.StepLemmas.{bind_went, bind_halted}
+use Rattle.sp_seq.proofs.StepLemmas.{bind_went}
 
 -- so far of each loop: the first state is that of the function, the second that when the loop began
 pub record ForeachGo (mems : List PlainMem) (counters : List PlainCounter) (body : PlainStmts) (start begun : State) (first : List Digit) (now : State) (digits : List Digit) (more : Bool) : Type 0 where

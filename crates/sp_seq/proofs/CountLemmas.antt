@@ -1,10 +1,10 @@
 -- How the words of counters are found and named, and how words are combined.
-use Rattle.std.proofs.Common.{◌≡◌, ℕ, zero, suc, ◌+◌, ◌-◌, ◌*◌, ◌/◌, ◌^◌, ◌<◌, ◌≤◌, Bool, true, false, inl, inr, ⊎_elim, List, [], ◌∷◌, ◌++◌, map, length, get_or, set, take, drop, refl, sym, ◌∙◌, ap, ap₂, subst, arith, All, pos, ◌-ℤ◌, ◌≤ℤ◌, Contains, div-mul-le_self, mul-le-mul_left}
+use Rattle.std.proofs.Common.{◌≡◌, ℕ, zero, suc, ◌+◌, ◌-◌, ◌*◌, ◌/◌, ◌^◌, ◌<◌, ◌≤◌, Bool, true, ⊎_elim, List, [], ◌∷◌, map, length, get_or, set, take, drop, refl, sym, ◌∙◌, ap, ap₂, subst, arith, All, pos, ◌-ℤ◌, ◌≤ℤ◌, Contains, div-mul-le_self, mul-le-mul_left}
 use Rattle.std.specs.Prelude.{ℤ, negsuc, Result, Ok, Err}
 use Rattle.std.specs.Result.{IsErrAnd, OnOk}
 use Rattle.std.proofs.lemmas.Bool.{cases_lt, cases_eq}
 use Rattle.std.proofs.lemmas.Int.{ints}
-use Rattle.std.proofs.lemmas.List.{drop_more, get_or-map, length-map, length-set, get_or-set_same, get_or-set_other, take_all}
+use Rattle.std.proofs.lemmas.List.{length-set, get_or-set_same, get_or-set_other}
 use Rattle.sp_words.specs.declared.types.Ty.{Ty}
 use Rattle.sp_words.specs.Types.{int_type}
 use Rattle.sp_words.specs.Words.{IsWord}
@@ -18,8 +18,8 @@ use Rattle.sp_tree.specs.PlainExpression.{PlainExpr}
 use Rattle.sp_tree.specs.PlainProgram.{PlainMem, PlainProgram}
 use Rattle.sp_tree.specs.PlainStatement.{PlainCounter}
 use Rattle.sp_tree.specs.PlainTree.{plain_counter}
-use Rattle.sp_tree.specs.Sequential.{counter_range, count_now, assign, name_now}
-use Rattle.sp_tree.specs.Step.{Step, Went, went, ◌>>=◌, ◌>>◌, pure, change, turn, in_order}
+use Rattle.sp_tree.specs.Sequential.{counter_range, count_now, assign}
+use Rattle.sp_tree.specs.Step.{Went, went, ◌>>=◌, pure, change, turn, in_order}
 use Rattle.sp_tree.specs.Store.{Store, set_counter, name_value}
 use Rattle.sp_tree.specs.Structure.{counter_numbers}
 use Rattle.sp_tree.specs.Typing.{Scope, BoundsTyped, with_counter, with_val}
@@ -29,7 +29,7 @@ use Rattle.sp_seq.specs.declared.state.Stop.{Stop}
 use Rattle.sp_seq.specs.Looping.{values, current, word_at, words_shown, one_combined, word_combined, word_named, IsStart, IsDigit}
 use Rattle.sp_seq.specs.Running.{Stands}
 use Rattle.sp_seq.specs.Slices.{RanSome}
-use Rattle.sp_seq.specs.States.{store_of, halted, memory_of, no_memory, Ran, Sees, Keeps, IsStorage}
+use Rattle.sp_seq.specs.States.{store_of, halted, no_memory, Ran, Sees, Keeps, IsStorage}
 use Rattle.sp_tree.specs.Streams.{room}
 use Rattle.sp_seq.proofs.LoopLemmas.{left_of}
 use Rattle.sp_seq.proofs.PlaceLemmas.{index_small, index_negative}

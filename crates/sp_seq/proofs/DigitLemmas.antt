@@ -1,12 +1,12 @@
 -- The tuples of words that are left of a loop.
-use Rattle.std.proofs.Common.{◌≡◌, ℕ, zero, suc, ◌+◌, ◌-◌, ◌*◌, ◌/◌, ◌%◌, ◌^◌, ◌<◌, ◌≤◌, ◌⊎◌, inl, inr, ⊎_elim, Bool, true, false, cond, List, [], ◌∷◌, ◌++◌, map, length, get_or, set, take, drop, refl, sym, ◌∙◌, ap, ap₂, subst, arith, All, pos, mod-eq_of_lt}
-use Rattle.std.specs.Prelude.{ℤ, negsuc, ◌+ℤ◌, ◌&&◌, nat_lt, flat_map}
+use Rattle.std.proofs.Common.{◌≡◌, ℕ, zero, suc, ◌+◌, ◌-◌, ◌%◌, ◌^◌, ◌<◌, ◌≤◌, ◌⊎◌, inl, inr, ⊎_elim, Bool, true, false, cond, List, [], ◌∷◌, ◌++◌, map, length, get_or, set, take, drop, refl, sym, ◌∙◌, ap, ap₂, subst, arith, All, pos, mod-eq_of_lt}
+use Rattle.std.specs.Prelude.{negsuc, ◌+ℤ◌, ◌&&◌, nat_lt, flat_map}
 use Rattle.std.proofs.lemmas.Bool.{ltb-true, lt-ltb, le-ltb, cases_lt}
 use Rattle.std.proofs.lemmas.List.{drop_more, drop_all, drop-set, take-set, take-take, take-append-drop, get_or-map, get_or-take, length-map, length-set}
 use Rattle.std.proofs.lemmas.List.Elements.{All-set}
 use native.Mathlib.Nat.{mod-eq-sub-mod}
 use Rattle.sp_words.specs.Types.{int_type}
-use Rattle.sp_words.specs.Words.{IsWord, wrap}
+use Rattle.sp_words.specs.Words.{wrap}
 use Rattle.sp_words.specs.WholeNumbers.{modulo}
 use Rattle.sp_tree.specs.Elements.{index_value, numbers_below, tuples}
 use Rattle.sp_seq.specs.declared.digit.Digit.{Digit}

@@ -1,16 +1,8 @@
 -- How an FSM goes, turn by turn.
-use Rattle.std.proofs.Common.{◌≡◌, ℕ, zero, suc, ◌<◌, ◌≤◌, Bool, true, false, List, [], ◌∷◌, ◌++◌, length, refl, sym, ◌∙◌, ap, subst, arith, append_assoc, append-nil}
+use Rattle.std.proofs.Common.{◌≡◌, ℕ, zero, suc, ◌<◌, ◌≤◌, Bool, true, false, List, [], ◌∷◌, ◌++◌, refl, sym, ◌∙◌, ap, arith, append_assoc, append-nil}
 use mathlib.Core.Path.{fun_ext}
-use Rattle.std.specs.Prelude.{◌==◌}
-use Rattle.sp_words.specs.declared.types.Ty.{Ty}
-use Rattle.sp_words.specs.Words.{IsWord}
-use Rattle.sp_tree.specs.Expressions.{word}
-use Rattle.sp_tree.specs.PlainExpression.{PlainExpr}
 use Rattle.sp_tree.specs.PlainProgram.{PlainMem}
-use Rattle.sp_tree.specs.PlainStatement.{PlainStmts, fsm}
-use Rattle.sp_tree.specs.Sequential.{run, run_kind, run_all, name_now}
-use Rattle.sp_tree.specs.Shape.{Shape, ran, shapes, turned}
-use Rattle.sp_tree.specs.Step.{Step, Went, went, faulted, more, ◌>>=◌, ◌>>◌, pure, turn, out_of_turns, repeated, as_long_as}
+use Rattle.sp_tree.specs.Step.{Step, Went, went, faulted, more, ◌>>=◌, pure, out_of_turns, repeated, as_long_as}
 use Rattle.sp_tree.specs.Store.{Store}
 use Rattle.sp_tree.specs.Typing.{Scope}
 use Rattle.sp_seq.specs.declared.state.State.{State}

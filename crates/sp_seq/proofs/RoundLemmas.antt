@@ -1,17 +1,15 @@
 -- How loops go, iteration by iteration, for any step and any list of words.
-use Rattle.std.proofs.Common.{◌≡◌, ℕ, zero, suc, ◌+◌, ◌<◌, ◌≤◌, Bool, true, false, List, [], ◌∷◌, ◌++◌, map, length, refl, sym, ◌∙◌, ap, subst, arith}
+use Rattle.std.proofs.Common.{◌≡◌, ℕ, Bool, true, false, List, [], ◌∷◌, ◌++◌, map, length, refl, sym, ◌∙◌, ap}
 use mathlib.Core.Path.{fun_ext}
-use Rattle.std.specs.Prelude.{Result, Ok, Err}
 use Rattle.sp_words.specs.declared.kind.Style.{Style}
 use Rattle.sp_tree.specs.declared.statement.Comb.{Comb}
-use Rattle.sp_tree.specs.declared.statement.FaultKind.{FaultKind}
 use Rattle.sp_tree.specs.Elements.{tuples}
 use Rattle.sp_tree.specs.Expressions.{word}
 use Rattle.sp_tree.specs.PlainExpression.{PlainExpr}
 use Rattle.sp_tree.specs.PlainProgram.{PlainMem}
 use Rattle.sp_tree.specs.PlainStatement as plain
 use Rattle.sp_tree.specs.PlainStatement.{PlainCounter, PlainStmts}
-use Rattle.sp_tree.specs.Sequential.{run, run_kind, run_all, count_now, counter_range, combining, assign, assign_all}
+use Rattle.sp_tree.specs.Sequential.{run, run_kind, run_all, count_now, counter_range, combining, assign}
 use Rattle.sp_tree.specs.Shape.{Shape, ran, shapes, looped}
 use Rattle.sp_tree.specs.Step.{Step, Went, went, faulted, more, ◌>>=◌, ◌>>◌, pure, turn, in_order}
 use Rattle.sp_tree.specs.Store.{Store}

@@ -1,28 +1,23 @@
 -- The run of a whole program from the state that was loaded.
-use Rattle.std.proofs.Common.{◌≡◌, ℕ, ◌+◌, ◌-◌, ◌<◌, ◌≤◌, List, length, Result, Ok, Err, refl, sym, ◌∙◌, ap, subst, arith}
-use Rattle.std.specs.Prelude.{Some, Contains}
+use Rattle.std.proofs.Common.{◌≡◌, ℕ, ◌-◌, ◌<◌, List, length, Result, Ok, Err, refl, sym, ◌∙◌, ap, subst, arith}
 use Rattle.std.specs.Result.{IsErrAnd}
 use Rattle.sp_words.specs.Ports.{PlainInput}
 use Rattle.sp_tree.specs.declared.statement.FaultKind.{FaultKind}
 use Rattle.sp_tree.specs.Invariant.{outer_scope}
-use Rattle.sp_tree.specs.Meaning.{first_store, run_program, seq, outcome, ended, stopped, unfinished, out_words, dram_words}
+use Rattle.sp_tree.specs.Meaning.{first_store, run_program, seq, outcome}
 use Rattle.sp_tree.specs.PlainProgram.{PlainProgram}
-use Rattle.sp_tree.specs.PlainStatement.{PlainStmts}
 use Rattle.sp_tree.specs.Sequential.{run_all}
 use Rattle.sp_tree.specs.Shape.{Shape, ran, shapes}
 use Rattle.sp_tree.specs.Step.{Went, went, faulted, more, turn}
-use Rattle.sp_tree.specs.Store.{Store}
 use Rattle.sp_tree.specs.Streams.{roomy_in}
-use Rattle.sp_tree.specs.Structure.{mems_declared, vals_declared, counters_declared}
 use Rattle.sp_tree.specs.Typing.{after_all}
-use Rattle.sp_seq.specs.declared.end.SeqEnd.{SeqEnd}
 use Rattle.sp_seq.specs.declared.end.SeqEnd.TheVariants as ends
 use Rattle.sp_seq.specs.declared.state.State.{State}
 use Rattle.sp_seq.specs.declared.state.Stop.{Stop}
 use Rattle.sp_seq.specs.declared.state.Stop.TheVariants.{Fault, Turns}
-use Rattle.sp_seq.specs.Loading.{IsLoaded, IsOver, PortsStand, RanWhole}
+use Rattle.sp_seq.specs.Loading.{IsLoaded, IsOver, RanWhole}
 use Rattle.sp_seq.specs.Progress.{end_of}
-use Rattle.sp_seq.specs.Running.{Numbered, CanRunAll, Finished}
+use Rattle.sp_seq.specs.Running.{CanRunAll, Finished}
 use Rattle.sp_seq.specs.States.{store_of, halted, Keeps}
 use Rattle.sp_seq.proofs.OverLemmas.{ports_stand, still_seen}
 use Rattle.sp_seq.proofs.SeesLemmas.{sees_later}

@@ -6,7 +6,7 @@ use Rattle.sp_tree.specs.Expressions.{word}
 use Rattle.sp_tree.specs.PlainExpression.{PlainExpr}
 use Rattle.sp_tree.specs.PlainProgram.{PlainMem}
 use Rattle.sp_tree.specs.PlainStatement.{PlainCounter, PlainStmtKind, PlainStmts}
-use Rattle.sp_tree.specs.Sequential.{run, run_kind, run_all, count_now, name_now}
+use Rattle.sp_tree.specs.Sequential.{run_kind, run_all, count_now, name_now}
 use Rattle.sp_tree.specs.Shape.{Shape, ran, shapes}
 use Rattle.sp_tree.specs.Step.{Step, Went, went, pure, ◌>>=◌, ◌>>◌, turn}
 use Rattle.sp_tree.specs.Structure.{mems_declared, vals_declared, counters_declared, counter_numbers}

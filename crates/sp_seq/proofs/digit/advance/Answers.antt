@@ -1,4 +1,4 @@
-use Rattle.std.proofs.Common.{◌≡◌, ◌<◌, ◌+◌, ◌-◌, get_or, ◌∙◌, ap, arith, length}
+use Rattle.std.proofs.Common.{◌≡◌, ◌+◌, ◌-◌, arith}
 use Rattle.sp_seq.specs.declared.digit.Digit.{Digit}
 use Rattle.sp_seq.proofs.DigitLemmas.{advance_stepped, advance_more}
 use Rattle.sp_seq.proofs.digit.advance.Goals as goal

@@ -1,4 +1,3 @@
-use Rattle.std.proofs.Common.{◌≡◌}
 use Rattle.sp_seq.proofs.DigitLemmas.{AdvanceGo}
 use Rattle.sp_seq.proofs.digit.advance.Given as goal
 

@@ -1,4 +1,4 @@
-use Rattle.std.proofs.Common.{◌≡◌, ◌<◌, ◌^◌, ◌+◌, ◌-◌, refl, sym, subst, arith}
+use Rattle.std.proofs.Common.{◌<◌, ◌^◌, refl, sym, subst, arith}
 use Rattle.sp_seq.proofs.CountLemmas.{length_small, start_of}
 use Rattle.sp_seq.proofs.digit.first_digit.Goals as goal
 

@@ -1,4 +1,4 @@
-use Rattle.std.proofs.Common.{List, map, sym, ap, subst, refl}
+use Rattle.std.proofs.Common.{List, map, sym, ap, subst}
 use Rattle.sp_tree.specs.Plain.{plain_mem}
 use Rattle.sp_tree.specs.PlainProgram.{PlainMem, PlainProgram}
 use Rattle.sp_tree.specs.PlainStatement.{PlainStmts}

@@ -1,15 +1,14 @@
-use Rattle.std.proofs.Common.{◌≡◌, ◌<◌, ◌≤◌, ◌-◌, ◌∷◌, map, length, get_or, sym, ◌∙◌, ap, ap₂, subst, arith}
+use Rattle.std.proofs.Common.{◌<◌, ◌-◌, map, length, get_or, sym, ◌∙◌, ap, subst, arith}
 use Rattle.std.proofs.lemmas.List.{length-set}
 use Rattle.sp_tree.specs.PlainTree.{plain_counter}
 use Rattle.sp_tree.specs.Sequential.{count_now}
-use Rattle.sp_tree.specs.Step.{went}
 use Rattle.sp_tree.specs.Store.{set_counter}
 use Rattle.sp_tree.specs.Typing.{with_counter, with_counters}
 use Rattle.sp_seq.specs.declared.digit.Digit.{Digit}
-use Rattle.sp_seq.specs.Looping.{current, word_at}
+use Rattle.sp_seq.specs.Looping.{current}
 use Rattle.sp_seq.specs.Running.{Stands}
 use Rattle.sp_seq.specs.States.{store_of}
-use Rattle.sp_seq.proofs.CountLemmas.{split_first, split_get, length-tail, inside_first, inside_tail, digits_tail, digits_first, count_first, count_none, stands_counted}
+use Rattle.sp_seq.proofs.CountLemmas.{split_first, split_get, length-tail, inside_first, inside_tail, digits_tail, count_first, count_none, stands_counted}
 use Rattle.sp_seq.proofs.ScopeLemmas.{stands_on}
 use Rattle.sp_seq.proofs.SliceLemmas.{tail}
 use Rattle.sp_seq.proofs.state.State.+count_all.Goals as goal

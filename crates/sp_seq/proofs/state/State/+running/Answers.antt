@@ -1,19 +1,18 @@
-use Rattle.std.proofs.Common.{◌≡◌, eq-eqb, ne_eqb, ◌<◌, ◌≤◌, ◌+◌, ◌∷◌, [], map, length, take, drop, true, false, refl, sym, ◌∙◌, ap, ap₂, subst, rules, arith, length-take-le}
+use Rattle.std.proofs.Common.{◌≡◌, eq-eqb, ne_eqb, ◌+◌, ◌∷◌, [], map, length, take, drop, true, false, refl, sym, ◌∙◌, ap, subst, rules, arith, length-take-le}
 use Rattle.std.specs.Prelude.{◌==◌, IfOk, Ok}
 use Rattle.sp_words.specs.Words.{IsWord}
 use Rattle.std.proofs.lemmas.List.{length-map}
 use Rattle.sp_words.specs.declared.kind.Style.TheVariants.{Stream, Pipe, Sequential, Parallel}
 use Rattle.sp_tree.specs.declared.statement.Ctl.{the_lemmas}
-use Rattle.sp_tree.specs.Elements.{tuples}
 use Rattle.sp_tree.specs.Plain.{plain_expr, plain_exprs, plain_mem}
 use Rattle.sp_tree.specs.PlainStatement as plain
 use Rattle.sp_tree.specs.PlainTree.{plain_counter, plain_ctl, plain_span, plain_stmt_kind, plain_stmts}
 use Rattle.sp_tree.specs.Sequential.{run_all, combining}
 use Rattle.sp_tree.specs.Shape.{looped, turned, shapes}
-use Rattle.sp_tree.specs.Step.{in_order, turn}
-use Rattle.sp_tree.specs.Typing.{after_all, with_counters}
-use Rattle.sp_seq.specs.Controlling.{Runs, fsm_turn, round}
-use Rattle.sp_seq.specs.Looping.{current, values, left_if, tuples_left, word_combined, part_combined}
+use Rattle.sp_tree.specs.Step.{turn}
+use Rattle.sp_tree.specs.Typing.{after_all}
+use Rattle.sp_seq.specs.Controlling.{Runs, fsm_turn}
+use Rattle.sp_seq.specs.Looping.{current, values, left_if, word_combined, part_combined}
 use Rattle.sp_seq.specs.Running.{CanRun}
 use Rattle.sp_seq.specs.States.{store_of}
 use Rattle.sp_seq.proofs.ArmLemmas.{body_size, ctl_size, reduce_falls, mem_reduce_falls, fsm_falls, then_falls, else_falls, block_stops, block_ends, block_body, pipe_end, sequential_end, parallel_end, stream_end, branch_stops, branch_then, branch_else, then_can, else_can}
@@ -24,9 +23,9 @@ use Rattle.sp_seq.proofs.FsmLemmas.{fsm_start, fsm_untested, fsm_over, fsm_halte
 use Rattle.sp_seq.proofs.RoundLemmas.{foreach_step, foreach_unranged, foreach_stopped, foreach_done, combine_step, reduce_unranged, reduce_stopped, reduce_done, mem_reduce_unranged, mem_reduce_stopped, mem_reduce_done, loop_over}
 use Rattle.sp_seq.proofs.RunningLemmas.{finished_stop, stands_kept}
 use Rattle.sp_seq.proofs.ScopeLemmas.{stands_on}
-use Rattle.sp_seq.proofs.SeesLemmas.{setting_later, sees_later}
+use Rattle.sp_seq.proofs.SeesLemmas.{sees_later}
 use Rattle.sp_seq.proofs.StepLemmas.{bind_halted}
-use Rattle.sp_seq.proofs.TreeLemmas.{plain_block, plain_foreach, plain_reduce, plain_mem_reduce, plain_fsm, plain_branch}
+use Rattle.sp_seq.proofs.TreeLemmas.{block_is, foreach_is, reduce_is, mem_reduce_is, fsm_is, branch_is}
 use Rattle.sp_seq.proofs.TurnLemmas.{finished_with_stop, not_ok, no_turn, turn_halts, body_halts, turn_ends, turn_taken, test_halts, test_goes, fsm_unstarted, fsm_stopped, fsm_done, fsm_test, fsm_can, reduce_combines, mem_reduce_combines}
 use Rattle.sp_seq.proofs.state.State.+running.Goals as goal
 
@@ -95,8 +94,6 @@ round-returns-in_err-turn-clause-ran t c = λ can.
     let a = c.args in
     let mems = map plain_mem a.decls.now in
     let s = a.self.now in
-    let counters = map plain_counter a.counters.now in
-    let body = plain_stmts a.body.now in
     finished_stop mems can.setting.roomy _ s _ _ _ c.in_err-turn.field-0.0 c.from_residual.ensures.1
     (bind_halted turn _ s.left (store_of s) c.in_err-turn.field-0.0 c.in_err-turn.ensures.ran)
 
@@ -145,10 +142,6 @@ round-returns t c =
 pub foreach-ranges-requires : goal.foreach-ranges-requires
 foreach-ranges-requires t c =
     let a = c.args in
-    let mems = map plain_mem a.decls.now in
-    let s = a.self.now in
-    let counters = map plain_counter a.counters.now in
-    let body = plain_stmts a.body.now in
     let can = c.requires.1 in
     record { few = omega (arith, can.typed.1.one_to_four.1, length-map a.counters.now plain_counter); can = record { setting = can.setting; typed = can.typed.1.bounds } }
 
@@ -180,11 +173,6 @@ foreach-rounds-init t c =
 pub foreach-round-requires : goal.foreach-round-requires
 foreach-round-requires t c =
     let a = c.args in
-    let mems = map plain_mem a.decls.now in
-    let s = a.self.now in
-    let counters = map plain_counter a.counters.now in
-    let body = plain_stmts a.body.now in
-    let begun = c.ranges-2.new.self in
     let n = length a.counters.now in
     let first = take n c.ranges-2.new.digits in
     let style = c.requires.0 in
@@ -216,9 +204,6 @@ foreach-rounds-preserved t c =
     let s = a.self.now in
     let counters = map plain_counter a.counters.now in
     let body = plain_stmts a.body.now in
-    let begun = c.ranges-2.new.self in
-    let n = length a.counters.now in
-    let first = take n c.ranges-2.new.digits in
     let now = c.rounds.self in
     record {
       going = λ style can. let g = c.rounds.invariant.going style can in foreach_next mems counters body can.setting.roomy can.setting.scope s now c.rounds.digits c.rounds.more c.rounds-test.true _ g c.advance-more.result c.advance-more.new.digits c.advance-more.ensures.left c.round.new.self (c.in_ok-round.ensures.ran (foreach_loop style can g.stands));
@@ -246,10 +231,6 @@ foreach-returns t c = λ style at can.
 pub reduce-ranges-requires : goal.reduce-ranges-requires
 reduce-ranges-requires t c =
     let a = c.args in
-    let mems = map plain_mem a.decls.now in
-    let s = a.self.now in
-    let counters = map plain_counter a.counters.now in
-    let body = plain_stmts a.body.now in
     let can = c.requires.1 in
     record { few = omega (arith, can.typed.1.one_to_four.1, length-map a.counters.now plain_counter); can = record { setting = can.setting; typed = can.typed.1.bounds } }
 
@@ -281,11 +262,6 @@ reduce-rounds-init t c =
 pub reduce-round-requires : goal.reduce-round-requires
 reduce-round-requires t c =
     let a = c.args in
-    let mems = map plain_mem a.decls.now in
-    let s = a.self.now in
-    let counters = map plain_counter a.counters.now in
-    let body = plain_stmts a.body.now in
-    let begun = c.ranges-2.new.self in
     let n = length a.counters.now in
     let first = take n c.ranges-2.new.digits in
     let style = c.requires.0 in
@@ -317,9 +293,6 @@ reduce-rounds-preserved t c =
     let s = a.self.now in
     let counters = map plain_counter a.counters.now in
     let body = plain_stmts a.body.now in
-    let begun = c.ranges-2.new.self in
-    let n = length a.counters.now in
-    let first = take n c.ranges-2.new.digits in
     let now = c.rounds.self in
     record {
       going = λ style can. let g = c.rounds.invariant.going style can in combine_next mems counters body can.setting.roomy can.setting.scope s now c.rounds.digits c.rounds.more c.rounds-test.true (word_combined mems a.into.comb a.into.acc a.into.at (plain_expr a.value.now)) _ c.rounds.combines g c.round.new.self (c.in_ok-round.ensures.ran (reduce_loop style a.fold a.into.acc (plain_expr a.value.now) a.into.comb can g.stands)) c.advance-more.result c.advance-more.new.digits c.advance-more.ensures.left tt c.combine_word.new.self c.in_ok-combine_word.ensures.ran c.in_ok-combine_word.ensures.keeps;
@@ -362,10 +335,6 @@ reduce-returns t c = λ style can.
 pub mem_reduce-ranges-requires : goal.mem_reduce-ranges-requires
 mem_reduce-ranges-requires t c =
     let a = c.args in
-    let mems = map plain_mem a.decls.now in
-    let s = a.self.now in
-    let counters = map plain_counter a.counters.now in
-    let body = plain_stmts a.body.now in
     let can = c.requires.1 in
     record { few = omega (arith, can.typed.1.one_to_four.1, length-map a.counters.now plain_counter); can = record { setting = can.setting; typed = can.typed.1.bounds } }
 
@@ -397,11 +366,6 @@ mem_reduce-rounds-init t c =
 pub mem_reduce-round-requires : goal.mem_reduce-round-requires
 mem_reduce-round-requires t c =
     let a = c.args in
-    let mems = map plain_mem a.decls.now in
-    let s = a.self.now in
-    let counters = map plain_counter a.counters.now in
-    let body = plain_stmts a.body.now in
-    let begun = c.ranges-2.new.self in
     let n = length a.counters.now in
     let first = take n c.ranges-2.new.digits in
     let style = c.requires.0 in
@@ -433,9 +397,6 @@ mem_reduce-rounds-preserved t c =
     let s = a.self.now in
     let counters = map plain_counter a.counters.now in
     let body = plain_stmts a.body.now in
-    let begun = c.ranges-2.new.self in
-    let n = length a.counters.now in
-    let first = take n c.ranges-2.new.digits in
     let now = c.rounds.self in
     record {
       going = λ style can. let g = c.rounds.invariant.going style can in combine_next mems counters body can.setting.roomy can.setting.scope s now c.rounds.digits c.rounds.more c.rounds-test.true (part_combined mems a.into.comb a.into.acc a.part a.into.at) _ c.rounds.combines g c.round.new.self (c.in_ok-round.ensures.ran (mem_reduce_loop style a.into.acc a.part a.into.comb can g.stands)) c.advance-more.result c.advance-more.new.digits c.advance-more.ensures.left c.in_ok-combine_all.ensures.ran.0 c.combine_all.new.self c.in_ok-combine_all.ensures.ran.1 c.in_ok-combine_all.ensures.keeps;
@@ -480,7 +441,7 @@ control-returns-in-Block t c =
     let a = c.args in
     let mems = map plain_mem a.decls.now in
     let s = a.self.now in
-    let e = ap plain_ctl c.in-Block.is ∙ plain_block c.in-Block.style c.in-Block.body ∙ ap (λ b. plain.block c.in-Block.style (plain_stmts b)) (sym c.deref.ensures.value) in
+    let e = block_is c.in-Block.style c.in-Block.body c.in-Block.is c.deref.ensures.value in
     subst (λ k. Runs mems k a.at s c.block.result c.block.new.self) (sym e) (c.block.ensures)
 
 pub control-block-requires : goal.control-block-requires
@@ -488,7 +449,7 @@ control-block-requires t c =
     let a = c.args in
     let mems = map plain_mem a.decls.now in
     let s = a.self.now in
-    let e = ap plain_ctl c.in-Block.is ∙ plain_block c.in-Block.style c.in-Block.body ∙ ap (λ b. plain.block c.in-Block.style (plain_stmts b)) (sym c.deref.ensures.value) in
+    let e = block_is c.in-Block.style c.in-Block.body c.in-Block.is c.deref.ensures.value in
     (search (rules, the_lemmas), subst (λ k. CanRun mems k s) e c.requires)
 
 pub control-returns-in-Foreach : goal.control-returns-in-Foreach
@@ -496,7 +457,7 @@ control-returns-in-Foreach t c =
     let a = c.args in
     let mems = map plain_mem a.decls.now in
     let s = a.self.now in
-    let e = ap plain_ctl c.in-Foreach.is ∙ plain_foreach c.in-Foreach.style c.in-Foreach.counters c.in-Foreach.body ∙ ap₂ (λ cs b. plain.foreach c.in-Foreach.style (map plain_counter cs) (plain_stmts b)) (sym c.deref-in-Foreach-2.ensures.value) (sym c.deref-in-Foreach.ensures.value) in
+    let e = foreach_is c.in-Foreach.style c.in-Foreach.counters c.in-Foreach.body c.in-Foreach.is c.deref-in-Foreach-2.ensures.value c.deref-in-Foreach.ensures.value in
     subst (λ k. Runs mems k a.at s c.foreach.result c.foreach.new.self) (sym e) (c.foreach.ensures c.in-Foreach.style a.at)
 
 pub control-foreach-requires : goal.control-foreach-requires
@@ -504,7 +465,7 @@ control-foreach-requires t c =
     let a = c.args in
     let mems = map plain_mem a.decls.now in
     let s = a.self.now in
-    let e = ap plain_ctl c.in-Foreach.is ∙ plain_foreach c.in-Foreach.style c.in-Foreach.counters c.in-Foreach.body ∙ ap₂ (λ cs b. plain.foreach c.in-Foreach.style (map plain_counter cs) (plain_stmts b)) (sym c.deref-in-Foreach-2.ensures.value) (sym c.deref-in-Foreach.ensures.value) in
+    let e = foreach_is c.in-Foreach.style c.in-Foreach.counters c.in-Foreach.body c.in-Foreach.is c.deref-in-Foreach-2.ensures.value c.deref-in-Foreach.ensures.value in
     (search (rules, the_lemmas), (c.in-Foreach.style, subst (λ k. CanRun mems k s) e c.requires))
 
 pub statement-returns-in-Declare : goal.statement-returns-in-Declare
@@ -526,7 +487,7 @@ control-reduce-requires t c =
     let a = c.args in
     let mems = map plain_mem a.decls.now in
     let s = a.self.now in
-    let e = ap plain_ctl c.in-Reduce.is ∙ plain_reduce c.in-Reduce.style c.in-Reduce.fold c.in-Reduce.acc c.in-Reduce.counters c.in-Reduce.body c.in-Reduce.value c.in-Reduce.comb ∙ ap (λ n. plain.reduce c.in-Reduce.style c.in-Reduce.fold n (map plain_counter c.in-Reduce.counters.items) (plain_stmts c.in-Reduce.body.items) (plain_expr c.in-Reduce.value) c.in-Reduce.comb) (sym c.number.ensures) ∙ ap₂ (λ cs b. plain.reduce c.in-Reduce.style c.in-Reduce.fold c.number.result (map plain_counter cs) (plain_stmts b) (plain_expr c.in-Reduce.value) c.in-Reduce.comb) (sym c.deref-in-Reduce-2.ensures.value) (sym c.deref-in-Reduce.ensures.value) in
+    let e = reduce_is c.in-Reduce.style c.in-Reduce.fold c.in-Reduce.acc c.in-Reduce.counters c.in-Reduce.body c.in-Reduce.value c.in-Reduce.comb c.in-Reduce.is c.number.ensures c.deref-in-Reduce-2.ensures.value c.deref-in-Reduce.ensures.value in
     (omega (arith, reduce_falls c.in-Reduce.style c.in-Reduce.fold c.in-Reduce.acc c.in-Reduce.counters c.in-Reduce.body c.in-Reduce.value c.in-Reduce.comb, ap ctl_size c.in-Reduce.is, ap body_size c.deref-in-Reduce.ensures.value), (c.in-Reduce.style, subst (λ k. CanRun mems k s) e c.requires))
 
 pub control-returns-in-Reduce : goal.control-returns-in-Reduce
@@ -534,7 +495,7 @@ control-returns-in-Reduce t c =
     let a = c.args in
     let mems = map plain_mem a.decls.now in
     let s = a.self.now in
-    let e = ap plain_ctl c.in-Reduce.is ∙ plain_reduce c.in-Reduce.style c.in-Reduce.fold c.in-Reduce.acc c.in-Reduce.counters c.in-Reduce.body c.in-Reduce.value c.in-Reduce.comb ∙ ap (λ n. plain.reduce c.in-Reduce.style c.in-Reduce.fold n (map plain_counter c.in-Reduce.counters.items) (plain_stmts c.in-Reduce.body.items) (plain_expr c.in-Reduce.value) c.in-Reduce.comb) (sym c.number.ensures) ∙ ap₂ (λ cs b. plain.reduce c.in-Reduce.style c.in-Reduce.fold c.number.result (map plain_counter cs) (plain_stmts b) (plain_expr c.in-Reduce.value) c.in-Reduce.comb) (sym c.deref-in-Reduce-2.ensures.value) (sym c.deref-in-Reduce.ensures.value) in
+    let e = reduce_is c.in-Reduce.style c.in-Reduce.fold c.in-Reduce.acc c.in-Reduce.counters c.in-Reduce.body c.in-Reduce.value c.in-Reduce.comb c.in-Reduce.is c.number.ensures c.deref-in-Reduce-2.ensures.value c.deref-in-Reduce.ensures.value in
     subst (λ k. Runs mems k a.at s c.reduce.result c.reduce.new.self) (sym e) (c.reduce.ensures c.in-Reduce.style)
 
 pub control-mem_reduce-requires : goal.control-mem_reduce-requires
@@ -542,7 +503,7 @@ control-mem_reduce-requires t c =
     let a = c.args in
     let mems = map plain_mem a.decls.now in
     let s = a.self.now in
-    let e = ap plain_ctl c.in-MemReduce.is ∙ plain_mem_reduce c.in-MemReduce.style c.in-MemReduce.acc c.in-MemReduce.counters c.in-MemReduce.body c.in-MemReduce.part c.in-MemReduce.comb ∙ ap (λ n. plain.mem_reduce c.in-MemReduce.style n (map plain_counter c.in-MemReduce.counters.items) (plain_stmts c.in-MemReduce.body.items) c.in-MemReduce.part c.in-MemReduce.comb) (sym c.number-in-MemReduce.ensures) ∙ ap₂ (λ cs b. plain.mem_reduce c.in-MemReduce.style c.number-in-MemReduce.result (map plain_counter cs) (plain_stmts b) c.in-MemReduce.part c.in-MemReduce.comb) (sym c.deref-in-MemReduce-2.ensures.value) (sym c.deref-in-MemReduce.ensures.value) ∙ ap (λ n. plain.mem_reduce c.in-MemReduce.style c.number-in-MemReduce.result (map plain_counter c.deref-in-MemReduce-2.result.now) (plain_stmts c.deref-in-MemReduce.result.now) n c.in-MemReduce.comb) (sym c.number-in-MemReduce-2.ensures) in
+    let e = mem_reduce_is c.in-MemReduce.style c.in-MemReduce.acc c.in-MemReduce.counters c.in-MemReduce.body c.in-MemReduce.part c.in-MemReduce.comb c.in-MemReduce.is c.number-in-MemReduce.ensures c.number-in-MemReduce-2.ensures c.deref-in-MemReduce-2.ensures.value c.deref-in-MemReduce.ensures.value in
     (omega (arith, mem_reduce_falls c.in-MemReduce.style c.in-MemReduce.acc c.in-MemReduce.counters c.in-MemReduce.body c.in-MemReduce.part c.in-MemReduce.comb, ap ctl_size c.in-MemReduce.is, ap body_size c.deref-in-MemReduce.ensures.value), (c.in-MemReduce.style, subst (λ k. CanRun mems k s) e c.requires))
 
 pub control-returns-in-MemReduce : goal.control-returns-in-MemReduce
@@ -550,7 +511,7 @@ control-returns-in-MemReduce t c =
     let a = c.args in
     let mems = map plain_mem a.decls.now in
     let s = a.self.now in
-    let e = ap plain_ctl c.in-MemReduce.is ∙ plain_mem_reduce c.in-MemReduce.style c.in-MemReduce.acc c.in-MemReduce.counters c.in-MemReduce.body c.in-MemReduce.part c.in-MemReduce.comb ∙ ap (λ n. plain.mem_reduce c.in-MemReduce.style n (map plain_counter c.in-MemReduce.counters.items) (plain_stmts c.in-MemReduce.body.items) c.in-MemReduce.part c.in-MemReduce.comb) (sym c.number-in-MemReduce.ensures) ∙ ap₂ (λ cs b. plain.mem_reduce c.in-MemReduce.style c.number-in-MemReduce.result (map plain_counter cs) (plain_stmts b) c.in-MemReduce.part c.in-MemReduce.comb) (sym c.deref-in-MemReduce-2.ensures.value) (sym c.deref-in-MemReduce.ensures.value) ∙ ap (λ n. plain.mem_reduce c.in-MemReduce.style c.number-in-MemReduce.result (map plain_counter c.deref-in-MemReduce-2.result.now) (plain_stmts c.deref-in-MemReduce.result.now) n c.in-MemReduce.comb) (sym c.number-in-MemReduce-2.ensures) in
+    let e = mem_reduce_is c.in-MemReduce.style c.in-MemReduce.acc c.in-MemReduce.counters c.in-MemReduce.body c.in-MemReduce.part c.in-MemReduce.comb c.in-MemReduce.is c.number-in-MemReduce.ensures c.number-in-MemReduce-2.ensures c.deref-in-MemReduce-2.ensures.value c.deref-in-MemReduce.ensures.value in
     subst (λ k. Runs mems k a.at s c.mem_reduce.result c.mem_reduce.new.self) (sym e) (c.mem_reduce.ensures c.in-MemReduce.style)
 
 pub control-fsm-requires : goal.control-fsm-requires
@@ -558,7 +519,7 @@ control-fsm-requires t c =
     let a = c.args in
     let mems = map plain_mem a.decls.now in
     let s = a.self.now in
-    let e = ap plain_ctl c.in-Fsm.is ∙ plain_fsm c.in-Fsm.start c.in-Fsm.tested c.in-Fsm.test c.in-Fsm.state c.in-Fsm.body c.in-Fsm.last c.in-Fsm.next ∙ ap (λ n. plain.fsm (plain_expr c.in-Fsm.start) n (plain_expr c.in-Fsm.test) c.in-Fsm.state (plain_stmts c.in-Fsm.body.items) c.in-Fsm.last (plain_expr c.in-Fsm.next)) (sym c.number-in-Fsm.ensures) ∙ ap (λ n. plain.fsm (plain_expr c.in-Fsm.start) c.number-in-Fsm.result (plain_expr c.in-Fsm.test) n (plain_stmts c.in-Fsm.body.items) c.in-Fsm.last (plain_expr c.in-Fsm.next)) (sym c.number-in-Fsm-2.ensures) ∙ ap (λ n. plain.fsm (plain_expr c.in-Fsm.start) c.number-in-Fsm.result (plain_expr c.in-Fsm.test) c.number-in-Fsm-2.result (plain_stmts c.in-Fsm.body.items) n (plain_expr c.in-Fsm.next)) (sym c.number-in-Fsm-3.ensures) ∙ ap (λ b. plain.fsm (plain_expr c.in-Fsm.start) c.number-in-Fsm.result (plain_expr c.in-Fsm.test) c.number-in-Fsm-2.result (plain_stmts b) c.number-in-Fsm-3.result (plain_expr c.in-Fsm.next)) (sym c.deref-in-Fsm.ensures.value) in
+    let e = fsm_is c.in-Fsm.start c.in-Fsm.tested c.in-Fsm.test c.in-Fsm.state c.in-Fsm.body c.in-Fsm.last c.in-Fsm.next c.in-Fsm.is c.number-in-Fsm.ensures c.number-in-Fsm-2.ensures c.number-in-Fsm-3.ensures c.deref-in-Fsm.ensures.value in
     (omega (arith, fsm_falls c.in-Fsm.start c.in-Fsm.tested c.in-Fsm.test c.in-Fsm.state c.in-Fsm.body c.in-Fsm.last c.in-Fsm.next, ap ctl_size c.in-Fsm.is, ap body_size c.deref-in-Fsm.ensures.value), subst (λ k. CanRun mems k s) e c.requires)
 
 pub control-returns-in-Fsm : goal.control-returns-in-Fsm
@@ -566,7 +527,7 @@ control-returns-in-Fsm t c =
     let a = c.args in
     let mems = map plain_mem a.decls.now in
     let s = a.self.now in
-    let e = ap plain_ctl c.in-Fsm.is ∙ plain_fsm c.in-Fsm.start c.in-Fsm.tested c.in-Fsm.test c.in-Fsm.state c.in-Fsm.body c.in-Fsm.last c.in-Fsm.next ∙ ap (λ n. plain.fsm (plain_expr c.in-Fsm.start) n (plain_expr c.in-Fsm.test) c.in-Fsm.state (plain_stmts c.in-Fsm.body.items) c.in-Fsm.last (plain_expr c.in-Fsm.next)) (sym c.number-in-Fsm.ensures) ∙ ap (λ n. plain.fsm (plain_expr c.in-Fsm.start) c.number-in-Fsm.result (plain_expr c.in-Fsm.test) n (plain_stmts c.in-Fsm.body.items) c.in-Fsm.last (plain_expr c.in-Fsm.next)) (sym c.number-in-Fsm-2.ensures) ∙ ap (λ n. plain.fsm (plain_expr c.in-Fsm.start) c.number-in-Fsm.result (plain_expr c.in-Fsm.test) c.number-in-Fsm-2.result (plain_stmts c.in-Fsm.body.items) n (plain_expr c.in-Fsm.next)) (sym c.number-in-Fsm-3.ensures) ∙ ap (λ b. plain.fsm (plain_expr c.in-Fsm.start) c.number-in-Fsm.result (plain_expr c.in-Fsm.test) c.number-in-Fsm-2.result (plain_stmts b) c.number-in-Fsm-3.result (plain_expr c.in-Fsm.next)) (sym c.deref-in-Fsm.ensures.value) in
+    let e = fsm_is c.in-Fsm.start c.in-Fsm.tested c.in-Fsm.test c.in-Fsm.state c.in-Fsm.body c.in-Fsm.last c.in-Fsm.next c.in-Fsm.is c.number-in-Fsm.ensures c.number-in-Fsm-2.ensures c.number-in-Fsm-3.ensures c.deref-in-Fsm.ensures.value in
     subst (λ k. Runs mems k a.at s c.fsm.result c.fsm.new.self) (sym e) (c.fsm.ensures a.at)
 
 pub control-word-requires : goal.control-word-requires
@@ -574,7 +535,7 @@ control-word-requires t c =
     let a = c.args in
     let mems = map plain_mem a.decls.now in
     let s = a.self.now in
-    let e = ap plain_ctl c.in-Branch.is ∙ plain_branch c.in-Branch.test c.in-Branch.yes c.in-Branch.no in
+    let e = branch_is c.in-Branch.test c.in-Branch.yes c.in-Branch.no c.in-Branch.is refl refl in
     let can = subst (λ k. CanRun mems k s) e c.requires in
     record { setting = can.setting; typed = can.typed.0.0.0 }
 
@@ -583,14 +544,11 @@ control-body-requires t c =
     let a = c.args in
     let mems = map plain_mem a.decls.now in
     let s = a.self.now in
-    let e = ap plain_ctl c.in-Branch.is ∙ plain_branch c.in-Branch.test c.in-Branch.yes c.in-Branch.no ∙ ap (λ y. plain.branch (plain_expr c.in-Branch.test) (plain_stmts y) (plain_stmts c.in-Branch.no.items)) (sym c.deref-then-branch-eq1.ensures.value) in
+    let e = branch_is c.in-Branch.test c.in-Branch.yes c.in-Branch.no c.in-Branch.is c.deref-then-branch-eq1.ensures.value refl in
     (omega (arith, then_falls c.in-Branch.test c.in-Branch.yes c.in-Branch.no, ap ctl_size c.in-Branch.is, ap body_size c.deref-then-branch-eq1.ensures.value), then_can mems (plain_expr c.in-Branch.test) (plain_stmts c.deref-then-branch-eq1.result.now) (plain_stmts c.in-Branch.no.items) s (subst (λ k. CanRun mems k s) e c.requires) c.word.new.self c.in_ok-word-in-Branch.ensures.keeps)
 
 pub block-body-requires : goal.block-body-requires
 block-body-requires t c =
-    let a = c.args in
-    let mems = map plain_mem a.decls.now in
-    let s = a.self.now in
     let can = c.requires in
     (search (rules, the_lemmas), record { setting = can.setting; typed = can.typed; numbered = can.numbered; told = can.told.1 })
 
@@ -652,7 +610,6 @@ block-returns-in-Parallel t c =
 pub reduce-combine_word-requires : goal.reduce-combine_word-requires
 reduce-combine_word-requires t c =
     let a = c.args in
-    let mems = map plain_mem a.decls.now in
     let style = c.requires.0 in
     let can = c.requires.1 in
     let e = plain_expr a.value.now in
@@ -662,7 +619,6 @@ reduce-combine_word-requires t c =
 pub mem_reduce-combine_all-requires : goal.mem_reduce-combine_all-requires
 mem_reduce-combine_all-requires t c =
     let a = c.args in
-    let mems = map plain_mem a.decls.now in
     let style = c.requires.0 in
     let can = c.requires.1 in
     let f = c.in_ok-round.ensures.ran (mem_reduce_loop style a.into.acc a.part a.into.comb can (c.rounds.invariant.going style can).stands) in
@@ -763,9 +719,6 @@ fsm_turn-returns t c =
 
 pub fsm-word-requires : goal.fsm-word-requires
 fsm-word-requires t c =
-    let a = c.args in
-    let mems = map plain_mem a.decls.now in
-    let s = a.self.now in
     record { setting = c.requires.setting; typed = c.requires.typed.0.0.0 }
 
 pub fsm-turns-init : goal.fsm-turns-init
@@ -773,7 +726,6 @@ fsm-turns-init t c =
     let a = c.args in
     let mems = map plain_mem a.decls.now in
     let s = a.self.now in
-    let start = plain_expr a.start.now in
     let tested = a.binders.tested in
     let test = plain_expr a.test.now in
     let state = a.binders.state in
@@ -782,7 +734,6 @@ fsm-turns-init t c =
     let next = plain_expr a.next.now in
     let begun = c.word.new.self in
     let first = c.in_ok-state.state in
-    let started = c.in_ok-state.ensures.ran in
     record {
       going = λ can. fsm_start (test_of mems tested test) (fsm_turn mems can.setting.roomy state last body next) mems can.setting.roomy can.setting.scope first s begun (stands_kept can.setting.sees c.in_ok-state.ensures.keeps);
       is_word = c.in_ok-state.ensures.fits;
@@ -790,17 +741,6 @@ fsm-turns-init t c =
 
 pub fsm-word_under-requires : goal.fsm-word_under-requires
 fsm-word_under-requires t c =
-    let a = c.args in
-    let mems = map plain_mem a.decls.now in
-    let s = a.self.now in
-    let start = plain_expr a.start.now in
-    let tested = a.binders.tested in
-    let test = plain_expr a.test.now in
-    let state = a.binders.state in
-    let body = plain_stmts a.body.now in
-    let last = a.binders.last in
-    let next = plain_expr a.next.now in
-    let begun = c.word.new.self in
     let now = c.turns.self in
     let x = c.turns.state in
     let good = c.turns.invariant.is_word in
@@ -825,7 +765,6 @@ fsm-returns-in_err-word_under t c =
     let started = c.in_ok-state.ensures.ran in
     let now = c.turns.self in
     let x = c.turns.state in
-    let good = c.turns.invariant.is_word in
     let g = c.turns.invariant.going can in
     let stop = c.in_err-word_under.field-0.0 in
     finished_stop mems can.setting.roomy can.setting.scope s _ _ _ stop c.from_residual-in_err-word_under.ensures.1
@@ -834,17 +773,6 @@ fsm-returns-in_err-word_under t c =
 
 pub fsm-fsm_turn-requires : goal.fsm-fsm_turn-requires
 fsm-fsm_turn-requires t c =
-    let a = c.args in
-    let mems = map plain_mem a.decls.now in
-    let s = a.self.now in
-    let start = plain_expr a.start.now in
-    let tested = a.binders.tested in
-    let test = plain_expr a.test.now in
-    let state = a.binders.state in
-    let body = plain_stmts a.body.now in
-    let last = a.binders.last in
-    let next = plain_expr a.next.now in
-    let begun = c.word.new.self in
     let now = c.turns.self in
     let x = c.turns.state in
     let good = c.turns.invariant.is_word in
@@ -859,14 +787,12 @@ fsm-turns-preserved t c =
     let a = c.args in
     let mems = map plain_mem a.decls.now in
     let s = a.self.now in
-    let start = plain_expr a.start.now in
     let tested = a.binders.tested in
     let test = plain_expr a.test.now in
     let state = a.binders.state in
     let body = plain_stmts a.body.now in
     let last = a.binders.last in
     let next = plain_expr a.next.now in
-    let begun = c.word.new.self in
     let now = c.turns.self in
     let x = c.turns.state in
     let good = c.turns.invariant.is_word in
@@ -887,23 +813,11 @@ fsm-turns-preserved t c =
 
 pub fsm-turns-smaller : goal.fsm-turns-smaller
 fsm-turns-smaller t c =
-    let a = c.args in
-    let mems = map plain_mem a.decls.now in
-    let s = a.self.now in
-    let start = plain_expr a.start.now in
-    let tested = a.binders.tested in
-    let test = plain_expr a.test.now in
-    let state = a.binders.state in
-    let body = plain_stmts a.body.now in
-    let last = a.binders.last in
-    let next = plain_expr a.next.now in
-    let begun = c.word.new.self in
     let now = c.turns.self in
     let x = c.turns.state in
     let good = c.turns.invariant.is_word in
     let can = c.requires in
     let g = c.turns.invariant.going can in
-    let t = c.word_under.new.self in
     let later = c.in_ok-word_under.ensures.stands (fsm_test can now g.stands x good) in
     omega (arith, c.in_ok-state-2.ensures.taken, later.left)
 
@@ -912,7 +826,7 @@ control-returns-in_err-word-in-Branch t c =
     let a = c.args in
     let mems = map plain_mem a.decls.now in
     let s = a.self.now in
-    let e = ap plain_ctl c.in-Branch.is ∙ plain_branch c.in-Branch.test c.in-Branch.yes c.in-Branch.no in
+    let e = branch_is c.in-Branch.test c.in-Branch.yes c.in-Branch.no c.in-Branch.is refl refl in
     subst (λ k. Runs mems k a.at s c.from_residual.result c.word.new.self) (sym e)
     (λ can. finished_stop mems can.setting.roomy _ s _ _ _ c.in_err-word-in-Branch.field-0.0 c.from_residual.ensures.1
     (branch_stops mems can.setting.roomy can.setting.scope (plain_expr c.in-Branch.test) (plain_stmts c.in-Branch.yes.items) (plain_stmts c.in-Branch.no.items) a.at s c.in_err-word-in-Branch.field-0.0 c.in_err-word-in-Branch.ensures.ran))
@@ -922,7 +836,7 @@ control-body-requires-else-branch-eq1 t c =
     let a = c.args in
     let mems = map plain_mem a.decls.now in
     let s = a.self.now in
-    let e = ap plain_ctl c.in-Branch.is ∙ plain_branch c.in-Branch.test c.in-Branch.yes c.in-Branch.no ∙ ap (λ n. plain.branch (plain_expr c.in-Branch.test) (plain_stmts c.in-Branch.yes.items) (plain_stmts n)) (sym c.deref-else-branch-eq1.ensures.value) in
+    let e = branch_is c.in-Branch.test c.in-Branch.yes c.in-Branch.no c.in-Branch.is refl c.deref-else-branch-eq1.ensures.value in
     (omega (arith, else_falls c.in-Branch.test c.in-Branch.yes c.in-Branch.no, ap ctl_size c.in-Branch.is, ap body_size c.deref-else-branch-eq1.ensures.value), else_can mems (plain_expr c.in-Branch.test) (plain_stmts c.in-Branch.yes.items) (plain_stmts c.deref-else-branch-eq1.result.now) s (subst (λ k. CanRun mems k s) e c.requires) c.word.new.self c.in_ok-word-in-Branch.ensures.keeps)
 
 pub control-returns-then-branch-eq1 : goal.control-returns-then-branch-eq1
@@ -930,7 +844,7 @@ control-returns-then-branch-eq1 t c =
     let a = c.args in
     let mems = map plain_mem a.decls.now in
     let s = a.self.now in
-    let e = ap plain_ctl c.in-Branch.is ∙ plain_branch c.in-Branch.test c.in-Branch.yes c.in-Branch.no ∙ ap (λ y. plain.branch (plain_expr c.in-Branch.test) (plain_stmts y) (plain_stmts c.in-Branch.no.items)) (sym c.deref-then-branch-eq1.ensures.value) in
+    let e = branch_is c.in-Branch.test c.in-Branch.yes c.in-Branch.no c.in-Branch.is c.deref-then-branch-eq1.ensures.value refl in
     subst (λ k. Runs mems k a.at s c.body.result c.body.new.self) (sym e)
     (λ can. branch_then mems can.setting.roomy can.setting.scope (plain_expr c.in-Branch.test) (plain_stmts c.deref-then-branch-eq1.result.now) (plain_stmts c.in-Branch.no.items) a.at s c.in_ok-word-in-Branch.field-0 c.word.new.self c.in_ok-word-in-Branch.ensures.ran can.setting.sees c.in_ok-word-in-Branch.ensures.keeps
     (ap (λ w. w == 1) c.if-branch-eq1.true) c.body.result c.body.new.self
@@ -941,7 +855,7 @@ control-returns-else-branch-eq1 t c =
     let a = c.args in
     let mems = map plain_mem a.decls.now in
     let s = a.self.now in
-    let e = ap plain_ctl c.in-Branch.is ∙ plain_branch c.in-Branch.test c.in-Branch.yes c.in-Branch.no ∙ ap (λ n. plain.branch (plain_expr c.in-Branch.test) (plain_stmts c.in-Branch.yes.items) (plain_stmts n)) (sym c.deref-else-branch-eq1.ensures.value) in
+    let e = branch_is c.in-Branch.test c.in-Branch.yes c.in-Branch.no c.in-Branch.is refl c.deref-else-branch-eq1.ensures.value in
     subst (λ k. Runs mems k a.at s c.body-else-branch-eq1.result c.body-else-branch-eq1.new.self) (sym e)
     (λ can. branch_else mems can.setting.roomy can.setting.scope (plain_expr c.in-Branch.test) (plain_stmts c.in-Branch.yes.items) (plain_stmts c.deref-else-branch-eq1.result.now) a.at s c.in_ok-word-in-Branch.field-0 c.word.new.self c.in_ok-word-in-Branch.ensures.ran can.setting.sees c.in_ok-word-in-Branch.ensures.keeps
     (ne_eqb _ _ c.if-branch-eq1.false) c.body-else-branch-eq1.result c.body-else-branch-eq1.new.self
@@ -960,7 +874,6 @@ fsm-returns-in_err-state t c =
     let body = plain_stmts a.body.now in
     let last = a.binders.last in
     let next = plain_expr a.next.now in
-    let begun = c.word.new.self in
     let stop = c.in_err-state.field-0.0 in
     finished_stop mems can.setting.roomy can.setting.scope s _ _ _ stop c.from_residual.ensures.1 (fsm_unstarted mems can.setting.roomy start tested test state body last next at s stop c.in_err-state.ensures.ran)
 

@@ -1,14 +1,9 @@
-use Rattle.std.proofs.Common.{◌≡◌, map, drop, length, All}
-use Rattle.sp_words.specs.declared.kind.Style.{Style}
-use Rattle.sp_tree.specs.Elements.{tuples}
+use Rattle.std.proofs.Common.{map, drop}
 use Rattle.sp_tree.specs.Plain.{plain_expr, plain_mem}
-use Rattle.sp_tree.specs.PlainStatement as plain
 use Rattle.sp_tree.specs.PlainTree.{plain_counter, plain_stmts}
-use Rattle.sp_tree.specs.Sequential.{run_all, combining}
-use Rattle.sp_tree.specs.Step.{in_order}
+use Rattle.sp_tree.specs.Sequential.{run_all}
 use Rattle.sp_tree.specs.Typing.{after_all}
-use Rattle.sp_seq.specs.Looping.{values, left_if, word_combined, IsDigit}
-use Rattle.sp_seq.specs.Running.{CanRun, CanRunAll}
+use Rattle.sp_seq.specs.Running.{CanRunAll}
 use Rattle.sp_seq.specs.States.{store_of}
 use Rattle.sp_seq.proofs.BodyLemmas.{BodyGo}
 use Rattle.sp_seq.proofs.ControlLemmas.{ForeachGo, ReduceGo, MemReduceGo, TurnsGo}

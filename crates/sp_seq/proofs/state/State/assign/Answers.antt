@@ -1,4 +1,4 @@
-use Rattle.std.proofs.Common.{◌≡◌, ◌<◌, map, length, true, false, sym, ◌∙◌, ap, arith}
+use Rattle.std.proofs.Common.{◌<◌, map, length, sym, ◌∙◌, ap, arith}
 use Rattle.std.proofs.lemmas.List.{length-map}
 use Rattle.sp_tree.specs.Accesses.{write_cell}
 use Rattle.sp_tree.specs.Plain.{plain_mem}

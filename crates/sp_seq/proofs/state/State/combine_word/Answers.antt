@@ -1,4 +1,4 @@
-use Rattle.std.proofs.Common.{◌<◌, map, sym, ◌∙◌, ap, subst, arith}
+use Rattle.std.proofs.Common.{map, sym, ◌∙◌, ap, subst, arith}
 use Rattle.sp_words.specs.Types.{width_of}
 use Rattle.sp_words.specs.Words.{IsWord}
 use Rattle.sp_tree.specs.Plain.{plain_expr, plain_mem}

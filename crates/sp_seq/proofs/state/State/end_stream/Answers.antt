@@ -1,7 +1,7 @@
-use Rattle.std.proofs.Common.{◌≡◌, ◌<◌, ◌+◌, ◌∷◌, suc, length, drop, map, inl, refl, sym, ◌∙◌, ap, subst, arith, ⊎_elim}
-use Rattle.std.proofs.lemmas.List.{drop_more, drop_all}
+use Rattle.std.proofs.Common.{◌+◌, ◌∷◌, drop, map, sym, ◌∙◌, ap, arith}
+use Rattle.std.proofs.lemmas.List.{drop_more}
 use Rattle.sp_tree.specs.Plain.{plain_mem}
-use Rattle.sp_tree.specs.PlainTree.{plain_stmt_kind, plain_stmts}
+use Rattle.sp_tree.specs.PlainTree.{plain_stmts}
 use Rattle.sp_seq.proofs.BlockLemmas.{end_begin, own_at, end_more, end_over, end_fits, end_done}
 use Rattle.sp_seq.proofs.state.State.end_stream.Goals as goal
 

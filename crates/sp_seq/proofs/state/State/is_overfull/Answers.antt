@@ -1,4 +1,4 @@
-use Rattle.std.proofs.Common.{◌<◌, arith}
+use Rattle.std.proofs.Common.{arith}
 use Rattle.sp_seq.proofs.state.State.is_overfull.Goals as goal
 
 pub index-requires : goal.index-requires

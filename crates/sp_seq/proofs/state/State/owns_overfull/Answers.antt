@@ -1,4 +1,4 @@
-use Rattle.std.proofs.Common.{refl, sym, ◌∙◌, ap}
+use Rattle.std.proofs.Common.{sym, ◌∙◌, ap}
 use Rattle.sp_tree.specs.PlainTree.{plain_stmt_kind}
 use Rattle.sp_seq.proofs.TreeLemmas.{control_is_other}
 use Rattle.sp_seq.proofs.state.State.owns_overfull.Goals as goal

@@ -1,8 +1,8 @@
-use Rattle.std.proofs.Common.{◌≡◌, map, sym, ◌∙◌, ap, subst}
+use Rattle.std.proofs.Common.{map, sym, ◌∙◌, ap, subst}
 use Rattle.sp_tree.specs.Expressions.{word}
 use Rattle.sp_tree.specs.Plain.{plain_expr, plain_mem}
 use Rattle.sp_tree.specs.Typing.{with_val}
-use Rattle.sp_seq.specs.States.{store_of, Ran, Sees}
+use Rattle.sp_seq.specs.States.{store_of, Ran}
 use Rattle.sp_seq.proofs.CountLemmas.{word_named_is, stands_under}
 use Rattle.sp_seq.proofs.RunningLemmas.{sees_named}
 use Rattle.sp_seq.proofs.state.State.word_under.Goals as goal
