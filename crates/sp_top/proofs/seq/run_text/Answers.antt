@@ -11,8 +11,8 @@ use Rattle.sp_top.proofs.seq.run_text.Goals as goal
 pub outputs-requires : goal.outputs-requires
 outputs-requires c = has_ended c.in_ok-interpreter.interpreter.program c.in_ok-interpreter.interpreter.input c.run.new.self c.args.setup.now.turns c.in-Ended.turns c.in-Ended.ensures.ran
 
-pub returns-in_ok-text-in-Ended-clause-text : goal.returns-in_ok-text-in-Ended-clause-text
-returns-in_ok-text-in-Ended-clause-text c =
+pub returns-in-Ended-clause-text : goal.returns-in-Ended-clause-text
+returns-in-Ended-clause-text c =
     let outs = c.in_ok-output-in-Ended.output.outs.items in
     let drams : List (List ℕ) = map (λ (words : Vec ℕ). words.items) c.in_ok-output-in-Ended.output.drams.items in
     let left = left_words c.in_ok-interpreter.interpreter.program c.in_ok-interpreter.interpreter.input c.run.new.self c.args.setup.now.turns c.in-Ended.turns c.in-Ended.ensures.ran outs drams c.in_ok-output-in-Ended.ensures in
@@ -31,7 +31,7 @@ returns-in-Fault-clause-refused c =
     let Q : Progress → Type 0 = λ q. sequential.seq c.args.setup.now.turns (plain_program q.program) q.input ≡ sequential.stopped c.in-Fault.kind c.in-Fault.at in
     subst Q c.in_ok-interpreter.ensures (fault_told _ c.in-Fault.kind c.in-Fault.at c.in-Fault.ensures.end)
 
-pub returns-in-TurnsSpent-clause-refused : goal.returns-in-TurnsSpent-clause-refused
-returns-in-TurnsSpent-clause-refused c =
+pub returns-clause-refused : goal.returns-clause-refused
+returns-clause-refused c =
     let Q : Progress → Type 0 = λ q. sequential.seq c.args.setup.now.turns (plain_program q.program) q.input ≡ sequential.unfinished in
     (refl, subst Q c.in_ok-interpreter.ensures (spent_told _ c.in-TurnsSpent.ensures.end))
