@@ -1,10 +1,10 @@
 -- One statement of a body with stages: what it adds to the registers, to those that the body owns, and to the stages.
-use Rattle.std.proofs.Common.{◌≡◌, ◌≤◌, ◌<◌, ◌+◌, ℕ, Bool, true, false, List, [], ◌∷◌, ◌++◌, append_assoc, length, length-append, get_or, drop, Option, Some, None, map, Vec, Global, if◌then◌else◌, arith, refl, sym, ap, ◌∙◌}
+use Rattle.std.proofs.Common.{◌≡◌, ◌<◌, ◌+◌, ℕ, Bool, true, false, List, [], ◌++◌, append_assoc, length, length-append, get_or, drop, Option, Some, None, map, Vec, Global, arith, refl, sym, ap, ◌∙◌}
 use mathlib.Core.Former.{Count}
 use Rattle.sp_words.specs.declared.kind.Style.{Style}
 use Rattle.sp_tree.specs.declared.statement.Stmt.{Stmt}
 use Rattle.sp_tree.specs.PlainProgram as program
-use Rattle.sp_tree.specs.PlainStatement.{PlainStmtKind, PlainStmts, stmt, declare, name, set_reg, set_out, set_sram, enq, load_sram, load_line, store, gather, scatter, block, foreach, reduce, mem_reduce, fsm, branch, no_stmt, more_stmt}
+use Rattle.sp_tree.specs.PlainStatement.{PlainStmtKind, PlainStmts, stmt, declare, name, set_reg, set_out, set_sram, enq, load_sram, load_line, store, gather, scatter, block, foreach, reduce, mem_reduce, fsm, branch, more_stmt}
 use Rattle.sp_tree.specs.PlainTree.{plain_stmt_kind, plain_stmts}
 use Rattle.sp_tree.specs.Tallies.{Tally, primitive}
 use Rattle.sp_core.specs.declared.node.CoreCounter.{CoreCounter}

@@ -1,8 +1,7 @@
 -- The node of a controller, and the registers inside of it, by the parts that are found for them.
-use Rattle.std.proofs.Common.{◌≡◌, ◌+◌, ℕ, suc, Bool, List, [], ◌∷◌, ◌++◌, length, length-append, take, drop, ◌-◌, map, Vec, Global, arith, refl, sym, ap, ◌∙◌}
+use Rattle.std.proofs.Common.{◌≡◌, ◌+◌, ℕ, suc, Bool, List, [], ◌∷◌, ◌++◌, length, length-append, take, drop, ◌-◌, map, Vec, Global, arith, sym, ap, ◌∙◌}
 use Rattle.std.proofs.lemmas.Grind.{common_steps}
 use Rattle.sp_words.specs.declared.kind.Style.{Style}
-use Rattle.sp_words.specs.declared.kind.Style.TheVariants.{Pipe}
 use Rattle.sp_tree.specs.declared.expression.Expr.{Expr}
 use Rattle.sp_tree.specs.declared.statement.Comb.{Comb}
 use Rattle.sp_tree.specs.declared.statement.Counter.{Counter}
@@ -11,7 +10,6 @@ use Rattle.sp_tree.specs.declared.statement.Span.{Span}
 use Rattle.sp_tree.specs.declared.statement.Stmt.{Stmt}
 use Rattle.sp_tree.specs.declared.statement.StmtKind.{StmtKind, LoadSram, LoadLine, Store}
 use Rattle.sp_tree.specs.Plain.{plain_expr}
-use Rattle.sp_tree.specs.PlainExpression.{type_of}
 use Rattle.sp_tree.specs.PlainProgram as program
 use Rattle.sp_tree.specs.PlainTree.{plain_counter, plain_ctl, plain_span, plain_stmt_kind, plain_stmts}
 use Rattle.sp_core.specs.PlainCore as core

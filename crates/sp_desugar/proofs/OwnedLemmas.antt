@@ -1,5 +1,5 @@
 -- The numbers of registers that are added.
-use Rattle.std.proofs.Common.{◌≡◌, ◌≤◌, ◌<◌, ◌+◌, ◌-◌, ℕ, suc, List, [], ◌∷◌, ◌++◌, length, length-append, add-one, Option, Some, None, arith, refl, sym, ap, ◌∙◌}
+use Rattle.std.proofs.Common.{◌≡◌, ◌≤◌, ◌<◌, ◌+◌, ◌-◌, ℕ, suc, List, [], ◌∷◌, ◌++◌, length, length-append, add-one, Some, None, arith, refl, sym, ap, ◌∙◌}
 use Rattle.sp_core.specs.PlainCore.{PlainMem}
 use Rattle.sp_sugar.specs.Numbers.{numbers_from}
 use Rattle.sp_sugar.specs.Stages.{first_of}

@@ -1,5 +1,5 @@
 -- The parts of the core of a program.
-use Rattle.std.proofs.Common.{◌≡◌, List, [], ◌++◌, length, refl, ap, ◌∙◌}
+use Rattle.std.proofs.Common.{◌≡◌, List, [], ◌++◌, length, refl}
 use mathlib.Core.Path.{fun_ext}
 use Rattle.sp_words.specs.Ports.{PlainPorts}
 use Rattle.sp_tree.specs.PlainProgram.{PlainProgram}

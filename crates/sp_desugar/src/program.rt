@@ -1,16 +1,23 @@
 //! The core of a program.
 ghost use Rattle.std.specs.Prelude.{◌≡◌, map, length, IfOk};
 ghost use Rattle.sp_words.specs.Ports.{plain_port, plain_ports};
+ghost use Rattle.sp_tree.specs.Invariant.{IsProgram};
 ghost use Rattle.sp_tree.specs.ProgramParts.{plain_program};
 ghost use Rattle.sp_core.specs.CoreParts.{plain_core};
 ghost use Rattle.sp_core.specs.Invariant.{IsCore};
 ghost use Rattle.sp_core.specs.Plain.{plain_mem};
 ghost use Rattle.sp_sugar.specs.Core.{core_of};
+ghost use Rattle.sp_outcomes.specs.Laws.{EndsAs};
+ghost use Rattle.sp_laned.specs.Laws.{MayHaveLanes};
+ghost use Rattle.sp_laned.specs.Marks.{IsLaned};
+ghost use Rattle.sp_laned.specs.Weights.{IsLight};
 
 use crate::NoMemory;
 use crate::tree::alone;
 use sp_core::{Core, CoreError, CoreMem, Node, wrong_cores_are_shown};
+use sp_laned::{programs_are_laned, programs_are_light, programs_have_lanes};
 use sp_operations::push_written;
+use sp_outcomes::programs_are_followed;
 use sp_sugar::programs_become_cores;
 use sp_tree::Program;
 use sp_words::{PortDecl, Ports};
@@ -75,12 +82,11 @@ fn core_of_parts(
     }
 }
 
-/// The core of a program: its memories without its DRAMs, in the order of the text, and then the registers that are
-/// added; its ports; and its block as a tree of loops and transfers over lists of operations, before its lanes stand one
-/// after the other.
-pub fn desugar(alloc: Global, program: &Program) -> Result<Core, NoMemory>
+/// The core of a program, as it is defined.
+fn defined_core(alloc: Global, program: &Program) -> Result<Core, NoMemory>
     ensures core { IfOk result (λ core. plain_core core ≡ core_of (plain_program program.now)) }
     ensures ports { IfOk result (λ core. core.ports ≡ program.now.ports) }
+    ensures program { IsProgram (plain_program program.now) }
 {
     let mut mems = Vec::new(alloc);
     push_written(alloc, &mut mems, program.mems())?;
@@ -91,4 +97,24 @@ pub fn desugar(alloc: Global, program: &Program) -> Result<Core, NoMemory>
     programs_become_cores();
     let core = core_of_parts(alloc, mems, ports, root)?;
     Ok(core)
+}
+
+/// The core of a program: its memories without its DRAMs, in the order of the text, and then the registers that are
+/// added; its ports; and its block as a tree of loops and transfers over lists of operations, before its lanes stand one
+/// after the other. Where the program ends, its core ends with the same words, and counts as much. No combination owns a
+/// memory; only the last counter of a controller has several lanes; a combination stands where it is marked, and nothing
+/// else in its loop names its accumulator; and the core is small enough for its lanes to stand one after the other.
+pub fn desugar(alloc: Global, program: &Program) -> Result<Core, NoMemory>
+    ensures core { IfOk result (λ core. plain_core core ≡ core_of (plain_program program.now)) }
+    ensures ports { IfOk result (λ core. core.ports ≡ program.now.ports) }
+    ensures ends { IfOk result (λ core. EndsAs (plain_program program.now) (plain_core core)) }
+    ensures lanes { IfOk result (λ core. MayHaveLanes (plain_core core)) }
+    ensures marks { IfOk result (λ core. IsLaned (plain_core core) (plain_core core).root) }
+    ensures light { IfOk result (λ core. IsLight (plain_core core)) }
+{
+    programs_are_followed();
+    programs_have_lanes();
+    programs_are_laned();
+    programs_are_light();
+    defined_core(alloc, program)
 }

@@ -1,2 +1,11 @@
+pub mod Earlier
+pub mod Ending
+pub mod Heavy
+pub mod Lanes
+pub mod Light
+pub mod Marked
+pub mod Naming
 pub mod Owning
+pub mod Parting
+pub mod Passing
 pub mod Ports

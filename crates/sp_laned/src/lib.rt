@@ -3,4 +3,4 @@
 
 mod laws;
 
-pub use laws::programs_have_lanes;
+pub use laws::{programs_are_laned, programs_are_light, programs_have_lanes};

@@ -41,7 +41,7 @@ use Rattle.sp_sugar.proofs.RightNodes.{NodesRight, right_from}
 use Rattle.sp_sugar.proofs.Small.{core_is_small}
 use Rattle.sp_sugar.proofs.UseLemmas.{used, only}
 
-contains_count : (xs : List ℕ) (m : ℕ) → Contains xs m → 1 ≤ count_of m xs
+pub contains_count : (xs : List ℕ) (m : ℕ) → Contains xs m → 1 ≤ count_of m xs
 contains_count [] m c = absurd (omega (arith, c.1))
 contains_count (x ∷ xs) m (zero, lt, e) = subst (λ y. 1 ≤ count_of y (x ∷ xs)) e (self_count x xs)
 contains_count (x ∷ xs) m (suc j, lt, e) = later_count m x xs (contains_count xs m (j, omega arith, e))
@@ -64,7 +64,7 @@ module _ (p : PlainProgram) (h : IsProgram p) where
   unfolding core_of
   has_drams = ap (λ (x : PlainPorts). x.drams) h.ports
 
-  port_is : (m : ℕ) → Contains (port_numbers p) m → (m < length p.mems) × (is_port (expressions.mem p.mems m).kind ≡ true)
+  pub port_is : (m : ℕ) → Contains (port_numbers p) m → (m < length p.mems) × (is_port (expressions.mem p.mems m).kind ≡ true)
   port_is m c =
       let n : 1 ≤ count_of m (numbers_of is_port 0 p.mems) = contains_count (port_numbers p) m c in
       either (nat_lt m (length p.mems))

@@ -20,6 +20,7 @@ pub mod OwnerCounts
 pub mod Owners
 pub mod Placed
 pub mod PortNames
+pub mod RegisterCounts
 pub mod Registered
 pub mod RightNodes
 pub mod RunKeeps

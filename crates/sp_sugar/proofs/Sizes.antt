@@ -24,12 +24,12 @@ use Rattle.sp_core.specs.Sequential.{has_reset}
 use Rattle.sp_sugar.specs.Combination.{operator_of, element_counters, element_indices, is_last_at, conjunction, is_last_element, element_value, element_ops, element_loop}
 use Rattle.sp_sugar.specs.Early.{bounds_of, parts_of, is_early, is_early_slice, is_early_part, registers_for, after, into_register, from_register, counters_of, spans_from, bound_stages, part_ops, slice_ops, slice_stage, stage_of, early_stages}
 use Rattle.sp_sugar.specs.Operations.{Code, Codes, computes, under, literal_op, accesses, alone, read_op, write_op, source_code, code, code_of, codes, word_list}
-use Rattle.sp_sugar.specs.Registers.{ending_of, at_end, beside, inside, registers, registers_in}
+use Rattle.sp_sugar.specs.Registers.{ending_of, beside, inside, registers_in}
 use Rattle.sp_sugar.specs.Runs.{Run, no_run, with_ops, next_code, with_computed, with_named, with_reset, with_word, with_stmt, inner_run}
 use Rattle.sp_sugar.specs.Stages.{run_stage, first_of, Combines, nothing, folds, reduces, reduces_elements, combines, combining, combination, combination_stage, inner_node, last_stages, load_node, store_node, style_of, outer_node, body_node, stages, node}
-use Rattle.sp_sugar.specs.Uses.{is_bare, does_cross, Ending, no_more, in_last_run, in_combination}
+use Rattle.sp_sugar.specs.Uses.{is_bare, Ending, no_more, in_last_run, in_combination}
 use Rattle.sp_sugar.specs.Values.{Source, at_place, in_register, constant, count, Sources, no_sources, with_state}
-use Rattle.sp_sugar.specs.Numbers.{begun_register, crossing_register, mem_number}
+use Rattle.sp_sugar.specs.Numbers.{mem_number}
 use Rattle.sp_sugar.proofs.NumberLemmas.{either}
 
 abbrev pub nodes_of : PlainExpr → ℕ
@@ -113,24 +113,43 @@ run_size [] rest = omega arith
 run_size (op ∷ ops) rest = omega arith
 
 -- the nodes of expressions
-abbrev all_nodes : List PlainExpr → ℕ
+abbrev pub all_nodes : List PlainExpr → ℕ
 all_nodes [] = 0
 all_nodes (e ∷ es) = nodes_of e + all_nodes es
 
-some_nodes : (e : PlainExpr) → 1 ≤ nodes_of e
+pub some_nodes : (e : PlainExpr) → 1 ≤ nodes_of e
 some_nodes (expr place ty k) = omega arith
 
-bound_nodes : (loops : List PlainCounter) → all_nodes (bounds_of loops) ≡ sum_by (λ (t : Tally). t.nodes) (bound_tallies loops)
+pub bound_nodes : (loops : List PlainCounter) → all_nodes (bounds_of loops) ≡ sum_by (λ (t : Tally). t.nodes) (bound_tallies loops)
 bound_nodes [] = refl
 bound_nodes (c ∷ loops) =
     omega (arith, bound_nodes loops, sum_by-cons (λ (t : Tally). t.nodes) (tally c.from) (tally c.until ∷ bound_tallies loops), sum_by-cons (λ (t : Tally). t.nodes) (tally c.until) (bound_tallies loops))
 
-part_nodes : (spans : List PlainSpan) → all_nodes (parts_of spans) ≡ (slice_tally spans).nodes
+pub part_nodes : (spans : List PlainSpan) → all_nodes (parts_of spans) ≡ (slice_tally spans).nodes
 part_nodes [] = refl
 part_nodes (single e ∷ spans) = omega (arith, part_nodes spans)
 part_nodes (range a b par ∷ spans) = omega (arith, part_nodes spans)
 
-alone_nodes : (t : Tally) → sum_by (λ (t : Tally). t.nodes) (t ∷ []) ≡ t.nodes
+some_bounds : (loops : List PlainCounter) → 1 ≤ length loops → 2 ≤ all_nodes (bounds_of loops)
+some_bounds [] h = absurd (omega arith)
+some_bounds (c ∷ loops) h = omega (arith, some_nodes c.from, some_nodes c.until)
+
+-- each MemReduce has a counter
+abbrev mutual
+  pub Looped : PlainStmts → Type 0
+  Looped no_stmt = Unit {0}
+  Looped (more_stmt (stmt place kind) rest) = IsLooped kind × Looped rest
+
+  pub IsLooped : PlainStmtKind → Type 0
+  IsLooped (block style body) = Looped body
+  IsLooped (foreach style loops body) = Looped body
+  IsLooped (reduce style fold acc loops body e comb) = Looped body
+  IsLooped (mem_reduce style acc loops body part comb) = (1 ≤ length loops) × Looped body
+  IsLooped (fsm start tested test state body last next) = Looped body
+  IsLooped (branch test first second) = Looped first × Looped second
+  IsLooped _ = Unit {0}
+
+pub alone_nodes : (t : Tally) → sum_by (λ (t : Tally). t.nodes) (t ∷ []) ≡ t.nodes
 alone_nodes t = sum_by-cons (λ (t : Tally). t.nodes) t [] ∙ omega arith
 
 module _ (mems : List PlainMem) (sources : Sources) where
@@ -322,8 +341,19 @@ module _ (mems : List PlainMem) (few : (m : ℕ) → length (dims mems m) ≤ 3)
   stage_size : (x : Code) (c : Combines) → stages_size (combination_stage mems counters x c) ≤ 8 + length x.ops
   stage_size x c = omega (arith, combination_size [] x c [] [])
 
+  -- what the last stages may have beside a run and a word
+  abbrev end_size : Combines → ℕ
+  end_size (reduces_elements part acc begun comb) = 50
+  end_size _ = 11
+
+  end_least : (c : Combines) → 11 ≤ end_size c
+  end_least nothing = omega arith
+  end_least (folds acc comb e) = omega arith
+  end_least (reduces acc begun comb e) = omega arith
+  end_least (reduces_elements part acc begun comb) = omega arith
+
   last_run_size : (run : Run) (n : ℕ) (e : PlainExpr) (c : Combines)
-      → stages_size (run_stage (run.ops ++ (next_code mems run e).ops ++ write_op (type_of e) n ((next_code mems run e).word ∷ []) ∷ []) (combination_stage mems counters (alone 0 (read_op (type_of e) n [])) c)) ≤ length run.ops + nodes_of e + 50
+      → stages_size (run_stage (run.ops ++ (next_code mems run e).ops ++ write_op (type_of e) n ((next_code mems run e).word ∷ []) ∷ []) (combination_stage mems counters (alone 0 (read_op (type_of e) n [])) c)) ≤ length run.ops + nodes_of e + 11
   last_run_size run n e c =
       let x : Code = next_code mems run e in
       omega (
@@ -335,10 +365,10 @@ module _ (mems : List PlainMem) (few : (m : ℕ) → length (dims mems m) ≤ 3)
         one_more (run.ops ++ x.ops) (write_op (type_of e) n (x.word ∷ [])),
       )
 
-  comb_run_size : (run : Run) (e : PlainExpr) (c : Combines) → stages_size (run_stage run.ops (combination_stage mems counters (code mems run.values.elsewhere 0 e) c)) ≤ length run.ops + nodes_of e + 50
+  comb_run_size : (run : Run) (e : PlainExpr) (c : Combines) → stages_size (run_stage run.ops (combination_stage mems counters (code mems run.values.elsewhere 0 e) c)) ≤ length run.ops + nodes_of e + 11
   comb_run_size run e c = omega (arith, run_size run.ops (combination_stage mems counters (code mems run.values.elsewhere 0 e) c), stage_size (code mems run.values.elsewhere 0 e) c, code_size mems run.values.elsewhere e 0)
 
-  last_size : (run : Run) (n : ℕ) (ending : Ending) (c : Combines) → stages_size (last_stages mems counters run n ending c) ≤ length run.ops + ending_nodes ending + 50
+  last_size : (run : Run) (n : ℕ) (ending : Ending) (c : Combines) → stages_size (last_stages mems counters run n ending c) ≤ length run.ops + ending_nodes ending + end_size c
   last_size run n ending (reduces_elements part acc begun comb) =
       let x : PlainNode = element_loop mems counters (dims mems part) part acc begun (mem mems part).ty comb in
       omega (arith, run_size run.ops (more_stage 0 0 true x no_stage), element_size part acc begun comb)
@@ -359,18 +389,18 @@ module _ (mems : List PlainMem) (few : (m : ℕ) → length (dims mems m) ≤ 3)
   store_size sources n r m spans = if_node (slice_lanes spans == 1) _ _ _ (omega (arith, spans_size_le mems sources (is_early_part spans) n spans)) (omega (arith, spans_size_le mems sources (is_early_part spans) n spans))
 
   -- a body by its stages
-  abbrev Body_fits : (before : ℕ) → PlainStmts → Ending → PlainStages → Type 0
-  Body_fits before body ending all = stages_size all ≤ before + ending_nodes ending + 64 * nodes_in body + 50
+  abbrev Body_fits : (before : ℕ) → PlainStmts → Ending → Combines → PlainStages → Type 0
+  Body_fits before body ending c all = stages_size all ≤ before + ending_nodes ending + 24 * nodes_in body + end_size c
 
-  outer_size : (n : ℕ) (loops : List core.PlainCounter) (style : Style) (body : PlainStmts) (ending : Ending) (all : PlainStages) → Body_fits 0 body ending all
-      → node_size (outer_node mems counters n loops style body ending all) ≤ counters_size loops + ending_nodes ending + 64 * nodes_in body + 51
-  outer_size n loops style body ending all h = omega (arith, h)
+  outer_size : (n : ℕ) (loops : List core.PlainCounter) (style : Style) (body : PlainStmts) (ending : Ending) (c : Combines) (all : PlainStages) → Body_fits 0 body ending c all
+      → node_size (outer_node mems counters n loops style body ending all) ≤ counters_size loops + ending_nodes ending + 24 * nodes_in body + end_size c + 1
+  outer_size n loops style body ending c all h = omega (arith, h)
 
-  pub body_size : (sources : Sources) (n : ℕ) (loops : List core.PlainCounter) (style : Style) (body : PlainStmts) (ending : Ending) (c : Combines) (all : PlainStages) → Body_fits 0 body ending all
-      → node_size (body_node mems counters sources n loops style body ending c all) ≤ counters_size loops + ending_nodes ending + value_nodes c + 64 * nodes_in body + 51
+  pub body_size : (sources : Sources) (n : ℕ) (loops : List core.PlainCounter) (style : Style) (body : PlainStmts) (ending : Ending) (c : Combines) (all : PlainStages) → Body_fits 0 body ending c all
+      → node_size (body_node mems counters sources n loops style body ending c all) ≤ counters_size loops + ending_nodes ending + value_nodes c + 24 * nodes_in body + end_size c + 1
   body_size sources n loops style body ending c all h =
-      if_node (is_inner body) (inner_node mems counters sources loops body c) (outer_node mems counters n loops style body ending all) (counters_size loops + ending_nodes ending + value_nodes c + 64 * nodes_in body + 51)
-      (omega (arith, inner_size sources loops body c)) (omega (arith, outer_size n loops style body ending all h))
+      if_node (is_inner body) (inner_node mems counters sources loops body c) (outer_node mems counters n loops style body ending all) (counters_size loops + ending_nodes ending + value_nodes c + 24 * nodes_in body + end_size c + 1)
+      (omega (arith, inner_size sources loops body c, end_least c)) (omega (arith, outer_size n loops style body ending c all h))
 
   ending_size : (loops : List PlainCounter) (e : PlainExpr) → ending_nodes (ending_of loops e) ≤ nodes_of e
   ending_size loops e = either (is_bare e)
@@ -385,191 +415,127 @@ module _ (mems : List PlainMem) (few : (m : ℕ) → length (dims mems m) ≤ 3)
   combines_nodes true acc begun comb e = refl
   combines_nodes false acc begun comb e = refl
 
+  combines_end : (fold : Bool) (acc begun : ℕ) (comb : Comb) (e : PlainExpr) → end_size (combines mems fold acc begun comb e) ≡ 11
+  combines_end true acc begun comb e = refl
+  combines_end false acc begun comb e = refl
+
   -- a stage with what stands before it
   abbrev weight : PlainStmtKind → ℕ
   weight kind = 1 + sum_by (λ (t : Tally). t.nodes) (outside kind) + kind_nodes kind
 
-  stage_fits : (run : Run) (n place : ℕ) (k : PlainStmtKind) (rest : PlainStmts) (ending : Ending) (x : PlainNode) (others : PlainStages)
-      → node_size x + 3 * sum_by (λ (t : Tally). t.nodes) (outside k) + 2 ≤ 64 * weight k → Body_fits 0 rest ending others → nodes_in (more_stmt (stmt place k) rest) ≡ weight k + nodes_in rest
-      → Body_fits (length run.ops) (more_stmt (stmt place k) rest) ending (run_stage run.ops (early_stages mems run.values.elsewhere n k (more_stage 0 0 false x others)))
-  stage_fits run n place k rest ending x others fits all same =
+  stage_fits : (run : Run) (n place : ℕ) (k : PlainStmtKind) (rest : PlainStmts) (ending : Ending) (c : Combines) (x : PlainNode) (others : PlainStages)
+      → node_size x + 3 * sum_by (λ (t : Tally). t.nodes) (outside k) + 2 ≤ 24 * weight k → Body_fits 0 rest ending c others → nodes_in (more_stmt (stmt place k) rest) ≡ weight k + nodes_in rest
+      → Body_fits (length run.ops) (more_stmt (stmt place k) rest) ending c (run_stage run.ops (early_stages mems run.values.elsewhere n k (more_stage 0 0 false x others)))
+  stage_fits run n place k rest ending c x others fits all same =
       omega (arith, run_size run.ops (early_stages mems run.values.elsewhere n k (more_stage 0 0 false x others)), early_size mems run.values.elsewhere n k (more_stage 0 0 false x others), fits, all, same)
 
-  plain_fits : (run later : Run) (place : ℕ) (k : PlainStmtKind) (rest : PlainStmts) (ending : Ending) (all : PlainStages)
-      → length later.ops + nodes_in rest ≤ length run.ops + nodes_in (more_stmt (stmt place k) rest) → nodes_in rest ≤ nodes_in (more_stmt (stmt place k) rest) → Body_fits (length later.ops) rest ending all → Body_fits (length run.ops) (more_stmt (stmt place k) rest) ending all
-  plain_fits run later place k rest ending all ops nodes h = omega (arith, ops, nodes, h)
+  plain_fits : (run later : Run) (place : ℕ) (k : PlainStmtKind) (rest : PlainStmts) (ending : Ending) (c : Combines) (all : PlainStages)
+      → length later.ops + nodes_in rest ≤ length run.ops + nodes_in (more_stmt (stmt place k) rest) → nodes_in rest ≤ nodes_in (more_stmt (stmt place k) rest) → Body_fits (length later.ops) rest ending c all → Body_fits (length run.ops) (more_stmt (stmt place k) rest) ending c all
+  plain_fits run later place k rest ending c all ops nodes h = omega (arith, ops, nodes, h)
 
   mutual
     unfolding stages node
 
-    pub stages_fit : (run : Run) (n : ℕ) (body : PlainStmts) (ending : Ending) (c : Combines) → Body_fits (length run.ops) body ending (stages mems counters run n body ending c)
-    stages_fit run n no_stmt ending c = omega (arith, last_size run n ending c)
-    stages_fit run n (more_stmt (stmt place (declare m)) rest) ending c =
+    pub stages_fit : (run : Run) (n : ℕ) (body : PlainStmts) (ending : Ending) (c : Combines) → Looped body → Body_fits (length run.ops) body ending c (stages mems counters run n body ending c)
+    stages_fit run n no_stmt ending c h = omega (arith, last_size run n ending c)
+    stages_fit run n (more_stmt (stmt place (declare m)) rest) ending c h =
         let later : Run = with_stmt mems false (first_of n (beside (declare m) rest ending)) run (declare m) in
-        plain_fits run later place (declare m) rest ending (stages mems counters later (n + length (beside (declare m) rest ending)) rest ending c) (stmt_size mems false (first_of n (beside (declare m) rest ending)) run place (declare m) rest) (omega arith)
-        (stages_fit later (n + length (beside (declare m) rest ending)) rest ending c)
-    stages_fit run n (more_stmt (stmt place (name v e)) rest) ending c =
+        plain_fits run later place (declare m) rest ending c (stages mems counters later (n + length (beside (declare m) rest ending)) rest ending c) (stmt_size mems false (first_of n (beside (declare m) rest ending)) run place (declare m) rest) (omega arith)
+        (stages_fit later (n + length (beside (declare m) rest ending)) rest ending c h.1)
+    stages_fit run n (more_stmt (stmt place (name v e)) rest) ending c h =
         let later : Run = with_stmt mems false (first_of n (beside (name v e) rest ending)) run (name v e) in
-        plain_fits run later place (name v e) rest ending (stages mems counters later (n + length (beside (name v e) rest ending)) rest ending c) (stmt_size mems false (first_of n (beside (name v e) rest ending)) run place (name v e) rest) (omega arith)
-        (stages_fit later (n + length (beside (name v e) rest ending)) rest ending c)
-    stages_fit run n (more_stmt (stmt place (set_reg m e)) rest) ending c =
+        plain_fits run later place (name v e) rest ending c (stages mems counters later (n + length (beside (name v e) rest ending)) rest ending c) (stmt_size mems false (first_of n (beside (name v e) rest ending)) run place (name v e) rest) (omega arith)
+        (stages_fit later (n + length (beside (name v e) rest ending)) rest ending c h.1)
+    stages_fit run n (more_stmt (stmt place (set_reg m e)) rest) ending c h =
         let later : Run = with_stmt mems false (first_of n (beside (set_reg m e) rest ending)) run (set_reg m e) in
-        plain_fits run later place (set_reg m e) rest ending (stages mems counters later (n + length (beside (set_reg m e) rest ending)) rest ending c) (stmt_size mems false (first_of n (beside (set_reg m e) rest ending)) run place (set_reg m e) rest) (omega arith)
-        (stages_fit later (n + length (beside (set_reg m e) rest ending)) rest ending c)
-    stages_fit run n (more_stmt (stmt place (set_out m e)) rest) ending c =
+        plain_fits run later place (set_reg m e) rest ending c (stages mems counters later (n + length (beside (set_reg m e) rest ending)) rest ending c) (stmt_size mems false (first_of n (beside (set_reg m e) rest ending)) run place (set_reg m e) rest) (omega arith)
+        (stages_fit later (n + length (beside (set_reg m e) rest ending)) rest ending c h.1)
+    stages_fit run n (more_stmt (stmt place (set_out m e)) rest) ending c h =
         let later : Run = with_stmt mems false (first_of n (beside (set_out m e) rest ending)) run (set_out m e) in
-        plain_fits run later place (set_out m e) rest ending (stages mems counters later (n + length (beside (set_out m e) rest ending)) rest ending c) (stmt_size mems false (first_of n (beside (set_out m e) rest ending)) run place (set_out m e) rest) (omega arith)
-        (stages_fit later (n + length (beside (set_out m e) rest ending)) rest ending c)
-    stages_fit run n (more_stmt (stmt place (set_sram m is e)) rest) ending c =
+        plain_fits run later place (set_out m e) rest ending c (stages mems counters later (n + length (beside (set_out m e) rest ending)) rest ending c) (stmt_size mems false (first_of n (beside (set_out m e) rest ending)) run place (set_out m e) rest) (omega arith)
+        (stages_fit later (n + length (beside (set_out m e) rest ending)) rest ending c h.1)
+    stages_fit run n (more_stmt (stmt place (set_sram m is e)) rest) ending c h =
         let later : Run = with_stmt mems false (first_of n (beside (set_sram m is e) rest ending)) run (set_sram m is e) in
-        plain_fits run later place (set_sram m is e) rest ending (stages mems counters later (n + length (beside (set_sram m is e) rest ending)) rest ending c) (stmt_size mems false (first_of n (beside (set_sram m is e) rest ending)) run place (set_sram m is e) rest) (omega arith)
-        (stages_fit later (n + length (beside (set_sram m is e) rest ending)) rest ending c)
-    stages_fit run n (more_stmt (stmt place (enq m e)) rest) ending c =
+        plain_fits run later place (set_sram m is e) rest ending c (stages mems counters later (n + length (beside (set_sram m is e) rest ending)) rest ending c) (stmt_size mems false (first_of n (beside (set_sram m is e) rest ending)) run place (set_sram m is e) rest) (omega arith)
+        (stages_fit later (n + length (beside (set_sram m is e) rest ending)) rest ending c h.1)
+    stages_fit run n (more_stmt (stmt place (enq m e)) rest) ending c h =
         let later : Run = with_stmt mems false (first_of n (beside (enq m e) rest ending)) run (enq m e) in
-        plain_fits run later place (enq m e) rest ending (stages mems counters later (n + length (beside (enq m e) rest ending)) rest ending c) (stmt_size mems false (first_of n (beside (enq m e) rest ending)) run place (enq m e) rest) (omega arith)
-        (stages_fit later (n + length (beside (enq m e) rest ending)) rest ending c)
-    stages_fit run n (more_stmt (stmt place (load_sram sram dram spans)) rest) ending c =
-        stage_fits run n place (load_sram sram dram spans) rest ending (node mems counters run.values.elsewhere n (n + length (beside (load_sram sram dram spans) rest ending)) (load_sram sram dram spans))
+        plain_fits run later place (enq m e) rest ending c (stages mems counters later (n + length (beside (enq m e) rest ending)) rest ending c) (stmt_size mems false (first_of n (beside (enq m e) rest ending)) run place (enq m e) rest) (omega arith)
+        (stages_fit later (n + length (beside (enq m e) rest ending)) rest ending c h.1)
+    stages_fit run n (more_stmt (stmt place (load_sram sram dram spans)) rest) ending c h =
+        stage_fits run n place (load_sram sram dram spans) rest ending c (node mems counters run.values.elsewhere n (n + length (beside (load_sram sram dram spans) rest ending)) (load_sram sram dram spans))
         (stages mems counters (no_run run.values.elsewhere) (n + length (beside (load_sram sram dram spans) rest ending) + length (inside (load_sram sram dram spans))) rest ending c)
-        (node_fits (load_sram sram dram spans) run.values.elsewhere n (n + length (beside (load_sram sram dram spans) rest ending)) tt)
-        (stages_fit (no_run run.values.elsewhere) (n + length (beside (load_sram sram dram spans) rest ending) + length (inside (load_sram sram dram spans))) rest ending c) refl
-    stages_fit run n (more_stmt (stmt place (load_line line dram spans)) rest) ending c =
-        stage_fits run n place (load_line line dram spans) rest ending (node mems counters run.values.elsewhere n (n + length (beside (load_line line dram spans) rest ending)) (load_line line dram spans))
+        (node_fits (load_sram sram dram spans) run.values.elsewhere n (n + length (beside (load_sram sram dram spans) rest ending)) tt h.0)
+        (stages_fit (no_run run.values.elsewhere) (n + length (beside (load_sram sram dram spans) rest ending) + length (inside (load_sram sram dram spans))) rest ending c h.1) refl
+    stages_fit run n (more_stmt (stmt place (load_line line dram spans)) rest) ending c h =
+        stage_fits run n place (load_line line dram spans) rest ending c (node mems counters run.values.elsewhere n (n + length (beside (load_line line dram spans) rest ending)) (load_line line dram spans))
         (stages mems counters (no_run run.values.elsewhere) (n + length (beside (load_line line dram spans) rest ending) + length (inside (load_line line dram spans))) rest ending c)
-        (node_fits (load_line line dram spans) run.values.elsewhere n (n + length (beside (load_line line dram spans) rest ending)) tt)
-        (stages_fit (no_run run.values.elsewhere) (n + length (beside (load_line line dram spans) rest ending) + length (inside (load_line line dram spans))) rest ending c) refl
-    stages_fit run n (more_stmt (stmt place (store dram spans sram)) rest) ending c =
-        stage_fits run n place (store dram spans sram) rest ending (node mems counters run.values.elsewhere n (n + length (beside (store dram spans sram) rest ending)) (store dram spans sram))
+        (node_fits (load_line line dram spans) run.values.elsewhere n (n + length (beside (load_line line dram spans) rest ending)) tt h.0)
+        (stages_fit (no_run run.values.elsewhere) (n + length (beside (load_line line dram spans) rest ending) + length (inside (load_line line dram spans))) rest ending c h.1) refl
+    stages_fit run n (more_stmt (stmt place (store dram spans sram)) rest) ending c h =
+        stage_fits run n place (store dram spans sram) rest ending c (node mems counters run.values.elsewhere n (n + length (beside (store dram spans sram) rest ending)) (store dram spans sram))
         (stages mems counters (no_run run.values.elsewhere) (n + length (beside (store dram spans sram) rest ending) + length (inside (store dram spans sram))) rest ending c)
-        (node_fits (store dram spans sram) run.values.elsewhere n (n + length (beside (store dram spans sram) rest ending)) tt)
-        (stages_fit (no_run run.values.elsewhere) (n + length (beside (store dram spans sram) rest ending) + length (inside (store dram spans sram))) rest ending c) refl
-    stages_fit run n (more_stmt (stmt place (gather sram dram places e)) rest) ending c =
-        stage_fits run n place (gather sram dram places e) rest ending (node mems counters run.values.elsewhere n (n + length (beside (gather sram dram places e) rest ending)) (gather sram dram places e))
+        (node_fits (store dram spans sram) run.values.elsewhere n (n + length (beside (store dram spans sram) rest ending)) tt h.0)
+        (stages_fit (no_run run.values.elsewhere) (n + length (beside (store dram spans sram) rest ending) + length (inside (store dram spans sram))) rest ending c h.1) refl
+    stages_fit run n (more_stmt (stmt place (gather sram dram places e)) rest) ending c h =
+        stage_fits run n place (gather sram dram places e) rest ending c (node mems counters run.values.elsewhere n (n + length (beside (gather sram dram places e) rest ending)) (gather sram dram places e))
         (stages mems counters (no_run run.values.elsewhere) (n + length (beside (gather sram dram places e) rest ending) + length (inside (gather sram dram places e))) rest ending c)
-        (node_fits (gather sram dram places e) run.values.elsewhere n (n + length (beside (gather sram dram places e) rest ending)) tt)
-        (stages_fit (no_run run.values.elsewhere) (n + length (beside (gather sram dram places e) rest ending) + length (inside (gather sram dram places e))) rest ending c) refl
-    stages_fit run n (more_stmt (stmt place (scatter dram places e sram)) rest) ending c =
-        stage_fits run n place (scatter dram places e sram) rest ending (node mems counters run.values.elsewhere n (n + length (beside (scatter dram places e sram) rest ending)) (scatter dram places e sram))
+        (node_fits (gather sram dram places e) run.values.elsewhere n (n + length (beside (gather sram dram places e) rest ending)) tt h.0)
+        (stages_fit (no_run run.values.elsewhere) (n + length (beside (gather sram dram places e) rest ending) + length (inside (gather sram dram places e))) rest ending c h.1) refl
+    stages_fit run n (more_stmt (stmt place (scatter dram places e sram)) rest) ending c h =
+        stage_fits run n place (scatter dram places e sram) rest ending c (node mems counters run.values.elsewhere n (n + length (beside (scatter dram places e sram) rest ending)) (scatter dram places e sram))
         (stages mems counters (no_run run.values.elsewhere) (n + length (beside (scatter dram places e sram) rest ending) + length (inside (scatter dram places e sram))) rest ending c)
-        (node_fits (scatter dram places e sram) run.values.elsewhere n (n + length (beside (scatter dram places e sram) rest ending)) tt)
-        (stages_fit (no_run run.values.elsewhere) (n + length (beside (scatter dram places e sram) rest ending) + length (inside (scatter dram places e sram))) rest ending c) refl
-    stages_fit run n (more_stmt (stmt place (block style body)) rest) ending c =
-        stage_fits run n place (block style body) rest ending (node mems counters run.values.elsewhere n (n + length (beside (block style body) rest ending)) (block style body))
+        (node_fits (scatter dram places e sram) run.values.elsewhere n (n + length (beside (scatter dram places e sram) rest ending)) tt h.0)
+        (stages_fit (no_run run.values.elsewhere) (n + length (beside (scatter dram places e sram) rest ending) + length (inside (scatter dram places e sram))) rest ending c h.1) refl
+    stages_fit run n (more_stmt (stmt place (block style body)) rest) ending c h =
+        stage_fits run n place (block style body) rest ending c (node mems counters run.values.elsewhere n (n + length (beside (block style body) rest ending)) (block style body))
         (stages mems counters (no_run run.values.elsewhere) (n + length (beside (block style body) rest ending) + length (inside (block style body))) rest ending c)
-        (node_fits (block style body) run.values.elsewhere n (n + length (beside (block style body) rest ending)) tt)
-        (stages_fit (no_run run.values.elsewhere) (n + length (beside (block style body) rest ending) + length (inside (block style body))) rest ending c) refl
-    stages_fit run n (more_stmt (stmt place (foreach style loops body)) rest) ending c =
-        stage_fits run n place (foreach style loops body) rest ending (node mems counters run.values.elsewhere n (n + length (beside (foreach style loops body) rest ending)) (foreach style loops body))
+        (node_fits (block style body) run.values.elsewhere n (n + length (beside (block style body) rest ending)) tt h.0)
+        (stages_fit (no_run run.values.elsewhere) (n + length (beside (block style body) rest ending) + length (inside (block style body))) rest ending c h.1) refl
+    stages_fit run n (more_stmt (stmt place (foreach style loops body)) rest) ending c h =
+        stage_fits run n place (foreach style loops body) rest ending c (node mems counters run.values.elsewhere n (n + length (beside (foreach style loops body) rest ending)) (foreach style loops body))
         (stages mems counters (no_run run.values.elsewhere) (n + length (beside (foreach style loops body) rest ending) + length (inside (foreach style loops body))) rest ending c)
-        (node_fits (foreach style loops body) run.values.elsewhere n (n + length (beside (foreach style loops body) rest ending)) tt)
-        (stages_fit (no_run run.values.elsewhere) (n + length (beside (foreach style loops body) rest ending) + length (inside (foreach style loops body))) rest ending c) refl
-    stages_fit run n (more_stmt (stmt place (reduce style fold acc loops body e comb)) rest) ending c =
-        stage_fits run n place (reduce style fold acc loops body e comb) rest ending (node mems counters run.values.elsewhere n (n + length (beside (reduce style fold acc loops body e comb) rest ending)) (reduce style fold acc loops body e comb))
+        (node_fits (foreach style loops body) run.values.elsewhere n (n + length (beside (foreach style loops body) rest ending)) tt h.0)
+        (stages_fit (no_run run.values.elsewhere) (n + length (beside (foreach style loops body) rest ending) + length (inside (foreach style loops body))) rest ending c h.1) refl
+    stages_fit run n (more_stmt (stmt place (reduce style fold acc loops body e comb)) rest) ending c h =
+        stage_fits run n place (reduce style fold acc loops body e comb) rest ending c (node mems counters run.values.elsewhere n (n + length (beside (reduce style fold acc loops body e comb) rest ending)) (reduce style fold acc loops body e comb))
         (stages mems counters (no_run run.values.elsewhere) (n + length (beside (reduce style fold acc loops body e comb) rest ending) + length (inside (reduce style fold acc loops body e comb))) rest ending c)
-        (node_fits (reduce style fold acc loops body e comb) run.values.elsewhere n (n + length (beside (reduce style fold acc loops body e comb) rest ending)) tt)
-        (stages_fit (no_run run.values.elsewhere) (n + length (beside (reduce style fold acc loops body e comb) rest ending) + length (inside (reduce style fold acc loops body e comb))) rest ending c) refl
-    stages_fit run n (more_stmt (stmt place (mem_reduce style acc loops body part comb)) rest) ending c =
-        stage_fits run n place (mem_reduce style acc loops body part comb) rest ending (node mems counters run.values.elsewhere n (n + length (beside (mem_reduce style acc loops body part comb) rest ending)) (mem_reduce style acc loops body part comb))
+        (node_fits (reduce style fold acc loops body e comb) run.values.elsewhere n (n + length (beside (reduce style fold acc loops body e comb) rest ending)) tt h.0)
+        (stages_fit (no_run run.values.elsewhere) (n + length (beside (reduce style fold acc loops body e comb) rest ending) + length (inside (reduce style fold acc loops body e comb))) rest ending c h.1) refl
+    stages_fit run n (more_stmt (stmt place (mem_reduce style acc loops body part comb)) rest) ending c h =
+        stage_fits run n place (mem_reduce style acc loops body part comb) rest ending c (node mems counters run.values.elsewhere n (n + length (beside (mem_reduce style acc loops body part comb) rest ending)) (mem_reduce style acc loops body part comb))
         (stages mems counters (no_run run.values.elsewhere) (n + length (beside (mem_reduce style acc loops body part comb) rest ending) + length (inside (mem_reduce style acc loops body part comb))) rest ending c)
-        (node_fits (mem_reduce style acc loops body part comb) run.values.elsewhere n (n + length (beside (mem_reduce style acc loops body part comb) rest ending)) tt)
-        (stages_fit (no_run run.values.elsewhere) (n + length (beside (mem_reduce style acc loops body part comb) rest ending) + length (inside (mem_reduce style acc loops body part comb))) rest ending c) refl
-    stages_fit run n (more_stmt (stmt place (fsm start tested test state body last next)) rest) ending c =
-        stage_fits run n place (fsm start tested test state body last next) rest ending (node mems counters run.values.elsewhere n (n + length (beside (fsm start tested test state body last next) rest ending)) (fsm start tested test state body last next))
+        (node_fits (mem_reduce style acc loops body part comb) run.values.elsewhere n (n + length (beside (mem_reduce style acc loops body part comb) rest ending)) tt h.0)
+        (stages_fit (no_run run.values.elsewhere) (n + length (beside (mem_reduce style acc loops body part comb) rest ending) + length (inside (mem_reduce style acc loops body part comb))) rest ending c h.1) refl
+    stages_fit run n (more_stmt (stmt place (fsm start tested test state body last next)) rest) ending c h =
+        stage_fits run n place (fsm start tested test state body last next) rest ending c (node mems counters run.values.elsewhere n (n + length (beside (fsm start tested test state body last next) rest ending)) (fsm start tested test state body last next))
         (stages mems counters (no_run run.values.elsewhere) (n + length (beside (fsm start tested test state body last next) rest ending) + length (inside (fsm start tested test state body last next))) rest ending c)
-        (node_fits (fsm start tested test state body last next) run.values.elsewhere n (n + length (beside (fsm start tested test state body last next) rest ending)) tt)
-        (stages_fit (no_run run.values.elsewhere) (n + length (beside (fsm start tested test state body last next) rest ending) + length (inside (fsm start tested test state body last next))) rest ending c) refl
-    stages_fit run n (more_stmt (stmt place (branch test first second)) rest) ending c =
-        stage_fits run n place (branch test first second) rest ending (node mems counters run.values.elsewhere n (n + length (beside (branch test first second) rest ending)) (branch test first second))
+        (node_fits (fsm start tested test state body last next) run.values.elsewhere n (n + length (beside (fsm start tested test state body last next) rest ending)) tt h.0)
+        (stages_fit (no_run run.values.elsewhere) (n + length (beside (fsm start tested test state body last next) rest ending) + length (inside (fsm start tested test state body last next))) rest ending c h.1) refl
+    stages_fit run n (more_stmt (stmt place (branch test first second)) rest) ending c h =
+        stage_fits run n place (branch test first second) rest ending c (node mems counters run.values.elsewhere n (n + length (beside (branch test first second) rest ending)) (branch test first second))
         (stages mems counters (no_run run.values.elsewhere) (n + length (beside (branch test first second) rest ending) + length (inside (branch test first second))) rest ending c)
-        (node_fits (branch test first second) run.values.elsewhere n (n + length (beside (branch test first second) rest ending)) tt)
-        (stages_fit (no_run run.values.elsewhere) (n + length (beside (branch test first second) rest ending) + length (inside (branch test first second))) rest ending c) refl
+        (node_fits (branch test first second) run.values.elsewhere n (n + length (beside (branch test first second) rest ending)) tt h.0)
+        (stages_fit (no_run run.values.elsewhere) (n + length (beside (branch test first second) rest ending) + length (inside (branch test first second))) rest ending c h.1) refl
 
-    node_fits : (kind : PlainStmtKind) (sources : Sources) (b n : ℕ) → IsStageKind kind → node_size (node mems counters sources b n kind) + 3 * sum_by (λ (t : Tally). t.nodes) (outside kind) + 2 ≤ 64 * weight kind
-    node_fits (load_sram sram dram spans) sources b n t = omega (arith, load_size sources b sram dram spans, part_nodes spans, alone_nodes (slice_tally spans))
-    node_fits (load_line line dram spans) sources b n t = omega (arith, load_size sources b line dram spans, part_nodes spans, alone_nodes (slice_tally spans))
-    node_fits (store dram spans sram) sources b n t = omega (arith, store_size sources b dram sram spans, part_nodes spans, alone_nodes (slice_tally spans))
-    node_fits (gather sram dram places e) sources b n t = omega (arith, from_size mems sources is_early b e, alone_nodes (tally e))
-    node_fits (scatter dram places e sram) sources b n t = omega (arith, from_size mems sources is_early b e, alone_nodes (tally e))
-    node_fits (block style body) sources b n t = omega (arith, body_size sources n [] (style_of mems counters style body) body no_more nothing (stages mems counters (no_run sources) n body no_more nothing) (stages_fit (no_run sources) n body no_more nothing))
-    node_fits (foreach style loops body) sources b n t = omega (arith, loops_size mems sources b loops, bound_nodes loops, body_size sources n (counters_of mems sources b loops) style body no_more nothing (stages mems counters (no_run sources) n body no_more nothing) (stages_fit (no_run sources) n body no_more nothing))
-    node_fits (reduce style fold acc loops body e comb) sources b n t =
+    node_fits : (kind : PlainStmtKind) (sources : Sources) (b n : ℕ) → IsStageKind kind → IsLooped kind → node_size (node mems counters sources b n kind) + 3 * sum_by (λ (t : Tally). t.nodes) (outside kind) + 2 ≤ 24 * weight kind
+    node_fits (load_sram sram dram spans) sources b n t h = omega (arith, load_size sources b sram dram spans, part_nodes spans, alone_nodes (slice_tally spans))
+    node_fits (load_line line dram spans) sources b n t h = omega (arith, load_size sources b line dram spans, part_nodes spans, alone_nodes (slice_tally spans))
+    node_fits (store dram spans sram) sources b n t h = omega (arith, store_size sources b dram sram spans, part_nodes spans, alone_nodes (slice_tally spans))
+    node_fits (gather sram dram places e) sources b n t h = omega (arith, from_size mems sources is_early b e, alone_nodes (tally e))
+    node_fits (scatter dram places e sram) sources b n t h = omega (arith, from_size mems sources is_early b e, alone_nodes (tally e))
+    node_fits (block style body) sources b n t h = omega (arith, body_size sources n [] (style_of mems counters style body) body no_more nothing (stages mems counters (no_run sources) n body no_more nothing) (stages_fit (no_run sources) n body no_more nothing h))
+    node_fits (foreach style loops body) sources b n t h = omega (arith, loops_size mems sources b loops, bound_nodes loops, body_size sources n (counters_of mems sources b loops) style body no_more nothing (stages mems counters (no_run sources) n body no_more nothing) (stages_fit (no_run sources) n body no_more nothing h))
+    node_fits (reduce style fold acc loops body e comb) sources b n t h =
         let c : Combines = combines mems fold acc (b + length (registers_for is_early (bounds_of loops))) comb e in
-        omega (arith, loops_size mems sources b loops, bound_nodes loops, ending_size loops e, combines_nodes fold acc (b + length (registers_for is_early (bounds_of loops))) comb e, body_size sources n (counters_of mems sources b loops) style body (ending_of loops e) c (stages mems counters (no_run sources) n body (ending_of loops e) c) (stages_fit (no_run sources) n body (ending_of loops e) c))
-    node_fits (mem_reduce style acc loops body part comb) sources b n t =
+        omega (arith, loops_size mems sources b loops, bound_nodes loops, ending_size loops e, combines_nodes fold acc (b + length (registers_for is_early (bounds_of loops))) comb e, combines_end fold acc (b + length (registers_for is_early (bounds_of loops))) comb e, body_size sources n (counters_of mems sources b loops) style body (ending_of loops e) c (stages mems counters (no_run sources) n body (ending_of loops e) c) (stages_fit (no_run sources) n body (ending_of loops e) c h))
+    node_fits (mem_reduce style acc loops body part comb) sources b n t h =
         let c : Combines = reduces_elements part (mem_number mems acc) (b + length (registers_for is_early (bounds_of loops))) comb in
-        omega (arith, loops_size mems sources b loops, bound_nodes loops, outer_size n (counters_of mems sources b loops) style body no_more (stages mems counters (no_run sources) n body no_more c) (stages_fit (no_run sources) n body no_more c))
-    node_fits (fsm start tested test state body last next) sources b n t =
+        omega (arith, loops_size mems sources b loops, bound_nodes loops, outer_size n (counters_of mems sources b loops) style body no_more c (stages mems counters (no_run sources) n body no_more c) (stages_fit (no_run sources) n body no_more c h.1), some_bounds loops h.0)
+    node_fits (fsm start tested test state body last next) sources b n t h =
         let kept : Sources = with_state sources tested state last n in
-        omega (arith, code_size mems sources start 0, code_size mems kept test 0, code_size mems kept next 0, body_size kept (suc n) [] Pipe body no_more nothing (stages mems counters (no_run kept) (suc n) body no_more nothing) (stages_fit (no_run kept) (suc n) body no_more nothing))
-    node_fits (branch test first second) sources b n t =
+        omega (arith, code_size mems sources start 0, code_size mems kept test 0, code_size mems kept next 0, body_size kept (suc n) [] Pipe body no_more nothing (stages mems counters (no_run kept) (suc n) body no_more nothing) (stages_fit (no_run kept) (suc n) body no_more nothing h))
+    node_fits (branch test first second) sources b n t h =
         let m : ℕ = n + length (registers_in first no_more) in
-        omega (arith, code_size mems sources test 0, some_nodes test, body_size sources n [] Pipe first no_more nothing (stages mems counters (no_run sources) n first no_more nothing) (stages_fit (no_run sources) n first no_more nothing), body_size sources m [] Pipe second no_more nothing (stages mems counters (no_run sources) m second no_more nothing) (stages_fit (no_run sources) m second no_more nothing))
-    node_fits _ sources b n t = absurd t
-
--- the registers that are added
-if_count : (b : Bool) (xs ys : List core.PlainMem) (k : ℕ) → length xs ≤ k → length ys ≤ k → length (if b then xs else ys) ≤ k
-if_count true xs ys k e f = e
-if_count false xs ys k e f = f
-
-early_count : (crosses : PlainExpr → Bool) (es : List PlainExpr) → length (registers_for crosses es) ≤ all_nodes es
-early_count crosses [] = omega arith
-early_count crosses (e ∷ es) =
-    let first : List core.PlainMem = if crosses e then crossing_register int_type ∷ [] else [] in
-    let f : length first ≤ 1 = if_count (crosses e) (crossing_register int_type ∷ []) [] 1 (omega arith) (omega arith) in
-    omega (arith, f, some_nodes e, early_count crosses es, length-append first (registers_for crosses es))
-
-beside_count : (kind : PlainStmtKind) (rest : PlainStmts) (ending : Ending) → length (beside kind rest ending) ≤ 1 + sum_by (λ (t : Tally). t.nodes) (outside kind)
-beside_count (name v e) rest ending = if_count (is_bare e) [] _ _ (omega arith) (if_count (does_cross v rest ending) (crossing_register (type_of e) ∷ []) [] _ (omega arith) (omega arith))
-beside_count (reduce style fold acc loops body e comb) rest ending =
-    let last : List core.PlainMem = if fold then [] else begun_register ∷ [] in
-    let f : length last ≤ 1 = if_count fold [] (begun_register ∷ []) 1 (omega arith) (omega arith) in
-    omega (arith, f, early_count is_early (bounds_of loops), bound_nodes loops, length-append (registers_for is_early (bounds_of loops)) last)
-beside_count (mem_reduce style acc loops body part comb) rest ending = omega (arith, early_count is_early (bounds_of loops), bound_nodes loops, length-append (registers_for is_early (bounds_of loops)) (begun_register ∷ []))
-beside_count (load_sram sram dram spans) rest ending = omega (arith, early_count (is_early_part spans) (parts_of spans), part_nodes spans, alone_nodes (slice_tally spans))
-beside_count (load_line line dram spans) rest ending = omega (arith, early_count (is_early_part spans) (parts_of spans), part_nodes spans, alone_nodes (slice_tally spans))
-beside_count (store dram spans sram) rest ending = omega (arith, early_count (is_early_part spans) (parts_of spans), part_nodes spans, alone_nodes (slice_tally spans))
-beside_count (gather sram dram places n) rest ending = omega (arith, early_count is_early (n ∷ []), alone_nodes (tally n))
-beside_count (scatter dram places n sram) rest ending = omega (arith, early_count is_early (n ∷ []), alone_nodes (tally n))
-beside_count (foreach style loops body) rest ending = omega (arith, early_count is_early (bounds_of loops), bound_nodes loops)
-beside_count (declare m) rest ending = omega arith
-beside_count (set_reg m e) rest ending = omega arith
-beside_count (set_out m e) rest ending = omega arith
-beside_count (set_sram m is e) rest ending = omega arith
-beside_count (enq m e) rest ending = omega arith
-beside_count (block style body) rest ending = omega arith
-beside_count (fsm start tested test state body last next) rest ending = omega arith
-beside_count (branch test first second) rest ending = omega arith
-
-end_count : (ending : Ending) → length (at_end ending) ≤ 1
-end_count no_more = omega arith
-end_count (in_last_run e) = omega arith
-end_count (in_combination e) = omega arith
-
-in_count : (body : PlainStmts) (all : List core.PlainMem) (k : ℕ) → length all ≤ k → length (if is_inner body then [] else all) ≤ k
-in_count body all k h = if_count (is_inner body) [] all k (omega arith) h
-
-mutual
-  unfolding registers inside
-
-  registers_count : (body : PlainStmts) (ending : Ending) → length (registers body ending) ≤ 4 * nodes_in body + 1
-  registers_count no_stmt ending = omega (arith, end_count ending)
-  registers_count (more_stmt (stmt place kind) rest) ending =
-      omega (arith, beside_count kind rest ending, inside_count kind, registers_count rest ending, length-append (beside kind rest ending) (inside kind), length-append (beside kind rest ending ++ inside kind) (registers rest ending))
-
-  inside_count : (kind : PlainStmtKind) → length (inside kind) ≤ 4 * kind_nodes kind + 2
-  inside_count (block style body) = omega (arith, in_count body (registers body no_more) (4 * nodes_in body + 1) (registers_count body no_more))
-  inside_count (foreach style counters body) = omega (arith, in_count body (registers body no_more) (4 * nodes_in body + 1) (registers_count body no_more))
-  inside_count (reduce style fold acc counters body e comb) = omega (arith, in_count body (registers body (ending_of counters e)) (4 * nodes_in body + 1) (registers_count body (ending_of counters e)))
-  inside_count (mem_reduce style acc counters body part comb) = omega (arith, registers_count body no_more)
-  inside_count (fsm start tested test state body last next) = omega (arith, in_count body (registers body no_more) (4 * nodes_in body + 1) (registers_count body no_more))
-  inside_count (branch test first second) =
-      omega (
-        arith,
-        in_count first (registers first no_more) (4 * nodes_in first + 1) (registers_count first no_more),
-        in_count second (registers second no_more) (4 * nodes_in second + 1) (registers_count second no_more),
-        length-append (registers_in first no_more) (registers_in second no_more),
-      )
-  inside_count _ = omega arith
-
-pub registers_in_count : (body : PlainStmts) (ending : Ending) → length (registers_in body ending) ≤ 4 * nodes_in body + 1
-registers_in_count body ending = in_count body (registers body ending) (4 * nodes_in body + 1) (registers_count body ending)
+        omega (arith, code_size mems sources test 0, some_nodes test, body_size sources n [] Pipe first no_more nothing (stages mems counters (no_run sources) n first no_more nothing) (stages_fit (no_run sources) n first no_more nothing h.0), body_size sources m [] Pipe second no_more nothing (stages mems counters (no_run sources) m second no_more nothing) (stages_fit (no_run sources) m second no_more nothing h.1))
+    node_fits _ sources b n t h = absurd t

@@ -1,5 +1,5 @@
 -- The core of a program is small enough.
-use Rattle.std.proofs.Common.{◌≡◌, ℕ, zero, suc, ◌+◌, ◌^◌, ◌≤◌, Bool, true, false, cond, List, [], ◌∷◌, ◌++◌, refl, sym, ◌∙◌, ap, subst, arith, length-append, nat_lt, if◌then◌else◌}
+use Rattle.std.proofs.Common.{◌≡◌, ℕ, zero, suc, ◌+◌, ◌*◌, ◌^◌, ◌≤◌, Bool, true, false, cond, List, [], ◌∷◌, ◌++◌, refl, sym, ◌∙◌, ap, subst, arith, length-append, nat_lt, if◌then◌else◌}
 use Rattle.std.proofs.lemmas.Bool.{lt-ltb, ltb-true, ltb-false}
 use Rattle.std.proofs.lemmas.List.Sums.{sum_by-cons}
 use Rattle.std.specs.Prelude.{length, map, filter, count_by, slice_index_or, IsTrue}
@@ -11,13 +11,15 @@ use Rattle.sp_tree.specs.Counts.{is_port, nodes_in, kind_nodes, node_count}
 use Rattle.sp_tree.specs.Declarations.{HasRank}
 use Rattle.sp_tree.specs.Elements.{numbers_below}
 use Rattle.sp_tree.specs.Expressions.{mem, dims}
-use Rattle.sp_tree.specs.Invariant.{IsProgram, port_of}
+use Rattle.sp_tree.specs.Invariant.{IsProgram, port_of, outer_scope}
 use Rattle.sp_tree.specs.Meaning.{numbers_of, is_dram}
 use Rattle.sp_tree.specs.PlainProgram.{PlainMem, PlainProgram, no_mem}
-use Rattle.sp_tree.specs.PlainStatement.{PlainStmtKind, PlainStmts, stmt, block, foreach, reduce, mem_reduce, fsm, branch, no_stmt, more_stmt}
+use Rattle.sp_tree.specs.PlainExpression.{type_of}
+use Rattle.sp_tree.specs.PlainStatement.{PlainStmtKind, PlainStmts, stmt, declare, name, set_reg, set_out, set_sram, enq, load_sram, load_line, store, gather, scatter, block, foreach, reduce, mem_reduce, fsm, branch, no_stmt, more_stmt}
 use Rattle.sp_tree.specs.Structure.{mems_declared, mems_in}
+use Rattle.sp_tree.specs.Typing.{Scope, BodyTyped, StmtTyped, after, with_counters, with_val}
 use Rattle.sp_core.specs.Invariant.{is_small}
-use Rattle.sp_core.specs.Numbering.{core_size}
+use Rattle.sp_core.specs.Numbering.{node_count as core_nodes, operation_count, core_size}
 use Rattle.sp_sugar.specs.Core.{core_of}
 use Rattle.sp_sugar.specs.Numbers.{is_off_dram, written_mems}
 use Rattle.sp_sugar.specs.Registers.{registers_in}
@@ -26,7 +28,8 @@ use Rattle.sp_sugar.specs.Stages.{nothing, stages}
 use Rattle.sp_sugar.specs.Uses.{no_more}
 use Rattle.sp_sugar.specs.Values.{no_sources}
 use Rattle.sp_sugar.proofs.NumberLemmas.{either, written_kept, written_skipped}
-use Rattle.sp_sugar.proofs.Sizes.{body_size, stages_fit, registers_in_count}
+use Rattle.sp_sugar.proofs.RegisterCounts.{registers_in_count}
+use Rattle.sp_sugar.proofs.Sizes.{Looped, IsLooped, body_size, stages_fit}
 
 written_le : (l : List PlainMem) → length (written_mems l) ≤ length l
 written_le [] = omega arith
@@ -83,28 +86,61 @@ past_end [] m le = refl
 past_end (x ∷ l) zero le = absurd (omega arith)
 past_end (x ∷ l) (suc m) le = past_end l m (omega arith)
 
-pub core_is_small : (p : PlainProgram) → IsProgram p → IsTrue (is_small (core_of p))
+-- a typed body has a counter in each loop
+module _ (p : PlainProgram) where
+  mutual
+    body_looped : (scope : Scope) (body : PlainStmts) → BodyTyped p scope body → Looped body
+    body_looped scope no_stmt h = tt
+    body_looped scope (more_stmt (stmt place kind) rest) h = (kind_looped scope kind h.0, body_looped (after scope kind) rest h.1)
+
+    kind_looped : (scope : Scope) (kind : PlainStmtKind) → StmtTyped p scope kind → IsLooped kind
+    kind_looped scope (block style body) h = body_looped scope body h
+    kind_looped scope (foreach style loops body) h = body_looped (with_counters scope loops) body h.2
+    kind_looped scope (reduce style fold acc loops body e comb) h = body_looped (with_counters scope loops) body h.2
+    kind_looped scope (mem_reduce style acc loops body part comb) h = (h.1.one_to_four.0, body_looped (with_counters scope loops) body h.2)
+    kind_looped scope (fsm start tested test state body last next) h = body_looped (with_val scope state (type_of start)) body h.4
+    kind_looped scope (branch test first second) h = (body_looped scope first h.1, body_looped scope second h.2)
+    kind_looped scope (declare m) h = tt
+    kind_looped scope (name v e) h = tt
+    kind_looped scope (set_reg m e) h = tt
+    kind_looped scope (set_out m e) h = tt
+    kind_looped scope (set_sram m is e) h = tt
+    kind_looped scope (enq m e) h = tt
+    kind_looped scope (load_sram sram dram spans) h = tt
+    kind_looped scope (load_line line dram spans) h = tt
+    kind_looped scope (store dram spans sram) h = tt
+    kind_looped scope (gather sram dram places e) h = tt
+    kind_looped scope (scatter dram places e sram) h = tt
+
+-- nodes and operations of the core, and its memories, by the nodes of the program
+pub core_tree_size : (p : PlainProgram) → IsProgram p → core_nodes (core_of p).root + operation_count (core_of p).root ≤ 24 * node_count p + 12
 unfolding core_of
-core_is_small p h =
+core_tree_size p h =
     let first : ℕ = length (written_mems p.mems) in
     let few : (m : ℕ) → length (dims p.mems m) ≤ 3 = λ m. either (nat_lt m (length p.mems))
     (λ e. rank_le (mem p.mems m).kind (length (mem p.mems m).dims) (h.declarations m no_mem (ltb-true m (length p.mems) e)).rank)
     (λ e. let f : length (mem p.mems m).dims ≡ 0 = ap (λ (x : PlainMem). length x.dims) (past_end p.mems m (ltb-false m (length p.mems) e)) in omega (arith, f)) in
+    omega (
+      arith,
+      body_size p.mems few (length p.counters) no_sources first [] Pipe p.body no_more nothing (stages p.mems (length p.counters) (no_run no_sources) first p.body no_more nothing)
+          (stages_fit p.mems few (length p.counters) (no_run no_sources) first p.body no_more nothing (body_looped p (outer_scope p) p.body h.typed)),
+    )
+
+pub core_mems_count : (p : PlainProgram) → IsProgram p → length (core_of p).mems ≤ 5 * node_count p + 1
+unfolding core_of
+core_mems_count p h =
     let mems_le : length p.mems ≤ node_count p =
     let f : length (numbers_of is_port 0 p.mems ++ mems_declared p.body) ≡ length p.mems = ap length h.mem_numbers ∙ below_length (length p.mems) in
     omega (arith, f, length-append (numbers_of is_port 0 p.mems) (mems_declared p.body), ports_length is_port 0 p.mems, declared_le p.body) in
+    omega (arith, mems_le, length-append (written_mems p.mems) (registers_in p.body no_more), written_le p.mems, registers_in_count p.body no_more)
+
+pub core_drams_count : (p : PlainProgram) → IsProgram p → length (core_of p).ports.drams ≤ node_count p
+unfolding core_of
+core_drams_count p h =
+    let f : length (numbers_of is_port 0 p.mems ++ mems_declared p.body) ≡ length p.mems = ap length h.mem_numbers ∙ below_length (length p.mems) in
     let drams_le : length p.ports.drams ≤ length p.mems = subst (λ (x : PlainPorts). length x.drams ≤ length p.mems) (sym h.ports) (ports_le (λ (m : PlainMem). is_dram m.kind) p.mems) in
-    let most : node_count p ≤ 20000 = h.limits.nodes in
-    let all_le : length (written_mems p.mems ++ registers_in p.body no_more) ≡ length (written_mems p.mems) + length (registers_in p.body no_more) = length-append (written_mems p.mems) (registers_in p.body no_more) in
-    lt-ltb (core_size (core_of p)) (2 ^ 29)
-    (omega (
-      arith,
-      mems_le,
-      drams_le,
-      most,
-      all_le,
-      written_le p.mems,
-      registers_in_count p.body no_more,
-      body_size p.mems few (length p.counters) no_sources first [] Pipe p.body no_more nothing (stages p.mems (length p.counters) (no_run no_sources) first p.body no_more nothing)
-          (stages_fit p.mems few (length p.counters) (no_run no_sources) first p.body no_more nothing),
-    ))
+    omega (arith, f, drams_le, length-append (numbers_of is_port 0 p.mems) (mems_declared p.body), ports_length is_port 0 p.mems, declared_le p.body)
+
+pub core_is_small : (p : PlainProgram) → IsProgram p → IsTrue (is_small (core_of p))
+core_is_small p h =
+    lt-ltb (core_size (core_of p)) (2 ^ 29) (omega (arith, core_tree_size p h, core_mems_count p h, core_drams_count p h, h.limits.nodes))

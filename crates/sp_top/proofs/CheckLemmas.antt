@@ -1,15 +1,15 @@
 -- The text of a program under a sure name isn't refused by `check` or `format`.
-use Rattle.std.proofs.Common.{◌≡◌, ◌≢◌, ◌⊎◌, inl, inr, ◌≤◌, ℕ, List, length, subst}
+use Rattle.std.proofs.Common.{◌≡◌, ◌⊎◌, inl, inr, ◌≤◌, ℕ, List, length, subst}
 use Rattle.sp_edges.specs.Standing.{Standing, Holds}
 use Rattle.sp_edges.specs.Calls.{Call}
 use Rattle.sp_tree.specs.PlainProgram.{PlainProgram}
 use Rattle.sp_source.specs.declared.error.SourceError.{SourceError}
 use Rattle.sp_source.specs.declared.error.SourceError.TheVariants as source
 use Rattle.sp_source.specs.Texts.{Spells, IsCauseOf}
-use Rattle.sp_top.specs.Status.{PlainStatus, done, words, setup_refused, read_fault, write_fault, memory, listing_refused, conflict, cycles_spent, too_long, unbuilt, source_refused}
+use Rattle.sp_top.specs.Status.{PlainStatus, done, words, setup_refused, read_fault, write_fault, memory, listing_refused, conflict, cycles_spent, stopped_at, turns_spent, too_long, unbuilt, source_refused}
 use Rattle.sp_top.specs.Check.{CheckRefuses}
 use Rattle.sp_top.specs.Compile.{longest_program}
-use Rattle.sp_top.specs.Commands.{Command, check, format, compile, verilog, simulate, waves, IsCommand, MayRefuse, MayEnd, Refuses, NotRefused}
+use Rattle.sp_top.specs.Commands.{Command, check, format, compile, verilog, seq, simulate, waves, IsCommand, MayRefuse, MayEnd, Refuses, NotRefused}
 use Rattle.sp_top.specs.Record.{SinkChange, Records}
 use Rattle.sp_top.proofs.CompleteLemmas.{ends_well, not_check, not_check_verilog, not_format, not_format_check, not_format_verilog, past, same_bytes}
 
@@ -44,13 +44,15 @@ only_check said told failed asked program status (compile other) (inl is) also r
 only_check said told failed asked program status (compile other) (inr is) also refuses = absurd (not_format said program other is also)
 only_check said told failed asked program status (verilog other) (inl is) also refuses = absurd (not_check_verilog said program other is also)
 only_check said told failed asked program status (verilog other) (inr is) also refuses = absurd (not_format_verilog said program other is also)
+only_check said told failed asked program status (seq name setup) (inl is) also refuses = let a = is.0 in let b = also.0 in absurd (cc)
+only_check said told failed asked program status (seq name setup) (inr is) also refuses = let a = is.0 in let b = also.0 in absurd (cc)
 only_check said told failed asked program status (simulate listing setup) (inl is) also refuses = let a = is.0 in let b = also.0 in absurd (cc)
 only_check said told failed asked program status (simulate listing setup) (inr is) also refuses = let a = is.0 in let b = also.0 in absurd (cc)
 only_check said told failed asked program status (waves listing setup) (inl is) also refuses = let a = is.0 in let b = also.0 in absurd (cc)
 only_check said told failed asked program status (waves listing setup) (inr is) also refuses = let a = is.0 in let b = also.0 in absurd (cc)
 
 module _ (laws : AreNotRefused) (told : List ℕ → Standing) (failed : List ℕ → Type 0) (asked : List Call → Type 0) (program bytes : List ℕ) (plain : PlainProgram) where
-  checks : (status : PlainStatus) → (failed program → ⊥) → told program ≡ Holds bytes → length bytes ≤ longest_program → Spells bytes plain
+  pub checks : (status : PlainStatus) → (failed program → ⊥) → told program ≡ Holds bytes → length bytes ≤ longest_program → Spells bytes plain
       → CheckRefuses told failed asked program status → NotRefused status
   checks done read holds small spells refuses = tt
   checks words read holds small spells refuses = absurd refuses
@@ -61,6 +63,8 @@ module _ (laws : AreNotRefused) (told : List ℕ → Standing) (failed : List �
   checks (listing_refused error) read holds small spells refuses = absurd refuses
   checks (conflict cycle bank port) read holds small spells refuses = absurd refuses
   checks (cycles_spent cycles) read holds small spells refuses = absurd refuses
+  checks (stopped_at kind at) read holds small spells refuses = absurd refuses
+  checks (turns_spent turns) read holds small spells refuses = absurd refuses
   checks (too_long name) read holds small spells refuses = absurd (past longest_program (told program) bytes holds small refuses.2)
   checks (unbuilt line) read holds small spells refuses = absurd refuses
   checks (source_refused error) read holds small spells refuses =

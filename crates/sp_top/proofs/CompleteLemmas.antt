@@ -3,11 +3,11 @@ use Rattle.std.proofs.Common.{◌≡◌, ◌⊎◌, inl, inr, ap, sym, ◌∙◌
 use Rattle.std.proofs.lemmas.List.{length-take}
 use Rattle.sp_edges.specs.Standing.{Standing, Holds, IsAllOf, BeginsWith}
 use Rattle.sp_top.specs.Form.{Line, IsStraight, BreaksAt}
-use Rattle.sp_top.specs.Status.{PlainStatus, done, words, setup_refused, read_fault, write_fault, memory, listing_refused, conflict, cycles_spent, too_long, unbuilt, source_refused}
+use Rattle.sp_top.specs.Status.{PlainStatus, done, words, setup_refused, read_fault, write_fault, memory, listing_refused, conflict, cycles_spent, stopped_at, turns_spent, too_long, unbuilt, source_refused}
 use Rattle.sp_edges.specs.Calls.{Call}
 use Rattle.sp_top.specs.Reads.{IsPastText}
 use Rattle.sp_top.specs.Compile.{longest_program, CompileRefuses}
-use Rattle.sp_top.specs.Commands.{Command, check, format, compile, verilog, simulate, waves, IsCommand, MayRefuse, Refuses, MayEnd, NotRefused}
+use Rattle.sp_top.specs.Commands.{Command, check, format, compile, verilog, seq, simulate, waves, IsCommand, MayRefuse, Refuses, MayEnd, NotRefused}
 use Rattle.sp_top.specs.Record.{SinkChange, Records}
 use Rattle.sp_top.proofs.LawLemmas.{breaks_or_reads}
 
@@ -87,6 +87,8 @@ only_compile said told failed asked program status (compile other) (inr is) also
 only_compile said told failed asked program status (verilog other) (inl is) also refuses = absurd (not_both said program other is also)
 only_compile said told failed asked program status (verilog other) (inr is) also refuses =
     let P : List ℕ → Type 0 = λ p. CompileRefuses told failed asked p status in subst P (one_verilog said other program also is) refuses
+only_compile said told failed asked program status (seq name setup) (inl is) also refuses = let a = is.0 in let b = also.0 in absurd (cc)
+only_compile said told failed asked program status (seq name setup) (inr is) also refuses = let a = is.0 in let b = also.0 in absurd (cc)
 only_compile said told failed asked program status (simulate listing setup) (inl is) also refuses = let a = is.0 in let b = also.0 in absurd (cc)
 only_compile said told failed asked program status (simulate listing setup) (inr is) also refuses = let a = is.0 in let b = also.0 in absurd (cc)
 only_compile said told failed asked program status (waves listing setup) (inl is) also refuses = let a = is.0 in let b = also.0 in absurd (cc)
@@ -105,6 +107,8 @@ ends_well said told failed asked is fine out aside read_fault records = fine rea
 ends_well said told failed asked is fine out aside (listing_refused error) records = fine (listing_refused error) records.2.0
 ends_well said told failed asked is fine out aside (conflict cycle bank port) records = fine (conflict cycle bank port) records.2.0
 ends_well said told failed asked is fine out aside (cycles_spent cycles) records = fine (cycles_spent cycles) records.2.0
+ends_well said told failed asked is fine out aside (stopped_at kind at) records = fine (stopped_at kind at) records.2.0
+ends_well said told failed asked is fine out aside (turns_spent turns) records = fine (turns_spent turns) records.2.0
 ends_well said told failed asked is fine out aside (too_long name) records = fine (too_long name) records.2.0
 ends_well said told failed asked is fine out aside (source_refused error) records = fine (source_refused error) records.2.0
 ends_well said told failed asked is fine out aside (unbuilt line) records = fine (unbuilt line) records.2.0
@@ -122,6 +126,8 @@ module _ (told : List ℕ → Standing) (failed : List ℕ → Type 0) (asked : 
   compiles (listing_refused error) read holds small straight refuses = absurd refuses
   compiles (conflict cycle bank port) read holds small straight refuses = absurd refuses
   compiles (cycles_spent cycles) read holds small straight refuses = absurd refuses
+  compiles (stopped_at kind at) read holds small straight refuses = absurd refuses
+  compiles (turns_spent turns) read holds small straight refuses = absurd refuses
   compiles (too_long name) read holds small straight refuses = absurd (past longest_program (told program) bytes holds small refuses.2)
   compiles (source_refused error) read holds small straight refuses = absurd refuses
   compiles (unbuilt line) read holds small straight refuses =

@@ -19,10 +19,10 @@ use Rattle.sp_setup.specs.declared.error.SetupEnd.TheVariants as setup
 use Rattle.sp_setup.specs.Setup.{PlainSetup, IsSetup, SetupEnds, files_named}
 use Rattle.sp_setup.specs.Laws.{AreTold, SetupEnds-wide, SetupEnds-read_fault}
 use Rattle.sp_words.specs.Ports.{PlainPorts}
-use Rattle.sp_top.specs.Status.{PlainStatus, done, words, setup_refused, read_fault, write_fault, memory, listing_refused, conflict, cycles_spent, too_long, unbuilt, source_refused}
+use Rattle.sp_top.specs.Status.{PlainStatus, done, words, setup_refused, read_fault, write_fault, memory, listing_refused, conflict, cycles_spent, stopped_at, turns_spent, too_long, unbuilt, source_refused}
 use Rattle.sp_top.specs.Reads.{ReadRefuses}
 use Rattle.sp_top.specs.Simulate.{longest_listing, longest_setup, setting_of, end_status, GivesNetlist, RefusesListing, ListingRefuses, SetupRefuses, RunEnds, DumpEnds, SimulateRefuses}
-use Rattle.sp_top.specs.Commands.{Command, check, format, compile, verilog, simulate, waves, IsCommand, MayRefuse, MayEnd, NotRefused}
+use Rattle.sp_top.specs.Commands.{Command, check, format, compile, verilog, seq, simulate, waves, IsCommand, MayRefuse, MayEnd, NotRefused}
 use Rattle.sp_top.specs.Complete.{IsRunnable, IsDoneInTime}
 use Rattle.sp_top.specs.Record.{SinkChange, Records}
 use Rattle.sp_top.proofs.CompleteLemmas.{past, same_bytes, ends_well}
@@ -41,11 +41,14 @@ pub record HasLaws : Type 0 where
       → IsSetup told ports bytes one → IsSetup told ports bytes other → one ≡ other
 
 -- the first letter of the first word
-abbrev first_letter : List (List ℕ) → ℕ
+abbrev pub first_letter : List (List ℕ) → ℕ
 first_letter said = slice_index (slice_index_or said 0 []) 0
 
+abbrev pub second_letter : List (List ℕ) → ℕ
+second_letter said = slice_index (slice_index_or said 0 []) 1
+
 -- a text under a sure name that isn't too long
-read_part : (standing : Standing) (failed : Type 0) (asked : List Call → Type 0) (most : ℕ) (name held : List ℕ) → (failed → ⊥) → standing ≡ Holds held → length held ≤ most
+pub read_part : (standing : Standing) (failed : Type 0) (asked : List Call → Type 0) (most : ℕ) (name held : List ℕ) → (failed → ⊥) → standing ≡ Holds held → length held ≤ most
     → (status : PlainStatus) → ReadRefuses standing failed asked most name status → NotRefused status
 read_part standing failed asked most name held fine told small done refuses = absurd refuses
 read_part standing failed asked most name held fine told small words refuses = absurd refuses
@@ -56,6 +59,8 @@ read_part standing failed asked most name held fine told small memory refuses = 
 read_part standing failed asked most name held fine told small (listing_refused error) refuses = absurd refuses
 read_part standing failed asked most name held fine told small (conflict cycle bank port) refuses = absurd refuses
 read_part standing failed asked most name held fine told small (cycles_spent cycles) refuses = absurd refuses
+read_part standing failed asked most name held fine told small (stopped_at kind at) refuses = absurd refuses
+read_part standing failed asked most name held fine told small (turns_spent turns) refuses = absurd refuses
 read_part standing failed asked most name held fine told small (too_long said) refuses = absurd (past most standing held told small refuses.2)
 read_part standing failed asked most name held fine told small (source_refused error) refuses = absurd refuses
 read_part standing failed asked most name held fine told small (unbuilt line) refuses = absurd refuses
@@ -102,6 +107,8 @@ module _ (laws : HasLaws) (told : List ℕ → Standing) (sure failed : List ℕ
   listing_part (listing_refused error) refuses = absurd (not_refused_listing error refuses.1)
   listing_part (conflict cycle bank port) refuses = absurd refuses
   listing_part (cycles_spent cycles) refuses = absurd refuses
+  listing_part (stopped_at kind at) refuses = absurd refuses
+  listing_part (turns_spent turns) refuses = absurd refuses
   listing_part (too_long said) refuses = read_listing (too_long said) refuses
   listing_part (source_refused error) refuses = absurd refuses
   listing_part (unbuilt line) refuses = absurd refuses
@@ -176,6 +183,8 @@ module _ (laws : HasLaws) (told : List ℕ → Standing) (sure failed : List ℕ
       let same = (laws.one_ending (setting_of cells plain) r.netlist.netlist plain.cycles).same_ending _ _ in_time.ends ends in absurd (cc)
   run_ends in_time (cycles_spent cycles) ends =
       let same = (laws.one_ending (setting_of cells plain) r.netlist.netlist plain.cycles).same_ending _ _ in_time.ends ends.1 in absurd (cc)
+  run_ends in_time (stopped_at kind at) ends = absurd ends
+  run_ends in_time (turns_spent turns) ends = absurd ends
   run_ends in_time (too_long name) ends = absurd ends
   run_ends in_time (source_refused error) ends = absurd ends
   run_ends in_time (unbuilt line) ends = absurd ends
@@ -190,6 +199,8 @@ module _ (laws : HasLaws) (told : List ℕ → Standing) (sure failed : List ℕ
   dump_ends (listing_refused error) ends = absurd ends
   dump_ends (conflict cycle bank port) ends = absurd ends
   dump_ends (cycles_spent cycles) ends = absurd ends
+  dump_ends (stopped_at kind at) ends = absurd ends
+  dump_ends (turns_spent turns) ends = absurd ends
   dump_ends (too_long name) ends = absurd ends
   dump_ends (source_refused error) ends = absurd ends
   dump_ends (unbuilt line) ends = absurd ends
@@ -203,6 +214,8 @@ module _ (laws : HasLaws) (told : List ℕ → Standing) (sure failed : List ℕ
   simulates_alone said status (format other) is also refuses = let a = is.0 in let b = also.0 in absurd (cc)
   simulates_alone said status (compile other) is also refuses = let a = is.0 in let b = also.0 in absurd (cc)
   simulates_alone said status (verilog other) is also refuses = let a = is.0 in let b = also.0 in absurd (cc)
+  simulates_alone said status (seq p s) is also refuses =
+      let letters : 105 ≡ 101 = sym (ap second_letter is.0) ∙ ap second_letter also.0 in absurd (omega (arith, letters))
   simulates_alone said status (simulate l s) is also refuses =
       let a = is.0 in
       let b = also.0 in
@@ -220,6 +233,8 @@ module _ (laws : HasLaws) (told : List ℕ → Standing) (sure failed : List ℕ
   dumps_alone said status (format other) is also refuses = let a = is.0 in let b = also.0 in absurd (cc)
   dumps_alone said status (compile other) is also refuses = let a = is.0 in let b = also.0 in absurd (cc)
   dumps_alone said status (verilog other) is also refuses = let a = is.0 in let b = also.0 in absurd (cc)
+  dumps_alone said status (seq p s) is also refuses =
+      let letters : 119 ≡ 115 = sym (ap first_letter is.0) ∙ ap first_letter also.0 in absurd (omega (arith, letters))
   dumps_alone said status (waves l s) is also refuses =
       let a = is.0 in
       let b = also.0 in

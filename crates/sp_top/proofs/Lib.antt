@@ -21,6 +21,8 @@ pub mod Ends
 pub mod CompleteLemmas
 pub mod CheckLemmas
 pub mod CompleteRuns
+pub mod CompleteSeq
 pub mod ResultLemmas
 pub mod SimulateLemmas
 pub mod RefusalLemmas
+pub mod SeqLemmas

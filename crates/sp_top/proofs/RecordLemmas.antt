@@ -5,7 +5,7 @@ use Rattle.std.proofs.lemmas.List.{append-nil}
 use Rattle.sp_edges.specs.Gained.{Gained}
 use Rattle.sp_top.specs.declared.status.SinkName.{SinkName}
 use Rattle.sp_top.specs.declared.status.SinkName.TheVariants.{Out, Aside}
-use Rattle.sp_top.specs.Status.{PlainStatus, done, words, setup_refused, read_fault, write_fault, memory, listing_refused, conflict, cycles_spent, too_long, unbuilt, source_refused, line_of, HasParts}
+use Rattle.sp_top.specs.Status.{PlainStatus, done, words, setup_refused, read_fault, write_fault, memory, listing_refused, conflict, cycles_spent, stopped_at, turns_spent, too_long, unbuilt, source_refused, line_of, HasParts}
 use Rattle.sp_top.specs.Record.{SinkChange, Took, TookLine, TookNothing, PutPart, Puts, Refuses, Delivers, Ends, Records}
 
 -- a sink that wasn't used gained nothing
@@ -24,6 +24,8 @@ delivered may (setup_refused refusal) out_text aside_text out aside ends took = 
 delivered may (listing_refused error) out_text aside_text out aside ends took = absurd took
 delivered may (conflict cycle bank port) out_text aside_text out aside ends took = absurd took
 delivered may (cycles_spent cycles) out_text aside_text out aside ends took = absurd took
+delivered may (stopped_at kind at) out_text aside_text out aside ends took = absurd took
+delivered may (turns_spent turns) out_text aside_text out aside ends took = absurd took
 delivered may read_fault out_text aside_text out aside ends took = absurd took
 delivered may memory out_text aside_text out aside ends took = absurd took
 delivered may (too_long name) out_text aside_text out aside ends took = absurd took
@@ -50,6 +52,8 @@ took_line may (setup_refused refusal) out aside none undone ends nothing took = 
 took_line may (listing_refused error) out aside none undone ends nothing took = (line_of (listing_refused error), [], ends, took, took_none aside nothing)
 took_line may (conflict cycle bank port) out aside none undone ends nothing took = (line_of (conflict cycle bank port), [], ends, took, took_none aside nothing)
 took_line may (cycles_spent cycles) out aside none undone ends nothing took = (line_of (cycles_spent cycles), [], ends, took, took_none aside nothing)
+took_line may (stopped_at kind at) out aside none undone ends nothing took = (line_of (stopped_at kind at), [], ends, took, took_none aside nothing)
+took_line may (turns_spent turns) out aside none undone ends nothing took = (line_of (turns_spent turns), [], ends, took, took_none aside nothing)
 took_line may read_fault out aside none undone ends nothing took = (line_of read_fault, [], ends, took, took_none aside nothing)
 took_line may (write_fault which) out aside none undone ends nothing took = absurd (none which _ _ ends)
 took_line may memory out aside none undone ends nothing took = (line_of memory, [], ends, took, took_none aside nothing)
@@ -64,6 +68,8 @@ put_line (setup_refused refusal) sink line undone put = put
 put_line (listing_refused error) sink line undone put = put
 put_line (conflict cycle bank port) sink line undone put = put
 put_line (cycles_spent cycles) sink line undone put = put
+put_line (stopped_at kind at) sink line undone put = put
+put_line (turns_spent turns) sink line undone put = put
 put_line read_fault sink line undone put = put
 put_line (write_fault which) sink line undone put = put
 put_line memory sink line undone put = put

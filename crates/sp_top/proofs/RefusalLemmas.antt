@@ -10,12 +10,14 @@ use Rattle.sp_setup.specs.Setup.{PlainSetup, SetupEnds}
 use Rattle.sp_setup.specs.Laws.{SetupEnds-refused, SetupEnds-too_long}
 use Rattle.sp_setup.specs.declared.error.SetupEnd.{SetupEnd}
 use Rattle.sp_setup.specs.declared.error.SetupEnd.TheVariants as setup
-use Rattle.sp_top.specs.Status.{PlainStatus, done, words, setup_refused, read_fault, write_fault, memory, listing_refused, conflict, cycles_spent, too_long, unbuilt, source_refused, line_of, HasParts}
+use Rattle.sp_top.specs.Status.{PlainStatus, done, words, setup_refused, read_fault, write_fault, memory, listing_refused, conflict, cycles_spent, stopped_at, turns_spent, too_long, unbuilt, source_refused, line_of, HasParts}
 use Rattle.sp_top.specs.Reads.{ReadRefuses}
 use Rattle.sp_top.specs.Check.{CheckRefuses}
 use Rattle.sp_top.specs.Compile.{CompileRefuses}
+use Rattle.sp_tree.specs.PlainProgram.{PlainProgram}
+use Rattle.sp_top.specs.Seq.{Stops}
 use Rattle.sp_top.specs.Simulate.{ListingRefuses, SetupRefuses, end_status, RunEnds, DumpEnds, longest_setup}
-use Rattle.sp_top.specs.Commands.{Command, check, format, compile, verilog, simulate, waves, MayRefuse, Refuses, MayEnd}
+use Rattle.sp_top.specs.Commands.{Command, check, format, compile, verilog, seq, simulate, waves, MayRefuse, Refuses, MayEnd}
 
 -- a status in which a command may refuse
 abbrev pub IsRefusal : PlainStatus → Type 0
@@ -28,6 +30,8 @@ IsRefusal memory = Unit {0}
 IsRefusal (listing_refused error) = Unit {0}
 IsRefusal (conflict cycle bank port) = Unit {0}
 IsRefusal (cycles_spent cycles) = Unit {0}
+IsRefusal (stopped_at kind at) = Unit {0}
+IsRefusal (turns_spent turns) = Unit {0}
 IsRefusal (too_long text) = Unit {0}
 IsRefusal (source_refused error) = Unit {0}
 IsRefusal (unbuilt line) = Unit {0}
@@ -48,6 +52,8 @@ read_refuses standing failed asked most name memory refuses = tt
 read_refuses standing failed asked most name (listing_refused error) refuses = tt
 read_refuses standing failed asked most name (conflict cycle bank port) refuses = tt
 read_refuses standing failed asked most name (cycles_spent cycles) refuses = tt
+read_refuses standing failed asked most name (stopped_at kind at) refuses = tt
+read_refuses standing failed asked most name (turns_spent turns) refuses = tt
 read_refuses standing failed asked most name (too_long text) refuses = tt
 read_refuses standing failed asked most name (source_refused error) refuses = tt
 read_refuses standing failed asked most name (unbuilt line) refuses = tt
@@ -62,11 +68,13 @@ compile_refuses told failed asked program memory refuses = tt
 compile_refuses told failed asked program (listing_refused error) refuses = tt
 compile_refuses told failed asked program (conflict cycle bank port) refuses = tt
 compile_refuses told failed asked program (cycles_spent cycles) refuses = tt
+compile_refuses told failed asked program (stopped_at kind at) refuses = tt
+compile_refuses told failed asked program (turns_spent turns) refuses = tt
 compile_refuses told failed asked program (too_long text) refuses = tt
 compile_refuses told failed asked program (source_refused error) refuses = tt
 compile_refuses told failed asked program (unbuilt line) refuses = tt
 
-check_refuses : (told : List ℕ → Standing) (failed : List ℕ → Type 0) (asked : List Call → Type 0) (program : List ℕ) (status : PlainStatus) → CheckRefuses told failed asked program status → IsRefusal status
+pub check_refuses : (told : List ℕ → Standing) (failed : List ℕ → Type 0) (asked : List Call → Type 0) (program : List ℕ) (status : PlainStatus) → CheckRefuses told failed asked program status → IsRefusal status
 check_refuses told failed asked program done refuses = absurd refuses
 check_refuses told failed asked program words refuses = absurd refuses
 check_refuses told failed asked program (setup_refused refusal) refuses = tt
@@ -76,6 +84,8 @@ check_refuses told failed asked program memory refuses = tt
 check_refuses told failed asked program (listing_refused error) refuses = tt
 check_refuses told failed asked program (conflict cycle bank port) refuses = tt
 check_refuses told failed asked program (cycles_spent cycles) refuses = tt
+check_refuses told failed asked program (stopped_at kind at) refuses = tt
+check_refuses told failed asked program (turns_spent turns) refuses = tt
 check_refuses told failed asked program (too_long text) refuses = tt
 check_refuses told failed asked program (source_refused error) refuses = tt
 check_refuses told failed asked program (unbuilt line) refuses = tt
@@ -90,11 +100,13 @@ listing_refuses standing failed asked name memory refuses = tt
 listing_refuses standing failed asked name (listing_refused error) refuses = tt
 listing_refuses standing failed asked name (conflict cycle bank port) refuses = tt
 listing_refuses standing failed asked name (cycles_spent cycles) refuses = tt
+listing_refuses standing failed asked name (stopped_at kind at) refuses = tt
+listing_refuses standing failed asked name (turns_spent turns) refuses = tt
 listing_refuses standing failed asked name (too_long text) refuses = tt
 listing_refuses standing failed asked name (source_refused error) refuses = tt
 listing_refuses standing failed asked name (unbuilt line) refuses = tt
 
-setup_refuses : (told : List ℕ → Standing) (failed : List ℕ → Type 0) (asked : List Call → Type 0) (ports : PlainPorts) (name : List ℕ) (status : PlainStatus) → SetupRefuses told failed asked ports name status → IsRefusal status
+pub setup_refuses : (told : List ℕ → Standing) (failed : List ℕ → Type 0) (asked : List Call → Type 0) (ports : PlainPorts) (name : List ℕ) (status : PlainStatus) → SetupRefuses told failed asked ports name status → IsRefusal status
 setup_refuses told failed asked ports name status (inl refuses) = read_refuses (told name) (failed name) asked longest_setup name status refuses
 setup_refuses told failed asked ports name status (inr stops) = subst IsRefusal stops.is (end_refuses stops.end)
 
@@ -108,9 +120,27 @@ run_refuses cells plain memory refuses = tt
 run_refuses cells plain (listing_refused error) refuses = tt
 run_refuses cells plain (conflict cycle bank port) refuses = tt
 run_refuses cells plain (cycles_spent cycles) refuses = tt
+run_refuses cells plain (stopped_at kind at) refuses = tt
+run_refuses cells plain (turns_spent turns) refuses = tt
 run_refuses cells plain (too_long text) refuses = tt
 run_refuses cells plain (source_refused error) refuses = tt
 run_refuses cells plain (unbuilt line) refuses = tt
+
+stop_refuses : (program : PlainProgram) (plain : PlainSetup) (status : PlainStatus) → Stops program plain status → IsRefusal status
+stop_refuses program plain done refuses = absurd refuses
+stop_refuses program plain words refuses = absurd refuses
+stop_refuses program plain (setup_refused refusal) refuses = tt
+stop_refuses program plain read_fault refuses = tt
+stop_refuses program plain (write_fault which) refuses = absurd refuses
+stop_refuses program plain memory refuses = tt
+stop_refuses program plain (listing_refused error) refuses = tt
+stop_refuses program plain (conflict cycle bank port) refuses = tt
+stop_refuses program plain (cycles_spent cycles) refuses = tt
+stop_refuses program plain (stopped_at kind at) refuses = tt
+stop_refuses program plain (turns_spent turns) refuses = tt
+stop_refuses program plain (too_long text) refuses = tt
+stop_refuses program plain (source_refused error) refuses = tt
+stop_refuses program plain (unbuilt line) refuses = tt
 
 dump_refuses : (cells : List PlainCell) (plain : PlainSetup) (status : PlainStatus) → DumpEnds cells plain status → IsRefusal status
 dump_refuses cells plain done refuses = absurd refuses
@@ -122,6 +152,8 @@ dump_refuses cells plain memory refuses = tt
 dump_refuses cells plain (listing_refused error) refuses = tt
 dump_refuses cells plain (conflict cycle bank port) refuses = tt
 dump_refuses cells plain (cycles_spent cycles) refuses = tt
+dump_refuses cells plain (stopped_at kind at) refuses = tt
+dump_refuses cells plain (turns_spent turns) refuses = tt
 dump_refuses cells plain (too_long text) refuses = tt
 dump_refuses cells plain (source_refused error) refuses = tt
 dump_refuses cells plain (unbuilt line) refuses = tt
@@ -135,6 +167,10 @@ may_refuse told failed asked (simulate listing setup) status (inl refuses) = lis
 may_refuse told failed asked (simulate listing setup) status (inr (inl refuses)) =
     setup_refuses told failed (λ calls. asked (given listing ∷ calls)) _ setup status refuses.refuses
 may_refuse told failed asked (simulate listing setup) status (inr (inr refuses)) = run_refuses refuses.cells refuses.plain status refuses.ends
+may_refuse told failed asked (seq program setup) status (inl refuses) = check_refuses told failed asked program status refuses
+may_refuse told failed asked (seq program setup) status (inr (inl refuses)) =
+    setup_refuses told failed (λ calls. asked (given program ∷ calls)) _ setup status refuses.refuses
+may_refuse told failed asked (seq program setup) status (inr (inr refuses)) = stop_refuses refuses.program refuses.plain status refuses.stops
 may_refuse told failed asked (waves listing setup) status (inl refuses) = listing_refuses (told listing) (failed listing) asked listing status refuses
 may_refuse told failed asked (waves listing setup) status (inr (inl refuses)) =
     setup_refuses told failed (λ calls. asked (given listing ∷ calls)) _ setup status refuses.refuses
@@ -152,6 +188,8 @@ ends_refused said told failed asked memory refuses = (inr refuses, refl, refl)
 ends_refused said told failed asked (listing_refused error) refuses = (refuses, refl, refl)
 ends_refused said told failed asked (conflict cycle bank port) refuses = (refuses, refl, refl)
 ends_refused said told failed asked (cycles_spent cycles) refuses = (refuses, refl, refl)
+ends_refused said told failed asked (stopped_at kind at) refuses = (refuses, refl, refl)
+ends_refused said told failed asked (turns_spent turns) refuses = (refuses, refl, refl)
 ends_refused said told failed asked (too_long text) refuses = (refuses, refl, refl)
 ends_refused said told failed asked (source_refused error) refuses = (refuses, refl, refl)
 ends_refused said told failed asked (unbuilt line) refuses = (refuses, refl, refl)
@@ -178,6 +216,8 @@ read_memory standing failed asked most name memory parts refuses = absurd parts
 read_memory standing failed asked most name (listing_refused error) parts refuses = absurd refuses
 read_memory standing failed asked most name (conflict cycle bank port) parts refuses = absurd refuses
 read_memory standing failed asked most name (cycles_spent cycles) parts refuses = absurd refuses
+read_memory standing failed asked most name (stopped_at kind at) parts refuses = absurd refuses
+read_memory standing failed asked most name (turns_spent turns) parts refuses = absurd refuses
 read_memory standing failed asked most name (too_long text) parts refuses = too_long_call asked name refuses.0
 read_memory standing failed asked most name (source_refused error) parts refuses = absurd refuses
 read_memory standing failed asked most name (unbuilt line) parts refuses = absurd refuses
@@ -193,6 +233,8 @@ compile_memory told failed asked program memory parts refuses = absurd parts
 compile_memory told failed asked program (listing_refused error) parts refuses = absurd refuses
 compile_memory told failed asked program (conflict cycle bank port) parts refuses = absurd refuses
 compile_memory told failed asked program (cycles_spent cycles) parts refuses = absurd refuses
+compile_memory told failed asked program (stopped_at kind at) parts refuses = absurd refuses
+compile_memory told failed asked program (turns_spent turns) parts refuses = absurd refuses
 compile_memory told failed asked program (too_long text) parts refuses = too_long_call asked program refuses.0
 compile_memory told failed asked program (source_refused error) parts refuses = absurd refuses
 compile_memory told failed asked program (unbuilt line) parts refuses = given_call asked program refuses.asks
@@ -208,6 +250,8 @@ check_memory told failed asked program memory parts refuses = absurd parts
 check_memory told failed asked program (listing_refused error) parts refuses = absurd refuses
 check_memory told failed asked program (conflict cycle bank port) parts refuses = absurd refuses
 check_memory told failed asked program (cycles_spent cycles) parts refuses = absurd refuses
+check_memory told failed asked program (stopped_at kind at) parts refuses = absurd refuses
+check_memory told failed asked program (turns_spent turns) parts refuses = absurd refuses
 check_memory told failed asked program (too_long text) parts refuses = too_long_call asked program refuses.0
 check_memory told failed asked program (source_refused error) parts refuses = given_call asked program refuses.asks
 check_memory told failed asked program (unbuilt line) parts refuses = absurd refuses
@@ -223,6 +267,8 @@ listing_memory standing failed asked name memory parts refuses = absurd parts
 listing_memory standing failed asked name (listing_refused error) parts refuses = given_call asked name refuses.0
 listing_memory standing failed asked name (conflict cycle bank port) parts refuses = absurd refuses
 listing_memory standing failed asked name (cycles_spent cycles) parts refuses = absurd refuses
+listing_memory standing failed asked name (stopped_at kind at) parts refuses = absurd refuses
+listing_memory standing failed asked name (turns_spent turns) parts refuses = absurd refuses
 listing_memory standing failed asked name (too_long text) parts refuses = too_long_call asked name refuses.0
 listing_memory standing failed asked name (source_refused error) parts refuses = absurd refuses
 listing_memory standing failed asked name (unbuilt line) parts refuses = absurd refuses
@@ -261,6 +307,15 @@ memory_refuses told failed asked (simulate listing setup) status parts (inr (inl
     }))
 memory_refuses told failed asked (simulate listing setup) status parts (inr (inr refuses)) =
     inr (inr (record { cells = refuses.cells; plain = refuses.plain; is_given = refuses.is_given; ends = tt }))
+memory_refuses told failed asked (seq program setup) status parts (inl refuses) = inl (check_memory told failed asked program status parts refuses)
+memory_refuses told failed asked (seq program setup) status parts (inr (inl refuses)) =
+    inr (inl (record {
+      program = refuses.program;
+      gives_program = refuses.gives_program;
+      refuses = setup_memory told failed (λ calls. asked (given program ∷ calls)) _ setup status parts refuses.refuses;
+    }))
+memory_refuses told failed asked (seq program setup) status parts (inr (inr refuses)) =
+    inr (inr (record { program = refuses.program; plain = refuses.plain; is_given = refuses.is_given; stops = tt }))
 memory_refuses told failed asked (waves listing setup) status parts (inl refuses) = inl (listing_memory (told listing) (failed listing) asked listing status parts refuses)
 memory_refuses told failed asked (waves listing setup) status parts (inr (inl refuses)) =
     inr (inl (record {

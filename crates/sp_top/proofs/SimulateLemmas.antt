@@ -23,7 +23,7 @@ use Rattle.sp_listing.specs.Refusal.{RefusesText}
 use Rattle.sp_setup.specs.declared.error.SetupEnd.{SetupEnd}
 use Rattle.sp_setup.specs.Setup.{PlainSetup, SetupEnds}
 use Rattle.sp_setup.specs.Laws.{SetupEnds-wide, SetupEnds-told, IsSetup-told}
-use Rattle.sp_top.specs.Status.{PlainStatus, done, words, setup_refused, read_fault, write_fault, memory, listing_refused, conflict, cycles_spent, too_long, unbuilt, source_refused}
+use Rattle.sp_top.specs.Status.{PlainStatus, done, words, setup_refused, read_fault, write_fault, memory, listing_refused, conflict, cycles_spent, stopped_at, turns_spent, too_long, unbuilt, source_refused}
 use Rattle.sp_top.specs.Reads.{GivesText, ReadRefuses}
 use Rattle.sp_top.specs.Simulated.{list_status, ListsNone}
 use Rattle.sp_top.specs.Simulate.{longest_listing, longest_setup, ListingRefuses, GivesSetup, SetupRefuses, end_status}
@@ -51,6 +51,8 @@ ListingRefuses-none standing failed asked name bytes read_fault gives made none 
 ListingRefuses-none standing failed asked name bytes (write_fault which) gives made none = absurd none
 ListingRefuses-none standing failed asked name bytes (conflict cycle bank port) gives made none = absurd none
 ListingRefuses-none standing failed asked name bytes (cycles_spent cycles) gives made none = absurd none
+ListingRefuses-none standing failed asked name bytes (stopped_at kind at) gives made none = absurd none
+ListingRefuses-none standing failed asked name bytes (turns_spent turns) gives made none = absurd none
 ListingRefuses-none standing failed asked name bytes (too_long said) gives made none = absurd none
 ListingRefuses-none standing failed asked name bytes (source_refused error) gives made none = absurd none
 ListingRefuses-none standing failed asked name bytes (unbuilt line) gives made none = absurd none
@@ -66,6 +68,8 @@ ListingRefuses-read standing failed asked name read_fault refuses = refuses
 ListingRefuses-read standing failed asked name (write_fault which) refuses = refuses
 ListingRefuses-read standing failed asked name (conflict cycle bank port) refuses = refuses
 ListingRefuses-read standing failed asked name (cycles_spent cycles) refuses = refuses
+ListingRefuses-read standing failed asked name (stopped_at kind at) refuses = refuses
+ListingRefuses-read standing failed asked name (turns_spent turns) refuses = refuses
 ListingRefuses-read standing failed asked name (too_long said) refuses = refuses
 ListingRefuses-read standing failed asked name (source_refused error) refuses = refuses
 ListingRefuses-read standing failed asked name (unbuilt line) refuses = refuses
@@ -85,6 +89,8 @@ ReadRefuses-wide standing failed_now failed asked_now asked most name (write_fau
 ReadRefuses-wide standing failed_now failed asked_now asked most name (listing_refused error) wide more refuses = absurd refuses
 ReadRefuses-wide standing failed_now failed asked_now asked most name (conflict cycle bank port) wide more refuses = absurd refuses
 ReadRefuses-wide standing failed_now failed asked_now asked most name (cycles_spent cycles) wide more refuses = absurd refuses
+ReadRefuses-wide standing failed_now failed asked_now asked most name (stopped_at kind at) wide more refuses = absurd refuses
+ReadRefuses-wide standing failed_now failed asked_now asked most name (turns_spent turns) wide more refuses = absurd refuses
 ReadRefuses-wide standing failed_now failed asked_now asked most name (source_refused error) wide more refuses = absurd refuses
 ReadRefuses-wide standing failed_now failed asked_now asked most name (unbuilt line) wide more refuses = absurd refuses
 

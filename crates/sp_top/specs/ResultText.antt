@@ -1,4 +1,4 @@
--- The text of what a run leaves: a line for each output, a line for each DRAM, and one for the cycles.
+-- The text of what a run leaves: a line for each output, a line for each DRAM, and one for the cycles or the turns.
 use Rattle.std.specs.Prelude.{ℕ, List, [], ◌∷◌, ◌++◌, flat_map, codes, decimal}
 use Rattle.sp_words.specs.declared.types.Ty.{Ty}
 use Rattle.sp_words.specs.Decimal.{text_of}
@@ -28,3 +28,7 @@ result_text ports outs drams last_line = lines_of out_line ports.outs outs ++ (l
 -- `cycles N`
 abbrev pub cycles_line : ℕ → List ℕ
 cycles_line cycles = codes "cycles " ++ (decimal cycles ++ 10 ∷ [])
+
+-- `turns N`
+abbrev pub turns_line : ℕ → List ℕ
+turns_line turns = codes "turns " ++ (decimal turns ++ 10 ∷ [])

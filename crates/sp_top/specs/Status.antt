@@ -15,9 +15,11 @@ use Rattle.sp_reader.specs.declared.error.ReadError.{ReadError}
 use Rattle.sp_reader.specs.declared.error.ReadError.TheVariants as read
 use Rattle.sp_source.specs.declared.error.SourceError.{SourceError}
 use Rattle.sp_source.specs.declared.error.SourceError.TheVariants as source
+use Rattle.sp_tree.specs.declared.statement.FaultKind.{FaultKind}
+use Rattle.sp_tree.specs.declared.statement.FaultKind.TheVariants.{Bounds, Unwritten, FifoFull, FifoEmpty, DramBounds, RowLength}
 use Rattle.sp_top.specs.declared.status.SinkName.{SinkName}
 use Rattle.sp_top.specs.declared.status.Status.{Status}
-use Rattle.sp_top.specs.declared.status.Status.TheVariants.{Done, Words, Setup, ReadFault, WriteFault, Memory, Listing, Conflict, CyclesSpent, TooLong, Unbuilt, Source}
+use Rattle.sp_top.specs.declared.status.Status.TheVariants.{Done, Words, Setup, ReadFault, WriteFault, Memory, Listing, Conflict, CyclesSpent, Fault, TurnsSpent, TooLong, Unbuilt, Source}
 
 pub data PlainStatus : Type 0 where
   done : PlainStatus
@@ -29,6 +31,8 @@ pub data PlainStatus : Type 0 where
   listing_refused : (error : ListError) → PlainStatus
   conflict : (cycle bank : ℕ) (port : Port) → PlainStatus
   cycles_spent : (cycles : ℕ) → PlainStatus
+  stopped_at : (kind : FaultKind) (at : ℕ) → PlainStatus
+  turns_spent : (turns : ℕ) → PlainStatus
   too_long : (name : List ℕ) → PlainStatus
   unbuilt : (line : ℕ) → PlainStatus
   source_refused : (error : SourceError) → PlainStatus
@@ -43,6 +47,8 @@ plain_status Memory = memory
 plain_status (Listing error) = listing_refused error
 plain_status (Conflict cycle bank port) = conflict cycle bank port
 plain_status (CyclesSpent cycles) = cycles_spent cycles
+plain_status (Fault kind at) = stopped_at kind at
+plain_status (TurnsSpent turns) = turns_spent turns
 plain_status (TooLong name) = too_long (string_bytes name)
 plain_status (Unbuilt line) = unbuilt line
 plain_status (Source error) = source_refused error
@@ -62,6 +68,8 @@ abbrev pub number_of : PlainStatus → ℕ
 number_of done = 0
 number_of words = 2
 number_of (setup_refused refusal) = 5
+number_of (stopped_at kind at) = 6
+number_of (turns_spent turns) = 7
 number_of read_fault = 8
 number_of (write_fault which) = 9
 number_of memory = 10
@@ -109,6 +117,14 @@ abbrev pub port_text : Port → List ℕ
 port_text Read = codes "read port"
 port_text Write = codes "write port"
 
+abbrev pub fault_text : FaultKind → List ℕ
+fault_text Bounds = codes "Bounds"
+fault_text Unwritten = codes "Unwritten"
+fault_text FifoFull = codes "FifoFull"
+fault_text FifoEmpty = codes "FifoEmpty"
+fault_text DramBounds = codes "DramBounds"
+fault_text RowLength = codes "RowLength"
+
 -- the line that is put on `out`; none where the output was taken or a sink failed
 abbrev pub line_of : PlainStatus → List ℕ
 line_of done = []
@@ -120,6 +136,8 @@ line_of memory = codes "memory\n"
 line_of (listing_refused error) = codes "listing: " ++ list_line error
 line_of (conflict cycle bank port) = codes "conflict: cycle " ++ (decimal cycle ++ (codes ", bank " ++ (decimal bank ++ (codes ", " ++ (port_text port ++ codes "\n")))))
 line_of (cycles_spent cycles) = codes "cycles spent: " ++ (decimal cycles ++ codes "\n")
+line_of (stopped_at kind at) = codes "fault: " ++ (fault_text kind ++ (codes " at " ++ (decimal at ++ codes "\n")))
+line_of (turns_spent turns) = codes "turns spent: " ++ (decimal turns ++ codes "\n")
 line_of (too_long name) = codes "too long: " ++ (name ++ codes "\n")
 line_of (unbuilt line) = codes "unbuilt at line " ++ (decimal line ++ codes "\n")
 line_of (source_refused error) = source_line error

@@ -8,6 +8,7 @@ mod laws;
 mod lines;
 mod reads;
 mod result_text;
+mod seq;
 mod simulate;
 mod sinks;
 mod status;

@@ -1,7 +1,7 @@
 //! The lines of refusals.
 ghost use Rattle.std.specs.Prelude.{◌≡◌, ◌++◌, IfOk, MatchOption, codes, string_bytes};
 ghost use Rattle.sp_setup.specs.Refusal.{plain_error};
-ghost use Rattle.sp_top.specs.Status.{plain_status, line_of, HasParts, listing_refused, conflict, setup_refused, read_line, types_head, source_refused};
+ghost use Rattle.sp_top.specs.Status.{plain_status, line_of, HasParts, listing_refused, conflict, stopped_at, setup_refused, read_line, types_head, source_refused};
 ghost use Rattle.sp_check.specs.Texts.{error_text};
 
 use crate::status::Status;
@@ -11,6 +11,7 @@ use sp_netlist::{NetError, Port};
 use sp_reader::ReadError;
 use sp_setup::SetupError;
 use sp_source::SourceError;
+use sp_tree::FaultKind;
 use std::alloc::{AllocError, Global};
 
 /// The line of a status, where it is a constant.
@@ -63,6 +64,19 @@ fn conflict_line(alloc: Global, cycle: u64, bank: u64, port: Port) -> Result<Str
     }
 }
 
+fn fault_line(alloc: Global, kind: FaultKind, at: u32) -> Result<String, AllocError>
+    ensures { IfOk result (λ line. string_bytes line ≡ line_of (stopped_at kind at)) }
+{
+    match kind {
+        FaultKind::Bounds => format!(in alloc; "fault: Bounds at {at}\n"),
+        FaultKind::Unwritten => format!(in alloc; "fault: Unwritten at {at}\n"),
+        FaultKind::FifoFull => format!(in alloc; "fault: FifoFull at {at}\n"),
+        FaultKind::FifoEmpty => format!(in alloc; "fault: FifoEmpty at {at}\n"),
+        FaultKind::DramBounds => format!(in alloc; "fault: DramBounds at {at}\n"),
+        FaultKind::RowLength => format!(in alloc; "fault: RowLength at {at}\n"),
+    }
+}
+
 fn read_line(alloc: Global, error: ReadError) -> Result<String, AllocError>
     ensures { IfOk result (λ line. string_bytes line ≡ codes "source: " ++ read_line error) }
 {
@@ -104,6 +118,8 @@ pub fn built_line(alloc: Global, status: &Status) -> Result<String, AllocError>
         Status::Listing(error) => listing_line(alloc, *error),
         Status::Conflict { cycle, bank, port } => conflict_line(alloc, *cycle, *bank, *port),
         Status::CyclesSpent { cycles } => format!(in alloc; "cycles spent: {cycles}\n"),
+        Status::Fault { kind, at } => fault_line(alloc, *kind, *at),
+        Status::TurnsSpent { turns } => format!(in alloc; "turns spent: {turns}\n"),
         Status::TooLong { name } => format!(in alloc; "too long: {name}\n"),
         Status::Unbuilt { line } => format!(in alloc; "unbuilt at line {line}\n"),
         Status::Source(error) => source_line(alloc, *error),

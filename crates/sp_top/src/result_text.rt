@@ -3,7 +3,7 @@ ghost use Rattle.std.specs.Prelude.{◌≡◌, ℕ, ◌++◌, ◌∷◌, [], map
 ghost use Rattle.std.specs.Global.{Vec};
 ghost use Rattle.sp_words.specs.Decimal.{text_of};
 ghost use Rattle.sp_words.specs.Ports.{plain_port, plain_ports};
-ghost use Rattle.sp_top.specs.ResultText.{spaced_words, out_line, dram_line, lines_of, result_text, cycles_line};
+ghost use Rattle.sp_top.specs.ResultText.{spaced_words, out_line, dram_line, lines_of, result_text, cycles_line, turns_line};
 
 use sp_words::{NoMemory, Output, PortDecl, Ports, Ty, is_word, value_text};
 use std::alloc::Global;
@@ -109,5 +109,21 @@ pub fn cycles_text(
     push_outs(alloc, &mut text, &ports.outs, &output.outs)?;
     push_drams(alloc, &mut text, &ports.drams, &output.drams)?;
     writeln!(text, "cycles {cycles}")?;
+    Ok(text)
+}
+
+/// The result text of a program that ended after so many turns.
+pub fn turns_text(
+    alloc: Global,
+    ports: &Ports,
+    output: &Output,
+    turns: u64,
+) -> Result<String, NoMemory>
+    ensures { IfOk result (λ text. string_bytes text ≡ result_text (plain_ports ports.now) output.now.outs.items (map (λ (words : Vec ℕ). words.items) output.now.drams.items) (turns_line turns)) }
+{
+    let mut text = String::new(alloc);
+    push_outs(alloc, &mut text, &ports.outs, &output.outs)?;
+    push_drams(alloc, &mut text, &ports.drams, &output.drams)?;
+    writeln!(text, "turns {turns}")?;
     Ok(text)
 }

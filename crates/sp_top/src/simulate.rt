@@ -1,10 +1,13 @@
 //! `simulate L S` and `waves L S`: a listing is run on the input, the delays and the cycles of a setup.
-ghost use Rattle.std.specs.Prelude.{◌≡◌, ◌≤◌, ℕ, List, [], ◌∷◌, length, IfOk, IfErr, OnOk, string_bytes};
+ghost use Rattle.std.specs.Prelude.{◌≡◌, ◌≤◌, ℕ, List, [], ◌∷◌, length, All, IfOk, IfErr, OnOk, string_bytes};
 ghost use Rattle.sp_edges.specs.Counts.{Rose};
 ghost use Rattle.sp_edges.specs.Calls.{given};
 ghost use Rattle.sp_netlist.specs.Ports.{ports_of};
 ghost use Rattle.sp_netlist.specs.Refusals.{IsWithinLimits};
 ghost use Rattle.sp_setup.specs.Setup.{plain_setup};
+ghost use Rattle.sp_words.specs.declared.interface.PortDecl.{PortDecl};
+ghost use Rattle.sp_words.specs.Interface.{Fits, word_count};
+ghost use Rattle.sp_words.specs.Ports.{plain_ports};
 ghost use Rattle.sp_top.specs.Status.{plain_status, memory};
 ghost use Rattle.sp_top.specs.Simulated.{list_status, ListsNone, ListsNetlist};
 ghost use Rattle.sp_top.specs.Simulate.{GivesNetlist, ListingRefuses, end_status, GivesSetup, SetupRefuses, Prints, RunEnds, Dumps, DumpEnds, Shows, ShowEnds, Simulates, SimulateRefuses};
@@ -18,6 +21,7 @@ use sp_listing::ListError;
 use sp_netlist::{Netlist, ending_kept};
 use sp_setup::{Setup, SetupEnd};
 use sp_sim::{Sim, SimEnd, SimLoad};
+use sp_words::Ports;
 use std::alloc::Global;
 
 /// What is shown of a run: its result, or its value change dump.
@@ -82,6 +86,26 @@ fn read_netlist<I: Inputs>(alloc: Global, name: &str, inputs: &mut I) -> Result<
     netlist_of(alloc, &bytes)
 }
 
+/// The setup that stands under a name, for these ports.
+pub fn setup_for<I: Inputs>(
+    alloc: Global,
+    ports: &Ports,
+    name: &str,
+    inputs: &mut I,
+) -> Result<Setup, Status>
+    requires { All (λ (port : PortDecl). word_count port.dims.items ≤ 67108864) ports.now.drams.items }
+    ensures given { IfOk result (λ setup. GivesSetup (I.told inputs.old) (λ calls. I.asked inputs.old calls inputs.new) (plain_ports ports.now) name.now (plain_setup setup)) }
+    ensures fits { IfOk result (λ setup. Fits ports.now setup.input) }
+    ensures refused { IfErr result (λ status. SetupRefuses (I.told inputs.old)
+        (λ name. Rose (I.faults inputs.old) (I.faults inputs.new) × (I.sure inputs.old name → ⊥)) (λ calls. I.asked inputs.old calls inputs.new) (plain_ports ports.now) name.now (plain_status status)) }
+{
+    let bytes = read_text(alloc, name, LONGEST_SETUP, inputs)?;
+    match sp_setup::read(alloc, inputs, ports, &bytes) {
+        Ok(setup) => Ok(setup),
+        Err(end) => Err(status_of_end(end)),
+    }
+}
+
 // The setup that stands under a name, for the ports of a netlist.
 fn read_setup<I: Inputs>(
     alloc: Global,
@@ -94,11 +118,7 @@ fn read_setup<I: Inputs>(
     ensures refused { IfErr result (λ status. SetupRefuses (I.told inputs.old)
         (λ name. Rose (I.faults inputs.old) (I.faults inputs.new) × (I.sure inputs.old name → ⊥)) (λ calls. I.asked inputs.old calls inputs.new) (ports_of netlist.now) name.now (plain_status status)) }
 {
-    let bytes = read_text(alloc, name, LONGEST_SETUP, inputs)?;
-    match sp_setup::read(alloc, inputs, netlist.ports(), &bytes) {
-        Ok(setup) => Ok(setup),
-        Err(end) => Err(status_of_end(end)),
-    }
+    setup_for(alloc, netlist.ports(), name, inputs)
 }
 
 // The input of a setup fits the ports, so nothing but memory can be wanting.

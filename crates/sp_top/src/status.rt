@@ -5,6 +5,7 @@ use sp_listing::ListError;
 use sp_netlist::Port;
 use sp_setup::SetupError;
 use sp_source::SourceError;
+use sp_tree::FaultKind;
 
 /// One of the two sinks.
 #[derive(Clone, Copy, Debug, PartialEq, Eq)]
@@ -23,6 +24,10 @@ pub enum Status {
     Words,
     /// The setup gives no input.
     Setup(SetupError),
+    /// The program stops at this fault, at this byte of its text.
+    Fault { kind: FaultKind, at: u32 },
+    /// The setup's turns passed without an end of the program.
+    TurnsSpent { turns: u64 },
     /// A name could not be read.
     ReadFault,
     /// The sink did not take the text that was put to it.
@@ -55,6 +60,8 @@ impl Status {
             Status::Done => 0,
             Status::Words => 2,
             Status::Setup(_) => 5,
+            Status::Fault { kind: _, at: _ } => 6,
+            Status::TurnsSpent { turns: _ } => 7,
             Status::ReadFault => 8,
             Status::WriteFault { which: _ } => 9,
             Status::Memory => 10,

@@ -9,7 +9,7 @@ ghost use Rattle.sp_netlist.specs.Cells.{PlainCell};
 ghost use Rattle.sp_setup.specs.Setup.{PlainSetup};
 ghost use Rattle.sp_source.specs.Texts.{Spells};
 ghost use Rattle.sp_tree.specs.PlainProgram.{PlainProgram};
-ghost use Rattle.sp_top.specs.Complete.{IsRunnable, IsDoneInTime};
+ghost use Rattle.sp_top.specs.Complete.{CanBeRun, TellsEnd, IsRunnable, IsDoneInTime};
 ghost use Rattle.sp_top.specs.Compile.{longest_program};
 ghost use Rattle.sp_top.specs.Commands as commands;
 ghost use Rattle.sp_top.specs.Said.{plain_command};
@@ -18,6 +18,7 @@ ghost use Rattle.sp_top.specs.Record.{Records};
 use crate::check::check;
 use crate::compile::{compile, print_verilog};
 use crate::format::print_canonical;
+use crate::seq::run_sequentially;
 use crate::simulate::{View, simulate};
 use crate::sinks::{Texts, deliver, refuse};
 use crate::status::Status;
@@ -26,7 +27,7 @@ use sp_edges::{Inputs, Sink};
 use sp_listing::{listing_breaks_nowhere, listing_has_one_reading};
 use sp_netlist::{one_ending, refusals_exact};
 use sp_setup::{setups_are_not_refused, setups_are_one};
-use sp_source::spelled_texts_are_not_refused;
+use sp_source::{spelled_texts_are_not_refused, texts_spell_one_program};
 use std::alloc::Global;
 
 // The texts of a command, or why it refuses.
@@ -40,6 +41,7 @@ fn texts_of<I: Inputs>(alloc: Global, command: Command<'_>, inputs: &mut I) -> R
         Command::Format { program } => print_canonical(alloc, program, inputs),
         Command::Compile { program } => compile(alloc, program, inputs),
         Command::Verilog { program } => print_verilog(alloc, program, inputs),
+        Command::Seq { program, setup } => run_sequentially(alloc, program, setup, inputs),
         Command::Simulate { listing, setup } => {
             simulate(alloc, View::Outcome, listing, setup, inputs)
         }
@@ -108,7 +110,10 @@ pub fn spatialc<I: Inputs, K: Sink, A: Sink>(
     // Nor is a text that spells a program by `check` or `format`.
     ensures checks { (program bytes : List ℕ) (plain : PlainProgram) → IsCommand (map string_bytes words.now) (commands.check program) ⊎ IsCommand (map string_bytes words.now) (commands.format program) → I.sure inputs.old program
         → I.told inputs.old program ≡ Holds bytes → length bytes ≤ longest_program → Spells bytes plain → NotRefused (plain_status result) }
-    // Nor is the simulation of a listing that is done within its setup's cycles, nor the dump of any run.
+    // The run of a program tells how the program ends: it isn't refused but for want of memory.
+    ensures runs { (program setup : List ℕ) (plain : PlainProgram) (plan : PlainSetup) → IsCommand (map string_bytes words.now) (commands.seq program setup)
+        → CanBeRun (I.told inputs.old) (I.sure inputs.old) program setup plain plan → TellsEnd plain plan (plain_status result) }
+    // The simulation of a listing that is done within its setup's cycles isn't refused, nor is the dump of any run.
     ensures simulates { (listing setup : List ℕ) (cells : List PlainCell) (plain : PlainSetup) → IsCommand (map string_bytes words.now) (commands.simulate listing setup)
         → IsRunnable (I.told inputs.old) (I.sure inputs.old) listing setup cells plain → IsDoneInTime cells plain → NotRefused (plain_status result) }
     ensures dumps { (listing setup : List ℕ) (cells : List PlainCell) (plain : PlainSetup) → IsCommand (map string_bytes words.now) (commands.waves listing setup)
@@ -121,5 +126,6 @@ pub fn spatialc<I: Inputs, K: Sink, A: Sink>(
     setups_are_not_refused();
     setups_are_one();
     spelled_texts_are_not_refused();
+    texts_spell_one_program();
     answer(alloc, words, inputs, out, aside)
 }

@@ -212,7 +212,7 @@ module _ (core : PlainCore) where
       leb-true 1 c.par (and_parts (nat_le 1 c.par) (nat_le c.par 16) d.1).0
   positive around (c ∷ d ∷ counters) e = positive around (d ∷ counters) (and_parts (is_counter_right core around c) (list_all (is_counter_right core around) (d ∷ counters)) e).1
 
-  lanes_positive : (around : Around) (counters : List PlainCounter) (b : Bool) → (are_counters_right core around counters && b) ≡ true → 1 ≤ lanes_of counters
+  pub lanes_positive : (around : Around) (counters : List PlainCounter) (b : Bool) → (are_counters_right core around counters && b) ≡ true → 1 ≤ lanes_of counters
   lanes_positive around counters b e =
       let a = and_parts (are_counters_right core around counters) b e in
       positive around counters (and_parts (nat_le (length counters) 4 && nat_le (length counters + length around.counters) 1000) (list_all (is_counter_right core around) counters) a.0).1

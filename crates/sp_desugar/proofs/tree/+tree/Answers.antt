@@ -1,16 +1,16 @@
-use Rattle.std.proofs.Common.{◌≡◌, ◌+◌, ◌++◌, [], append-nil, append_assoc, ℕ, Bool, true, false, map, length, take, drop, ◌-◌, arith, refl, sym, ap, ◌∙◌}
+use Rattle.std.proofs.Common.{◌≡◌, ◌+◌, ◌++◌, [], append-nil, append_assoc, ℕ, true, false, map, length, take, drop, ◌-◌, arith, sym, ap, ◌∙◌}
 use Rattle.std.proofs.lemmas.Grind.{common_steps}
 use Rattle.sp_core.specs.Plain as core
-use Rattle.sp_core.specs.PlainCore.{PlainStages, PlainNode, outer, no_stage, more_stage, fsm, branch}
+use Rattle.sp_core.specs.PlainCore.{PlainStages, outer, more_stage, fsm, branch}
 use Rattle.sp_tree.specs.Plain.{plain_expr, plain_mem}
 use Rattle.sp_tree.specs.PlainStatement.{stmt, more_stmt}
-use Rattle.sp_tree.specs.PlainTree.{plain_counter, plain_ctl, plain_stmt_kind, plain_stmts}
+use Rattle.sp_tree.specs.PlainTree.{plain_counter, plain_stmt_kind, plain_stmts}
 use Rattle.sp_tree.specs.Structure.{own_mems}
 use Rattle.sp_sugar.specs.Early.{bounds_of, is_early, registers_for, counters_of, early_stages}
 use Rattle.sp_sugar.specs.Numbers.{mem_number, numbers_from}
 use Rattle.sp_sugar.specs.Operations.{word_list}
-use Rattle.sp_sugar.specs.Registers.{at_end, beside, inside, registers_in, ending_of, owned_registers}
-use Rattle.sp_sugar.specs.Runs.{Run, no_run, with_stmt}
+use Rattle.sp_sugar.specs.Registers.{beside, inside, registers_in, ending_of, owned_registers}
+use Rattle.sp_sugar.specs.Runs.{no_run, with_stmt}
 use Rattle.sp_sugar.specs.Stages.{combines, first_of, reduces_elements, run_stage, style_of, last_stages, node, stages}
 use Rattle.sp_sugar.specs.Uses.{no_more}
 use Rattle.sp_operations.specs.Running.{run_of}

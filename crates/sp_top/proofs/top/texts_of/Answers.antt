@@ -5,3 +5,6 @@ returns-in-Simulate-clause-refused g c = rw c.in-Simulate.is c.simulate.ensures.
 
 pub returns-in-Waves-clause-refused : goal.returns-in-Waves-clause-refused
 returns-in-Waves-clause-refused g c = rw c.in-Waves.is c.simulate-in-Waves.ensures.refused
+
+pub returns-in-Seq-clause-refused : goal.returns-in-Seq-clause-refused
+returns-in-Seq-clause-refused g c = rw c.in-Seq.is c.run_sequentially.ensures.refused

@@ -1,0 +1,3 @@
+pub mod Bodies
+pub mod Tree
+pub mod Whole
