@@ -1,0 +1,23 @@
+//! Laws of ports.
+
+ghost use Rattle.sp_core.specs.PlainCore.{PlainCore};
+ghost use Rattle.sp_machine.specs.Transfers.{Delays};
+ghost use Rattle.sp_plan.specs.PlainPlan.{PlainPlan};
+ghost use Rattle.sp_ports.specs.Laws.{BodiesShareNoPort, PortsTakeTurns, SchemesKeepApart};
+
+/// Two accesses whose forms differ in their constants alone, and whose constants a scheme keeps apart, are in one bank only
+/// where they are at one element, whatever the counters and the symbol are.
+pub fn schemes_keep_apart()
+    ensures { SchemesKeepApart }
+{}
+
+/// Two accesses of an inner body to one port of a memory act in one cycle only where they are of one group of iterations and
+/// the memory has a scheme.
+pub fn ports_take_turns()
+    ensures { (core : PlainCore) → PortsTakeTurns core }
+{}
+
+/// In an inner body no two accesses share a port of a bank, other than two reads that are one tap.
+pub fn bodies_share_no_port()
+    ensures { (core : PlainCore) (plan : PlainPlan) (delays : Delays) → BodiesShareNoPort core plan delays }
+{}
