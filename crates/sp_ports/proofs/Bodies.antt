@@ -245,3 +245,183 @@ with_each {A = A} P R Q f (x ∷ xs) e p = (all xs e.1 p.0, with_each P R Q f xs
     all : (ys : List A) → Each P ys → Each (R x) ys → Each (Q x) ys
     all [] e r = tt
     all (y ∷ ys) e r = (f x y e.0 e.0 r.0, all ys e.1 r.1)
+
+both_pairs : {A : Type 0} (R Q : A → A → Type 0) (xs : List A) → Pairs R xs → Pairs Q xs → Pairs (λ x y. R x y × Q x y) xs
+both_pairs R Q [] p q = tt
+both_pairs {A = A} R Q (x ∷ xs) p q = (all xs p.0 q.0, both_pairs R Q xs p.1 q.1)
+  where
+    all : (ys : List A) → Each (R x) ys → Each (Q x) ys → Each (λ y. R x y × Q x y) ys
+    all [] p q = tt
+    all (y ∷ ys) p q = ((p.0, q.0), all ys p.1 q.1)
+
+-- a scheme where a memory isn't serial
+scheme_of : (o : Option Banking) → not (is_some o) ≡ false → (b : Banking) × (o ≡ Some b)
+scheme_of None h = absurd (true≢false h)
+scheme_of (Some b) h = (b, refl)
+
+-- forms of one group
+record OneGroup (x y : Option (List Affine)) : Type 0 where
+  pub first : List Affine
+  pub second : List Affine
+  pub is_first : x ≡ Some first
+  pub is_second : y ≡ Some second
+  pub linear : have_one_linear_part first second ≡ true
+
+of_group : (x y : Option (List Affine)) → is_one_group x y ≡ true → OneGroup x y
+of_group None y h = absurd (false≢true h)
+of_group (Some f) None h = absurd (false≢true h)
+of_group (Some f) (Some g) h = record { first = f; second = g; is_first = refl; is_second = refl; linear = h }
+
+known : (core : PlainCore) (forms : PlainForms) (rank : ℕ) (o : Option (List Affine)) (f : List Affine) → forms_by core forms rank o ≡ Some f → o ≡ Some f
+known core forms rank None f h = h
+known core forms rank (Some g) f h = by (length g == rank) h
+  where
+    by : (b : Bool) → cond b (Some g) None ≡ Some f → Some g ≡ Some f
+    by true e = e
+    by false e = absurd (true≢false (ap is_some (sym e)))
+
+or_true : (x y : Bool) → x ≡ true → (not x || y) ≡ true → y ≡ true
+or_true true y e h = h
+or_true false y e h = absurd (false≢true e)
+
+-- two events at one element of one memory
+one_place : (core : PlainCore) (e f : Event) → e.mem ≡ f.mem → e.indices ≡ f.indices → share_place core (touches e) (touches f) ≡ true
+one_place core e f m i = and_true (e.mem == f.mem) (is_one_element core e f) (eq-eqb _ _ m)
+    (eq-eqb _ _ (ap (λ n. element (kind_of core n) (dims core n) e.indices) m ∙ ap (λ is. element (kind_of core f.mem) (dims core f.mem) is) i))
+
+module _ (core : PlainCore) (forms : PlainForms) (schemes : List (Option Banking)) (meets : List Meet) (symbols : List At → ℕ → ℤ) (number : ℕ) (standing_of : ℕ → Standing) (ops : List PlainOp) (times : List ℕ) (ii latency : ℕ) (serial : Bool)
+    (right : are_times_right core schemes meets number false ops times ii latency serial ≡ true) (grouped : are_grouped core forms schemes number ops ≡ true) (separated : AreSeparated core forms schemes number ops) where
+  abbrev Touch : (g i : ℕ) → Stamped → Type 0
+  Touch g i s = IsTouch core number standing_of ops times ii g i s
+
+  -- the operations of two accesses share a port
+  ops_share : (h j g r : ℕ) (s t : Stamped) (a : Touch h j s) (b : Touch g r t) → AreAtOnePort core schemes (touches a.event) (touches b.event) → share_port core (op_at core ops j) (op_at core ops r) ≡ true
+  ops_share h j g r s t a b p =
+      and_true (ports.is_one_port (op_at core ops j).kind (op_at core ops r).kind && is_one_mem (op_at core ops j).mem (op_at core ops r).mem) (is_in_banks core (op_at core ops j).mem)
+      (and_true (ports.is_one_port (op_at core ops j).kind (op_at core ops r).kind) (is_one_mem (op_at core ops j).mem (op_at core ops r).mem)
+      (by_one_port (op_at core ops j).kind (op_at core ops r).kind a.word b.word a.event.act b.event.act a.act b.act p.2.0)
+      (subst (λ m. is_one_mem m (op_at core ops r).mem ≡ true) (sym a.mem) (subst (λ m. is_one_mem (Some a.event.mem) m ≡ true) (sym b.mem) (eq-eqb _ _ p.0))))
+      (subst (λ m. is_in_banks core m ≡ true) (sym a.mem) p.1)
+
+  -- then they are of one group of accesses, and kept apart
+  record AreInGroup (h j g r : ℕ) (s t : Stamped) (a : Touch h j s) (b : Touch g r t) : Type 0 where
+    pub one : h ≡ g
+    pub scheme : Banking
+    pub is_scheme : scheme_at schemes (Some a.event.mem) ≡ Some scheme
+    pub first : List Affine
+    pub second : List Affine
+    pub is_first : form_at core forms (number + j) ≡ Some first
+    pub is_second : form_at core forms (number + r) ≡ Some second
+    pub linear : have_one_linear_part first second ≡ true
+    pub apart : Apart (mem core a.event.mem).kind scheme first second
+
+  in_group : (h j g r : ℕ) → Later h (suc j) g r → (s t : Stamped) (a : Touch h j s) (b : Touch g r t) → s.cycle ≡ t.cycle → AreAtOnePort core schemes (touches a.event) (touches b.event) → AreInGroup h j g r s t a b
+  in_group h j g r later s t a b c p = found (scheme_of (scheme_at schemes (op_at core ops j).mem) turn.2) (of_group _ _ one_group)
+    where
+      share : share_port core (op_at core ops j) (op_at core ops r) ≡ true
+      share = ops_share h j g r s t a b p
+
+      at_once : h * ii + slice_index times j ≡ g * ii + slice_index times r
+      at_once = let x : s.cycle ≡ 1 + h * ii + slice_index times j = a.cycle in let y : t.cycle ≡ 1 + g * ii + slice_index times r = b.cycle in omega (arith, x, y, c)
+
+      turn : (h ≡ g) × (j < r) × (is_serial schemes (op_at core ops j).mem ≡ false)
+      turn = ports_take_turns core schemes meets number ops times ii latency serial h j g r right a.inside b.inside (strictly h j g r later) share at_once
+
+      banks : share_banks core forms schemes ops j r ≡ true
+      banks = and_true (share_port core (op_at core ops j) (op_at core ops r)) (not (is_serial schemes (op_at core ops j).mem)) share (ap not turn.2)
+
+      one_group : is_one_group (known_forms core forms (number + j) (op_at core ops j)) (known_forms core forms (number + r) (op_at core ops r)) ≡ true
+      one_group = or_true (share_banks core forms schemes ops j r) _ banks
+          (all_below (is_grouped core forms schemes number ops r) r j (all_below (λ n. list_all (is_grouped core forms schemes number ops n) (numbers_below n)) (length ops) r grouped b.inside) turn.1)
+
+      found : (b : Banking) × (scheme_at schemes (op_at core ops j).mem ≡ Some b) → OneGroup (known_forms core forms (number + j) (op_at core ops j)) (known_forms core forms (number + r) (op_at core ops r)) → AreInGroup h j g r s t a b
+      found x o = record {
+        one = turn.0;
+        scheme = x.0;
+        is_scheme = ap (scheme_at schemes) (sym a.mem) ∙ x.1;
+        first = o.first;
+        second = o.second;
+        is_first = known core forms (rank_of core forms (op_at core ops j).mem) (form_at core forms (number + j)) o.first o.is_first;
+        is_second = known core forms (rank_of core forms (op_at core ops r).mem) (form_at core forms (number + r)) o.second o.is_second;
+        linear = o.linear;
+        apart =
+            subst (λ m. Apart (kind_at core forms m) x.0 o.first o.second) a.mem
+            (subst (λ y. AreKeptApart (kind_at core forms (op_at core ops j).mem) (Some x.0) (Some o.first) y) o.is_second
+            (subst (λ y. AreKeptApart (kind_at core forms (op_at core ops j).mem) (Some x.0) y (known_forms core forms (number + r) (op_at core ops r))) o.is_first
+            (subst (λ y. AreKeptApart (kind_at core forms (op_at core ops j).mem) y (known_forms core forms (number + j) (op_at core ops j)) (known_forms core forms (number + r) (op_at core ops r))) x.1
+            (separated r j b.inside turn.1 banks))));
+      }
+
+  -- so they are one tap
+  abbrev AtForms : Event → Type 0
+  AtForms e = IsAtForms core forms symbols (touches e)
+
+  indices_at : (n : ℕ) (e : Event) (fs : List Affine) → e.number ≡ n → form_at core forms n ≡ Some fs → AtForms e → are_indices core forms fs (map pos e.indices) e.standing.counters (symbols e.standing.path) ≡ true
+  indices_at n e fs en is at = subst (λ o. are_known_indices core forms o (map pos e.indices) e.standing.counters (symbols e.standing.path) ≡ true) (ap (form_at core forms) en ∙ is) at
+
+  one_tap : (h j g r : ℕ) → Later h (suc j) g r → (s t : Stamped) (a : Touch h j s) (b : Touch g r t) → AtForms a.event → AtForms b.event → AreInOrder core s t → s.cycle ≡ t.cycle → s.copy ≡ t.copy
+      → AreAtOnePort core schemes (touches a.event) (touches b.event) → AreOneTap core forms (touches a.event) (touches b.event)
+  one_tap h j g r later s t a b p q order c copy port = reading (of_one_port a.event.act b.event.act port.2.0)
+    where
+      here : AreInGroup h j g r s t a b
+      here = in_group h j g r later s t a b c port
+
+      around : a.event.standing ≡ b.event.standing
+      around = a.standing ∙ ap standing_of here.one ∙ sym b.standing
+
+      first_at : are_indices core forms here.first (map pos a.event.indices) a.event.standing.counters (symbols a.event.standing.path) ≡ true
+      first_at = indices_at (number + j) a.event here.first a.numbered here.is_first p
+
+      second_at : are_indices core forms here.second (map pos b.event.indices) a.event.standing.counters (symbols a.event.standing.path) ≡ true
+      second_at = subst (λ st. are_indices core forms here.second (map pos b.event.indices) st.counters (symbols st.path) ≡ true) (sym around) (indices_at (number + r) b.event here.second b.numbered here.is_second q)
+
+      same : (here.first ≡ here.second) × (a.event.indices ≡ b.event.indices)
+      same = schemes_keep_apart core forms (mem core a.event.mem).kind here.scheme here.first here.second a.event.indices b.event.indices a.event.standing.counters (symbols a.event.standing.path) here.linear here.apart first_at second_at
+          (subst (λ o. AreInBank (mem core a.event.mem).kind o a.event.indices b.event.indices) here.is_scheme port.2.1)
+
+      one_form : form_at core forms a.event.number ≡ form_at core forms b.event.number
+      one_form = ap (form_at core forms) a.numbered ∙ here.is_first ∙ ap Some same.0 ∙ sym here.is_second ∙ ap (form_at core forms) (sym b.numbered)
+
+      clash : Clash core s t
+      clash = record {
+        first = ap (is_done core) a.is;
+        second = ap (is_done core) b.is;
+        copy = copy;
+        place = ap (λ m. share_place core m t.moment) a.is ∙ ap (share_place core (touches a.event)) b.is ∙ one_place core a.event b.event port.0 same.1;
+      }
+
+      reading : OfOnePort a.event.act b.event.act → AreOneTap core forms (touches a.event) (touches b.event)
+      reading (inl x) = (looks_still a.event.act x.0, looks_still b.event.act x.1, around, one_form, same.1)
+      reading (inr x) = absurd (let l : s.cycle < t.cycle = order.for_change clash (ap does_change a.is ∙ alters_some a.event.act x.0) in omega (arith, l, c))
+
+  -- two moments of the body
+  abbrev TwoTouches : Stamped → Stamped → Type 0
+  TwoTouches s t = (h : ℕ) × (j : ℕ) × (g : ℕ) × (r : ℕ) × Later h (suc j) g r × Touch h j s × Touch g r t
+
+  abbrev AreTouches : Stamped → Stamped → Type 0
+  AreTouches s t = IsNone s.moment ⊎ (IsNone t.moment ⊎ TwoTouches s t)
+
+  shared : (s t : Stamped) → IsAtForms core forms symbols s.moment → IsAtForms core forms symbols t.moment → AreTouches s t × AreInOrder core s t → ShareNoPort core forms schemes s t
+  shared s t p q (inl n, order) share = absurd (none_first core schemes s.moment t.moment n share.port)
+  shared s t p q (inr (inl n), order) share = absurd (none_second core schemes s.moment t.moment n share.port)
+  shared s t p q (inr (inr x), order) share =
+      let a : Touch x.0 x.1 s = x.5 in
+      let b : Touch x.2 x.3 t = x.6 in
+      subst (λ m. AreOneTap core forms m t.moment) (sym a.is) (subst (λ m. AreOneTap core forms (touches a.event) m) (sym b.is)
+      (one_tap x.0 x.1 x.2 x.3 x.4 s t a b (subst (IsAtForms core forms symbols) a.is p) (subst (IsAtForms core forms symbols) b.is q) order share.cycle share.copy
+      (subst (λ m. AreAtOnePort core schemes (touches a.event) m) b.is (subst (λ m. AreAtOnePort core schemes m t.moment) a.is share.port))))
+
+  all_shared : (xs : List Stamped) → Rising core number standing_of ops times ii 0 0 xs → Each (λ s. IsAtForms core forms symbols s.moment) xs → Pairs (AreInOrder core) xs → Pairs (ShareNoPort core forms schemes) xs
+  all_shared xs rising at order =
+      with_each (λ s. IsAtForms core forms symbols s.moment) (λ s t. AreTouches s t × AreInOrder core s t) (ShareNoPort core forms schemes) shared xs at
+      (both_pairs AreTouches (AreInOrder core) xs
+      (pairs_of core number standing_of ops times ii AreTouches (λ s t n. inl n) (λ s t n. inr (inl n)) (λ h j g r later s t a b. inr (inr (h, j, g, r, later, a, b))) 0 0 xs rising) order)
+
+pub bodies_share_no_port : (core : PlainCore) (plan : PlainPlan) (delays : Delays) → BodiesShareNoPort core plan delays
+bodies_share_no_port core plan delays forms schemes meets symbols k number st copies owned ops times ii latency serial values groups placed right grouped separated at met =
+    all_shared core forms schemes meets symbols number standing_of ops times ii latency serial right grouped separated _
+    (body_rises core number standing_of ops times ii plan delays latency serial copies k 0 st owned values groups (λ m l. refl)) at
+    (bodies_in_order core plan delays schemes meets k number st copies owned ops times ii latency serial values groups placed right met)
+  where
+    standing_of : ℕ → Standing
+    standing_of g = inside_at st k (in_group_of g 0) (slice_index_or values g [])
