@@ -1,3 +1,4 @@
 pub mod Linear
 pub mod Turns
 pub mod Bodies
+pub mod Inners

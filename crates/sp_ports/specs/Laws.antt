@@ -2,23 +2,27 @@
 use Rattle.std.specs.Prelude.{◌≡◌, ℕ, suc, ◌+◌, ◌*◌, ◌<◌, ◌≤◌, ◌⊎◌, Bool, true, false, ℤ, pos, List, map, length, slice_index, Option, Some}
 use Rattle.sp_affine.specs.Affine.{Affine}
 use Rattle.sp_bank.specs.Banking.{Banking}
+use Rattle.std.specs.List.{list_all}
+use Rattle.sp_core.specs.Around.{Around}
 use Rattle.sp_core.specs.declared.access.Meet.{Meet}
 use Rattle.sp_core.specs.Events.{At, Standing, events_of}
 use Rattle.sp_core.specs.Forms.{PlainForms, are_indices}
-use Rattle.sp_core.specs.History.{Entry}
+use Rattle.sp_core.specs.History.{Entry, Bounds, inner_ran}
 use Rattle.sp_core.specs.Meeting.{are_met}
-use Rattle.sp_core.specs.PlainCore.{PlainOp, PlainCore}
+use Rattle.sp_core.specs.OperationRules.{is_counter_right}
+use Rattle.sp_core.specs.PlainCore.{PlainOp, PlainCounter, PlainComb, inner, PlainCore}
 use Rattle.sp_plan.specs.Bodies.{are_times_right}
-use Rattle.sp_plan.specs.Groups.{have_one_linear_part, Apart, are_grouped, AreSeparated}
+use Rattle.sp_plan.specs.Groups.{have_one_linear_part, Apart, are_grouped, AreSeparated, Separated}
 use Rattle.sp_plan.specs.Orders.{op_at}
 use Rattle.sp_plan.specs.PlainPlan.{inner_plan, PlainPlan}
 use Rattle.sp_plan.specs.Ports.{share_port, is_serial}
+use Rattle.sp_plan.specs.Validity.{schemes_of, kind_rule, time_rule, group_rule}
 use Rattle.sp_time.specs.Lists.{Each, Pairs}
 use Rattle.sp_words.specs.declared.kind.Kind.{Kind}
 use Rattle.sp_machine.specs.InOrder.{IsPlaced}
 use Rattle.sp_machine.specs.Laws.{told}
 use Rattle.sp_machine.specs.Stamps.{Copies}
-use Rattle.sp_machine.specs.Timeline.{body_events}
+use Rattle.sp_machine.specs.Timeline.{body_events, timed}
 use Rattle.sp_machine.specs.Transfers.{Delays}
 use Rattle.sp_ports.specs.Banks.{AreInOneBank, IsAtForms, ShareNoPort}
 
@@ -57,3 +61,21 @@ BodiesShareNoPort core plan delays =
     → Each (λ s. IsAtForms core forms symbols s.moment) (body_events core plan delays (inner_plan times ii latency serial) copies k number 0 st owned ops values groups)
     → are_met core meets (events_of (told (body_events core plan delays (inner_plan times ii latency serial) copies k number 0 st owned ops values groups))) ≡ true
     → Pairs (ShareNoPort core forms schemes) (body_events core plan delays (inner_plan times ii latency serial) copies k number 0 st owned ops values groups)
+
+-- what the rules of cores and of plans say of one inner body, by the number of the node and that of its first operation
+pub record IsInnerRight (core : PlainCore) (forms : PlainForms) (meets : List Meet) (plan : PlainPlan) (around : Around) (k n : ℕ) (counters : List PlainCounter) (owned : List ℕ) (ops : List PlainOp) (comb : Option PlainComb) : Type 0 where
+    pub bounds : list_all (is_counter_right core around) counters ≡ true
+    pub kind : kind_rule core forms meets plan k n false (inner counters owned ops comb) ≡ true
+    pub timed : time_rule core forms meets plan k n false (inner counters owned ops comb) ≡ true
+    pub grouped : group_rule core forms meets plan k n false (inner counters owned ops comb) ≡ true
+    pub separated : Separated core forms (schemes_of plan) n (inner counters owned ops comb)
+
+-- then nothing that happens in a run of it, its bounds among it, shares a port of a bank, other than as one tap
+abbrev pub InnersShareNoPort : PlainCore → PlainPlan → Delays → Type 0
+InnersShareNoPort core plan delays =
+    (forms : PlainForms) (meets : List Meet) (symbols : List At → ℕ → ℤ) (around : Around) (k n : ℕ) (st : Standing) (copies : Copies)
+    (counters : List PlainCounter) (owned : List ℕ) (ops : List PlainOp) (comb : Option PlainComb) (bs : List Bounds) (counts : List ℕ) (groups : List (List Entry))
+    → IsPlaced core k st → IsInnerRight core forms meets plan around k n counters owned ops comb
+    → Each (λ s. IsAtForms core forms symbols s.moment) (timed core plan delays (inner counters owned ops comb) k n st copies (inner_ran bs counts groups)).events
+    → are_met core meets (events_of (told (timed core plan delays (inner counters owned ops comb) k n st copies (inner_ran bs counts groups)).events)) ≡ true
+    → Pairs (ShareNoPort core forms (schemes_of plan)) (timed core plan delays (inner counters owned ops comb) k n st copies (inner_ran bs counts groups)).events

@@ -3,7 +3,7 @@
 ghost use Rattle.sp_core.specs.PlainCore.{PlainCore};
 ghost use Rattle.sp_machine.specs.Transfers.{Delays};
 ghost use Rattle.sp_plan.specs.PlainPlan.{PlainPlan};
-ghost use Rattle.sp_ports.specs.Laws.{BodiesShareNoPort, PortsTakeTurns, SchemesKeepApart};
+ghost use Rattle.sp_ports.specs.Laws.{BodiesShareNoPort, InnersShareNoPort, PortsTakeTurns, SchemesKeepApart};
 
 /// Two accesses whose forms differ in their constants alone, and whose constants a scheme keeps apart, are in one bank only
 /// where they are at one element, whatever the counters and the symbol are.
@@ -20,4 +20,9 @@ pub fn ports_take_turns()
 /// In an inner body no two accesses share a port of a bank, other than two reads that are one tap.
 pub fn bodies_share_no_port()
     ensures { (core : PlainCore) (plan : PlainPlan) (delays : Delays) → BodiesShareNoPort core plan delays }
+{}
+
+/// Nor do they in a whole run of an inner body, with its bounds, by the rules of a valid plan.
+pub fn inner_bodies_share_no_port()
+    ensures { (core : PlainCore) (plan : PlainPlan) (delays : Delays) → InnersShareNoPort core plan delays }
 {}
