@@ -15,7 +15,7 @@ use Rattle.sp_core.specs.History.{Entry, left_out, gave, touched, Bounds}
 use Rattle.sp_core.specs.Meeting.{is_met, are_met}
 use Rattle.sp_core.specs.Numbering.{counters_size}
 use Rattle.sp_core.specs.OperationRules.{is_early_kind, is_early_at, is_early, is_bound, is_counter_right}
-use Rattle.sp_core.specs.PlainCore.{PlainOp, PlainCounter, PlainComb, inner, PlainCore}
+use Rattle.sp_core.specs.PlainCore.{PlainOp, PlainCounter, inner, PlainCore}
 use Rattle.sp_core.specs.Scope.{in_lanes, loops_of, group_values}
 use Rattle.sp_plan.specs.PlainPlan.{PlainNodePlan, inner_plan, outer_plan, other_plan, PlainPlan, node_plan}
 use Rattle.sp_plan.specs.Ports.{has_banks}
@@ -113,23 +113,31 @@ met_last core meets copies cycle (slices x ∷ ms) rest h = met_last core meets 
 met_last core meets copies cycle (renews m ∷ ms) rest h = met_last core meets copies cycle ms rest h
 met_last core meets copies cycle (keeps m w ∷ ms) rest h = met_last core meets copies cycle ms rest h
 
-pub inners_share_no_port : (core : PlainCore) (plan : PlainPlan) (delays : Delays) → InnersShareNoPort core plan delays
-inners_share_no_port core plan delays forms meets symbols around k n st copies counters owned ops comb bs counts groups placed w at met =
+-- by what is known of the body alone
+pub inner_shares_none : (core : PlainCore) (plan : PlainPlan) (delays : Delays) (forms : PlainForms) (meets : List Meet) (symbols : List At → ℕ → ℤ) (around : Around) (k n : ℕ) (st : Standing) (copies : Copies)
+    (counters : List PlainCounter) (owned : List ℕ) (ops : List PlainOp) (comb : Option ℕ) (bs : List Bounds) (groups : List (List Entry)) → IsPlaced core k st → IsInnerRight core forms meets plan around k n counters owned ops comb
+    → Each (λ s. IsAtForms core forms symbols s.moment) (stamped copies 0 (bounds_moments n (inside_at st k before []) counters bs) ++ body_events core plan delays (node_plan plan k) copies k (n + counters_size counters) 0 st owned ops (group_values (loops_of in_lanes counters bs)) groups)
+    → are_met core meets (events_of (told (body_events core plan delays (node_plan plan k) copies k (n + counters_size counters) 0 st owned ops (group_values (loops_of in_lanes counters bs)) groups))) ≡ true
+    → Pairs (ShareNoPort core forms (schemes_of plan)) (stamped copies 0 (bounds_moments n (inside_at st k before []) counters bs) ++ body_events core plan delays (node_plan plan k) copies k (n + counters_size counters) 0 st owned ops (group_values (loops_of in_lanes counters bs)) groups)
+inner_shares_none core plan delays forms meets symbols around k n st copies counters owned ops comb bs groups placed w at met =
     after_bounds core forms (schemes_of plan) copies 0 bounds _ (bounds_ports core around n (inside_at st k before []) counters bs w.bounds)
-    (by_plan (node_plan plan k) w.kind w.timed (each_last (λ s. IsAtForms core forms symbols s.moment) (stamped copies 0 bounds) _ at) (met_last core meets copies 0 bounds _ met))
+    (by_plan (node_plan plan k) w.kind w.timed (each_last (λ s. IsAtForms core forms symbols s.moment) (stamped copies 0 bounds) _ at) met)
   where
     bounds : List Moment
     bounds = bounds_moments n (inside_at st k before []) counters bs
 
-    values : List (List ℤ)
-    values = group_values (loops_of in_lanes counters bs)
-
-    abbrev happens : PlainNodePlan → List Stamped
-    happens p = body_events core plan delays p copies k (n + counters_size counters) 0 st owned ops values groups
+    happens : PlainNodePlan → List Stamped
+    happens p = body_events core plan delays p copies k (n + counters_size counters) 0 st owned ops (group_values (loops_of in_lanes counters bs)) groups
 
     by_plan : (p : PlainNodePlan) → is_kind_of (inner counters owned ops comb) p ≡ true → is_timed core forms meets plan n false (inner counters owned ops comb) p ≡ true
         → Each (λ s. IsAtForms core forms symbols s.moment) (happens p) → are_met core meets (events_of (told (happens p))) ≡ true → Pairs (ShareNoPort core forms (schemes_of plan)) (happens p)
     by_plan (inner_plan times ii latency serial) e t a m =
-        bodies_share_no_port core plan delays forms (schemes_of plan) meets symbols k (n + counters_size counters) st copies owned ops times ii latency serial values groups placed t w.grouped w.separated a m
+        bodies_share_no_port core plan delays forms (schemes_of plan) meets symbols k (n + counters_size counters) st copies owned ops times ii latency serial (group_values (loops_of in_lanes counters bs)) groups placed t w.grouped w.separated a m
     by_plan (outer_plan slots chains) e t a m = absurd (false≢true e)
     by_plan other_plan e t a m = absurd (false≢true e)
+
+unfolding timed
+pub inners_share_no_port : (core : PlainCore) (plan : PlainPlan) (delays : Delays) → InnersShareNoPort core plan delays
+inners_share_no_port core plan delays forms meets symbols around k n st copies counters owned ops comb bs counts groups placed w at met =
+    inner_shares_none core plan delays forms meets symbols around k n st copies counters owned ops comb bs groups placed w at
+    (met_last core meets copies 0 (bounds_moments n (inside_at st k before []) counters bs) _ met)

@@ -2,3 +2,4 @@ pub mod Linear
 pub mod Turns
 pub mod Bodies
 pub mod Inners
+pub mod Whole

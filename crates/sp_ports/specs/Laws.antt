@@ -10,7 +10,7 @@ use Rattle.sp_core.specs.Forms.{PlainForms, are_indices}
 use Rattle.sp_core.specs.History.{Entry, Bounds, inner_ran}
 use Rattle.sp_core.specs.Meeting.{are_met}
 use Rattle.sp_core.specs.OperationRules.{is_counter_right}
-use Rattle.sp_core.specs.PlainCore.{PlainOp, PlainCounter, PlainComb, inner, PlainCore}
+use Rattle.sp_core.specs.PlainCore.{PlainOp, PlainCounter, inner, PlainCore}
 use Rattle.sp_plan.specs.Bodies.{are_times_right}
 use Rattle.sp_plan.specs.Groups.{have_one_linear_part, Apart, are_grouped, AreSeparated, Separated}
 use Rattle.sp_plan.specs.Orders.{op_at}
@@ -63,7 +63,7 @@ BodiesShareNoPort core plan delays =
     → Pairs (ShareNoPort core forms schemes) (body_events core plan delays (inner_plan times ii latency serial) copies k number 0 st owned ops values groups)
 
 -- what the rules of cores and of plans say of one inner body, by the number of the node and that of its first operation
-pub record IsInnerRight (core : PlainCore) (forms : PlainForms) (meets : List Meet) (plan : PlainPlan) (around : Around) (k n : ℕ) (counters : List PlainCounter) (owned : List ℕ) (ops : List PlainOp) (comb : Option PlainComb) : Type 0 where
+pub record IsInnerRight (core : PlainCore) (forms : PlainForms) (meets : List Meet) (plan : PlainPlan) (around : Around) (k n : ℕ) (counters : List PlainCounter) (owned : List ℕ) (ops : List PlainOp) (comb : Option ℕ) : Type 0 where
     pub bounds : list_all (is_counter_right core around) counters ≡ true
     pub kind : kind_rule core forms meets plan k n false (inner counters owned ops comb) ≡ true
     pub timed : time_rule core forms meets plan k n false (inner counters owned ops comb) ≡ true
@@ -74,7 +74,7 @@ pub record IsInnerRight (core : PlainCore) (forms : PlainForms) (meets : List Me
 abbrev pub InnersShareNoPort : PlainCore → PlainPlan → Delays → Type 0
 InnersShareNoPort core plan delays =
     (forms : PlainForms) (meets : List Meet) (symbols : List At → ℕ → ℤ) (around : Around) (k n : ℕ) (st : Standing) (copies : Copies)
-    (counters : List PlainCounter) (owned : List ℕ) (ops : List PlainOp) (comb : Option PlainComb) (bs : List Bounds) (counts : List ℕ) (groups : List (List Entry))
+    (counters : List PlainCounter) (owned : List ℕ) (ops : List PlainOp) (comb : Option ℕ) (bs : List Bounds) (counts : List ℕ) (groups : List (List Entry))
     → IsPlaced core k st → IsInnerRight core forms meets plan around k n counters owned ops comb
     → Each (λ s. IsAtForms core forms symbols s.moment) (timed core plan delays (inner counters owned ops comb) k n st copies (inner_ran bs counts groups)).events
     → are_met core meets (events_of (told (timed core plan delays (inner counters owned ops comb) k n st copies (inner_ran bs counts groups)).events)) ≡ true

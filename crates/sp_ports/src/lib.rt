@@ -4,4 +4,7 @@
 
 mod laws;
 
-pub use laws::{bodies_share_no_port, inner_bodies_share_no_port, ports_take_turns, schemes_keep_apart};
+pub use laws::{
+    bodies_share_no_port, inner_bodies_share_no_port, planned_inner_bodies_share_no_port,
+    ports_take_turns, schemes_keep_apart,
+};
