@@ -14,6 +14,8 @@ use Rattle.sp_core.specs.Events.{Act, reads, writes, puts, takes, resets, turns,
 use Rattle.sp_core.specs.Forms.{PlainForms, form_at, are_indices, are_known_indices}
 use Rattle.sp_core.specs.History.{Entry, left_out, gave, touched}
 use Rattle.sp_core.specs.Meeting.{changes, element, is_one_element, are_met}
+use Rattle.sp_core.specs.Numbered.{Numbered, plain, accesses, list_numbers, numbered}
+use Rattle.sp_core.specs.OperationRules.{is_access}
 use Rattle.sp_core.specs.PlainCore.{PlainOp, PlainCore}
 use Rattle.sp_core.specs.Sequential.{has_reset}
 use Rattle.sp_plan.specs.Bodies.{are_times_right}
@@ -29,9 +31,10 @@ use Rattle.sp_machine.specs.Stamps.{Stamped, Copies, stamped, list_stamped}
 use Rattle.sp_machine.specs.Timeline.{body_events, issued}
 use Rattle.sp_machine.specs.Transfers.{Delays}
 use Rattle.sp_machine.proofs.InnerOrder.{bodies_in_order}
-use Rattle.sp_ports.specs.Banks.{is_one_port, AreInOneBank, AreInBank, AreAtOnePort, SharePort, AreOneTap, IsAtForms, ShareNoPort}
+use Rattle.sp_ports.specs.Banks.{is_one_port, AreInOneBank, AreInBank, AreAtOnePort, SharePort, AreOneTap, IsAtForms, IsAtOwnForms, ShareNoPort}
 use Rattle.sp_ports.specs.Laws.{IsLaterOperation, BodiesShareNoPort}
 use Rattle.sp_ports.proofs.Linear.{schemes_keep_apart}
+use Rattle.sp_ports.proofs.Numbers.{AreNumbered, list_many}
 use Rattle.sp_ports.proofs.Turns.{and_true, all_below, ports_take_turns}
 
 -- the port of an act, and of the operation that does it
@@ -299,7 +302,7 @@ module _ (core : PlainCore) (forms : PlainForms) (schemes : List (Option Banking
   ops_share h j g r s t a b p =
       and_true (ports.is_one_port (op_at core ops j).kind (op_at core ops r).kind && is_one_mem (op_at core ops j).mem (op_at core ops r).mem) (is_in_banks core (op_at core ops j).mem)
       (and_true (ports.is_one_port (op_at core ops j).kind (op_at core ops r).kind) (is_one_mem (op_at core ops j).mem (op_at core ops r).mem)
-      (by_one_port (op_at core ops j).kind (op_at core ops r).kind a.word b.word a.event.act b.event.act a.act b.act p.2.0)
+      (by_one_port (op_at core ops j).kind (op_at core ops r).kind a.word b.word a.event.act b.event.act a.act b.act p.2)
       (subst (λ m. is_one_mem m (op_at core ops r).mem ≡ true) (sym a.mem) (subst (λ m. is_one_mem (Some a.event.mem) m ≡ true) (sym b.mem) (eq-eqb _ _ p.0))))
       (subst (λ m. is_in_banks core m ≡ true) (sym a.mem) p.1)
 
@@ -361,7 +364,7 @@ module _ (core : PlainCore) (forms : PlainForms) (schemes : List (Option Banking
 
   one_tap : (h j g r : ℕ) → Later h (suc j) g r → (s t : Stamped) (a : Touch h j s) (b : Touch g r t) → AtForms a.event → AtForms b.event → AreInOrder core s t → s.cycle ≡ t.cycle → s.copy ≡ t.copy
       → AreAtOnePort core schemes (touches a.event) (touches b.event) → AreOneTap core forms (touches a.event) (touches b.event)
-  one_tap h j g r later s t a b p q order c copy port = reading (of_one_port a.event.act b.event.act port.2.0)
+  one_tap h j g r later s t a b p q order c copy port = reading (of_one_port a.event.act b.event.act port.2)
     where
       here : AreInGroup h j g r s t a b
       here = in_group h j g r later s t a b c port
@@ -377,7 +380,7 @@ module _ (core : PlainCore) (forms : PlainForms) (schemes : List (Option Banking
 
       same : (here.first ≡ here.second) × (a.event.indices ≡ b.event.indices)
       same = schemes_keep_apart core forms (mem core a.event.mem).kind here.scheme here.first here.second a.event.indices b.event.indices a.event.standing.counters (symbols a.event.standing.path) here.linear here.apart first_at second_at
-          (subst (λ o. AreInBank (mem core a.event.mem).kind o a.event.indices b.event.indices) here.is_scheme port.2.1)
+          (subst (λ o. AreInBank (mem core a.event.mem).kind o a.event.indices b.event.indices) here.is_scheme port.3)
 
       one_form : form_at core forms a.event.number ≡ form_at core forms b.event.number
       one_form = ap (form_at core forms) a.numbered ∙ here.is_first ∙ ap Some same.0 ∙ sym here.is_second ∙ ap (form_at core forms) (sym b.numbered)
@@ -422,6 +425,50 @@ bodies_share_no_port core plan delays forms schemes meets symbols k number st co
     all_shared core forms schemes meets symbols number standing_of ops times ii latency serial right grouped separated _
     (body_rises core number standing_of ops times ii plan delays latency serial copies k 0 st owned values groups (λ m l. refl)) at
     (bodies_in_order core plan delays schemes meets k number st copies owned ops times ii latency serial values groups placed right met)
+  where
+    standing_of : ℕ → Standing
+    standing_of g = inside_at st k (in_group_of g 0) (slice_index_or values g [])
+
+-- the accesses of a body are at their forms, where those of operations are
+act_is_access : (kd : OpKind) (w : ℕ) (a : Act) → act_of kd w ≡ Some a → is_access kd ≡ true
+act_is_access kind.Read w a e = refl
+act_is_access kind.Write w a e = refl
+act_is_access kind.Enq w a e = refl
+act_is_access kind.Deq w a e = refl
+act_is_access kind.Reset w a e = refl
+act_is_access kd w a e = absurd (false≢true (ap is_some e))
+
+number_at : (core : PlainCore) (ops : List PlainOp) (i : ℕ) → i < length ops → slice_index_or (list_numbers ops) i plain ≡ cond (is_access (op_at core ops i).kind) accesses plain
+number_at core [] i l = absurd (omega (arith, l))
+number_at core (op ∷ ops) zero l = refl
+number_at core (op ∷ ops) (suc i) l = number_at core ops i (omega (arith, l))
+
+module _ (core : PlainCore) (forms : PlainForms) (symbols : List At → ℕ → ℤ) (number : ℕ) (standing_of : ℕ → Standing) (ops : List PlainOp) (times : List ℕ) (ii : ℕ) (numbered_right : AreNumbered core number (list_numbers ops)) where
+  at_touch : (g i : ℕ) (s : Stamped) → IsTouch core number standing_of ops times ii g i s → IsAtOwnForms core forms symbols s.moment → IsAtForms core forms symbols s.moment
+  at_touch g i s a own = subst (IsAtForms core forms symbols) (sym a.is) (subst (IsAtOwnForms core forms symbols) a.is own is_one)
+    where
+      is_one : numbered core a.event.number ≡ accesses
+      is_one =
+          ap (numbered core) a.numbered ∙ numbered_right i (let e : length (list_numbers ops) ≡ length ops = list_many ops in let l : i < length ops = a.inside in omega arith) ∙ number_at core ops i a.inside
+          ∙ ap (λ b. cond b accesses plain) (act_is_access (op_at core ops i).kind a.word a.event.act a.act)
+
+  at_none : (m : Moment) → IsNone m → IsAtForms core forms symbols m
+  at_none (touches e) n = absurd n
+  at_none (slices x) n = tt
+  at_none (renews x) n = tt
+  at_none (keeps x w) n = tt
+
+  at_own : (g i : ℕ) (xs : List Stamped) → Rising core number standing_of ops times ii g i xs → Each (λ s. IsAtOwnForms core forms symbols s.moment) xs → Each (λ s. IsAtForms core forms symbols s.moment) xs
+  at_own g i [] r h = tt
+  at_own g i (x ∷ xs) (inl r) h = (at_none x.moment r.0, at_own g i xs r.1 h.1)
+  at_own g i (x ∷ xs) (inr r) h = (at_touch r.0 r.1 x r.3 h.0, at_own r.0 (suc r.1) xs r.4 h.1)
+
+pub body_at_forms : (core : PlainCore) (plan : PlainPlan) (delays : Delays) (forms : PlainForms) (symbols : List At → ℕ → ℤ) (k number : ℕ) (st : Standing) (copies : Copies) (owned : List ℕ) (ops : List PlainOp) (times : List ℕ) (ii latency : ℕ) (serial : Bool) (values : List (List ℤ)) (groups : List (List Entry))
+    → AreNumbered core number (list_numbers ops)
+    → Each (λ s. IsAtOwnForms core forms symbols s.moment) (body_events core plan delays (inner_plan times ii latency serial) copies k number 0 st owned ops values groups)
+    → Each (λ s. IsAtForms core forms symbols s.moment) (body_events core plan delays (inner_plan times ii latency serial) copies k number 0 st owned ops values groups)
+body_at_forms core plan delays forms symbols k number st copies owned ops times ii latency serial values groups right at =
+    at_own core forms symbols number standing_of ops times ii right 0 0 _ (body_rises core number standing_of ops times ii plan delays latency serial copies k 0 st owned values groups (λ m l. refl)) at
   where
     standing_of : ℕ → Standing
     standing_of g = inside_at st k (in_group_of g 0) (slice_index_or values g [])

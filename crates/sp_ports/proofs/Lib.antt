@@ -3,3 +3,4 @@ pub mod Turns
 pub mod Bodies
 pub mod Inners
 pub mod Whole
+pub mod Numbers

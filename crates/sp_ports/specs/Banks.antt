@@ -6,6 +6,7 @@ use Rattle.sp_core.specs.Declarations.{mem}
 use Rattle.sp_core.specs.Events.{Act, reads, writes, At, Moment, touches}
 use Rattle.sp_core.specs.Forms.{PlainForms, are_known_indices, form_at}
 use Rattle.sp_core.specs.Meeting.{changes}
+use Rattle.sp_core.specs.Numbered.{accesses, numbered}
 use Rattle.sp_core.specs.PlainCore.{PlainCore}
 use Rattle.sp_plan.specs.Ports.{has_banks, scheme_at}
 use Rattle.sp_words.specs.declared.kind.Kind.{Kind}
@@ -54,6 +55,11 @@ module _ (core : PlainCore) (forms : PlainForms) where
   abbrev pub IsAtForms : (symbols : List At → ℕ → ℤ) → Moment → Type 0
   IsAtForms symbols (touches e) = are_known_indices core forms (form_at core forms e.number) (map pos e.indices) e.standing.counters (symbols e.standing.path) ≡ true
   IsAtForms symbols _ = Unit {0}
+
+  -- the same where it is an operation's: the forms of a transfer are of its slice
+  abbrev pub IsAtOwnForms : (symbols : List At → ℕ → ℤ) → Moment → Type 0
+  IsAtOwnForms symbols (touches e) = numbered core e.number ≡ accesses → IsAtForms symbols (touches e)
+  IsAtOwnForms symbols _ = Unit {0}
 
 -- no two of these share a port of a bank, other than as one tap
 abbrev pub ShareNoPort : PlainCore → PlainForms → List (Option Banking) → Stamped → Stamped → Type 0

@@ -15,7 +15,7 @@ use Rattle.sp_machine.specs.Stamps.{Copies}
 use Rattle.sp_machine.specs.Timeline.{timed, in_copies}
 use Rattle.sp_machine.specs.Transfers.{Delays}
 use Rattle.sp_overlap.specs.Whole.{HasPlan}
-use Rattle.sp_ports.specs.Banks.{IsAtForms, ShareNoPort}
+use Rattle.sp_ports.specs.Banks.{IsAtOwnForms, ShareNoPort}
 
 module _ (core : PlainCore) (plan : PlainPlan) (delays : Delays) (forms : PlainForms) where
   -- each run of an inner body in a run of a node
@@ -47,9 +47,9 @@ module _ (core : PlainCore) (plan : PlainPlan) (delays : Delays) (forms : PlainF
     TurnsShareNone start test body next k n t st copies (more_turn es h ns rest) =
         InnersShareNone body (suc k) (n + (length start + length test)) (inside_at st k (in_turn t) []) copies h × TurnsShareNone start test body next k n (suc t) st copies rest
 
--- where the events of a run stand in the meets, and its accesses are at their forms, symbols with one word in each group
+-- where the events of a run stand in the meets, and the accesses of its operations are at their forms, symbols with one word in each group
 abbrev pub PlannedInnersShareNoPort : PlainCore → PlainPlan → Delays → Type 0
 PlannedInnersShareNoPort core plan delays =
     (forms : PlainForms) (meets : List Meet) (symbols : List At → ℕ → ℤ) → HasPlan core forms meets plan → (h : History)
-    → are_met core meets (events_of (core_moments core in_lanes h)) ≡ true → Each (IsAtForms core forms symbols) (core_moments core in_lanes h)
+    → are_met core meets (events_of (core_moments core in_lanes h)) ≡ true → Each (IsAtOwnForms core forms symbols) (core_moments core in_lanes h)
     → InnersShareNone core plan delays forms core.root 0 0 (record { path = []; counters = [] }) (λ m. 0) h
