@@ -13,6 +13,7 @@ use Rattle.sp_core.specs.Events.{At, Standing, inside_at, before, Event, Moment,
 use Rattle.sp_core.specs.Forms.{PlainForms}
 use Rattle.sp_core.specs.History.{Entry, left_out, gave, touched, Bounds}
 use Rattle.sp_core.specs.Meeting.{is_met, are_met}
+use Rattle.sp_core.specs.Numbered.{list_numbers}
 use Rattle.sp_core.specs.Numbering.{counters_size}
 use Rattle.sp_core.specs.OperationRules.{is_early_kind, is_early_at, is_early, is_bound, is_counter_right}
 use Rattle.sp_core.specs.PlainCore.{PlainOp, PlainCounter, inner, PlainCore}
@@ -28,9 +29,10 @@ use Rattle.sp_machine.specs.Laws.{told}
 use Rattle.sp_machine.specs.Stamps.{Stamped, Copies, stamp, stamped}
 use Rattle.sp_machine.specs.Timeline.{body_events}
 use Rattle.sp_machine.specs.Transfers.{Delays}
-use Rattle.sp_ports.specs.Banks.{AreAtOnePort, SharePort, IsAtForms, ShareNoPort}
+use Rattle.sp_ports.specs.Banks.{AreAtOnePort, SharePort, IsAtForms, IsAtOwnForms, ShareNoPort}
 use Rattle.sp_ports.specs.Laws.{IsInnerRight, InnersShareNoPort}
-use Rattle.sp_ports.proofs.Bodies.{bodies_share_no_port}
+use Rattle.sp_ports.proofs.Bodies.{bodies_share_no_port, body_at_forms}
+use Rattle.sp_ports.proofs.Numbers.{AreNumbered}
 
 -- a moment that uses no port of a memory with banks
 abbrev pub HasNoPort : PlainCore → Moment → Type 0
@@ -116,12 +118,12 @@ met_last core meets copies cycle (keeps m w ∷ ms) rest h = met_last core meets
 -- by what is known of the body alone
 pub inner_shares_none : (core : PlainCore) (plan : PlainPlan) (delays : Delays) (forms : PlainForms) (meets : List Meet) (symbols : List At → ℕ → ℤ) (around : Around) (k n : ℕ) (st : Standing) (copies : Copies)
     (counters : List PlainCounter) (owned : List ℕ) (ops : List PlainOp) (comb : Option ℕ) (bs : List Bounds) (groups : List (List Entry)) → IsPlaced core k st → IsInnerRight core forms meets plan around k n counters owned ops comb
-    → Each (λ s. IsAtForms core forms symbols s.moment) (stamped copies 0 (bounds_moments n (inside_at st k before []) counters bs) ++ body_events core plan delays (node_plan plan k) copies k (n + counters_size counters) 0 st owned ops (group_values (loops_of in_lanes counters bs)) groups)
+    → Each (λ s. IsAtForms core forms symbols s.moment) (body_events core plan delays (node_plan plan k) copies k (n + counters_size counters) 0 st owned ops (group_values (loops_of in_lanes counters bs)) groups)
     → are_met core meets (events_of (told (body_events core plan delays (node_plan plan k) copies k (n + counters_size counters) 0 st owned ops (group_values (loops_of in_lanes counters bs)) groups))) ≡ true
     → Pairs (ShareNoPort core forms (schemes_of plan)) (stamped copies 0 (bounds_moments n (inside_at st k before []) counters bs) ++ body_events core plan delays (node_plan plan k) copies k (n + counters_size counters) 0 st owned ops (group_values (loops_of in_lanes counters bs)) groups)
 inner_shares_none core plan delays forms meets symbols around k n st copies counters owned ops comb bs groups placed w at met =
     after_bounds core forms (schemes_of plan) copies 0 bounds _ (bounds_ports core around n (inside_at st k before []) counters bs w.bounds)
-    (by_plan (node_plan plan k) w.kind w.timed (each_last (λ s. IsAtForms core forms symbols s.moment) (stamped copies 0 bounds) _ at) met)
+    (by_plan (node_plan plan k) w.kind w.timed at met)
   where
     bounds : List Moment
     bounds = bounds_moments n (inside_at st k before []) counters bs
@@ -136,8 +138,20 @@ inner_shares_none core plan delays forms meets symbols around k n st copies coun
     by_plan (outer_plan slots chains) e t a m = absurd (false≢true e)
     by_plan other_plan e t a m = absurd (false≢true e)
 
+-- and by plans of its kind
+pub body_forms : (core : PlainCore) (plan : PlainPlan) (delays : Delays) (forms : PlainForms) (meets : List Meet) (symbols : List At → ℕ → ℤ) (around : Around) (k n : ℕ) (st : Standing) (copies : Copies)
+    (counters : List PlainCounter) (owned : List ℕ) (ops : List PlainOp) (comb : Option ℕ) (values : List (List ℤ)) (groups : List (List Entry)) → (p : PlainNodePlan) → is_kind_of (inner counters owned ops comb) p ≡ true
+    → AreNumbered core (n + counters_size counters) (list_numbers ops)
+    → Each (λ s. IsAtOwnForms core forms symbols s.moment) (body_events core plan delays p copies k (n + counters_size counters) 0 st owned ops values groups)
+    → Each (λ s. IsAtForms core forms symbols s.moment) (body_events core plan delays p copies k (n + counters_size counters) 0 st owned ops values groups)
+body_forms core plan delays forms meets symbols around k n st copies counters owned ops comb values groups (inner_plan times ii latency serial) e right at =
+    body_at_forms core plan delays forms symbols k (n + counters_size counters) st copies owned ops times ii latency serial values groups right at
+body_forms core plan delays forms meets symbols around k n st copies counters owned ops comb values groups (outer_plan slots chains) e right at = absurd (false≢true e)
+body_forms core plan delays forms meets symbols around k n st copies counters owned ops comb values groups other_plan e right at = absurd (false≢true e)
+
 unfolding timed
 pub inners_share_no_port : (core : PlainCore) (plan : PlainPlan) (delays : Delays) → InnersShareNoPort core plan delays
 inners_share_no_port core plan delays forms meets symbols around k n st copies counters owned ops comb bs counts groups placed w at met =
-    inner_shares_none core plan delays forms meets symbols around k n st copies counters owned ops comb bs groups placed w at
+    inner_shares_none core plan delays forms meets symbols around k n st copies counters owned ops comb bs groups placed w
+    (each_last (λ s. IsAtForms core forms symbols s.moment) (stamped copies 0 (bounds_moments n (inside_at st k before []) counters bs)) _ at)
     (met_last core meets copies 0 (bounds_moments n (inside_at st k before []) counters bs) _ met)

@@ -10,6 +10,7 @@ use Rattle.sp_core.specs.History.{Entry, last_word, Bounds, History, Groups, Run
 use Rattle.sp_core.specs.Invariant.{owned_in, IsRight, AreRight}
 use Rattle.sp_core.specs.Meeting.{are_met}
 use Rattle.sp_core.specs.NodeRules.{with_state}
+use Rattle.sp_core.specs.Numbered.{list_numbers, counters_numbers, numbers, stages_numbers, numbered}
 use Rattle.sp_core.specs.Numbering.{counters_size, node_count, number_count}
 use Rattle.sp_core.specs.PlainCore.{PlainOp, PlainCounter, PlainNode, PlainStages, inner, outer, fsm, branch, load, store, sparse, no_stage, more_stage, PlainCore}
 use Rattle.sp_core.specs.Scope.{in_lanes, loops_of, group_values}
@@ -30,10 +31,11 @@ use Rattle.sp_machine.proofs.Told.{told_node}
 use Rattle.sp_overlap.specs.Whole.{IsTimed, AreTimed, HasPlan}
 use Rattle.sp_overlap.proofs.Planned.{Holds, AllHold, outer_holds, fsm_holds, branch_holds, stage_holds}
 use Rattle.sp_overlap.proofs.Whole.{plans_are_sound}
-use Rattle.sp_ports.specs.Banks.{IsAtForms, ShareNoPort}
+use Rattle.sp_ports.specs.Banks.{IsAtOwnForms, ShareNoPort}
 use Rattle.sp_ports.specs.Laws.{IsInnerRight}
 use Rattle.sp_ports.specs.Whole.{InnersShareNone, GroupsShareNone, StagesShareNone, TurnsShareNone, PlannedInnersShareNoPort}
-use Rattle.sp_ports.proofs.Inners.{inner_shares_none}
+use Rattle.sp_ports.proofs.Inners.{inner_shares_none, body_forms}
+use Rattle.sp_ports.proofs.Numbers.{AreNumbered, numbered_left, numbered_right, list_many, two_many, counters_many, node_many}
 
 each_split : {A : Type 0} (Q : A → Type 0) (a b : List A) → Each Q (a ++ b) → Each Q a × Each Q b
 each_split Q [] b h = (tt, h)
@@ -41,7 +43,7 @@ each_split Q (x ∷ a) b h = let r = each_split Q a b h.1 in ((h.0, r.0), r.1)
 
 module _ (core : PlainCore) (forms : PlainForms) (meets : List Meet) (plan : PlainPlan) (delays : Delays) (symbols : List At → ℕ → ℤ) where
   abbrev AtForms : Stamped → Type 0
-  AtForms s = IsAtForms core forms symbols s.moment
+  AtForms s = IsAtOwnForms core forms symbols s.moment
 
   at_moved : (n : ℕ) (xs : List Stamped) → Each AtForms (later n xs) → Each AtForms xs
   at_moved n [] h = tt
@@ -50,7 +52,7 @@ module _ (core : PlainCore) (forms : PlainForms) (meets : List Meet) (plan : Pla
   at_then : (a b : Run Stamped) → Each AtForms (a ▸ b).events → Each AtForms a.events × Each AtForms b.events
   at_then a b h = let q = each_split AtForms a.events (later a.took b.events) h in (q.0, at_moved a.took b.events q.1)
 
-  from_told : (xs : List Stamped) → Each (IsAtForms core forms symbols) (told xs) → Each AtForms xs
+  from_told : (xs : List Stamped) → Each (IsAtOwnForms core forms symbols) (told xs) → Each AtForms xs
   from_told [] h = tt
   from_told (x ∷ xs) h = (h.0, from_told xs h.1)
 
@@ -80,6 +82,7 @@ module _ (core : PlainCore) (forms : PlainForms) (meets : List Meet) (plan : Pla
     pub times : Holds (time_rule core forms meets plan) k n node
     pub groups : Holds (group_rule core forms meets plan) k n node
     pub separated : Separated core forms (schemes_of plan) n node
+    pub numbered : AreNumbered core n (numbers node)
 
   record AllKeep (stages : PlainStages) (k n : ℕ) (around : Around) (earlier : List ℕ) : Type 0 where
     pub right : AreRight core around earlier stages
@@ -88,6 +91,7 @@ module _ (core : PlainCore) (forms : PlainForms) (meets : List Meet) (plan : Pla
     pub times : AllHold (time_rule core forms meets plan) k n stages
     pub groups : AllHold (group_rule core forms meets plan) k n stages
     pub separated : StagesSeparated core forms (schemes_of plan) n stages
+    pub numbered : AreNumbered core n (stages_numbers stages)
 
   outer_keeps : (counters : List PlainCounter) (style : Style) (owned : List ℕ) (stages : PlainStages) (k n : ℕ) (around : Around) (earlier : List ℕ) → Keeps (outer counters style owned stages) k n around earlier
       → AllKeep stages (suc k) (n + counters_size counters) (within around counters owned) (earlier ++ owned)
@@ -98,6 +102,7 @@ module _ (core : PlainCore) (forms : PlainForms) (meets : List Meet) (plan : Pla
     times = (outer_holds (time_rule core forms meets plan) k n counters style owned stages w.timed.0 w.times).1;
     groups = (outer_holds (group_rule core forms meets plan) k n counters style owned stages w.timed.0 w.groups).1;
     separated = w.separated;
+    numbered = numbered_right core n (n + counters_size counters) (counters_numbers counters) (stages_numbers stages) (ap (λ x. n + x) (counters_many counters)) w.numbered;
   }
 
   first_keeps : (first last : ℕ) (comb : Bool) (node : PlainNode) (rest : PlainStages) (k n : ℕ) (around : Around) (earlier : List ℕ) → AllKeep (more_stage first last comb node rest) k n around earlier → Keeps node k n around earlier
@@ -108,6 +113,7 @@ module _ (core : PlainCore) (forms : PlainForms) (meets : List Meet) (plan : Pla
     times = (stage_holds (time_rule core forms meets plan) k n first last comb node rest w.times).0;
     groups = (stage_holds (group_rule core forms meets plan) k n first last comb node rest w.groups).0;
     separated = w.separated.0;
+    numbered = numbered_left core n (numbers node) (stages_numbers rest) w.numbered;
   }
 
   rest_keeps : (first last : ℕ) (comb : Bool) (node : PlainNode) (rest : PlainStages) (k n : ℕ) (around : Around) (earlier : List ℕ) → AllKeep (more_stage first last comb node rest) k n around earlier
@@ -119,6 +125,7 @@ module _ (core : PlainCore) (forms : PlainForms) (meets : List Meet) (plan : Pla
     times = (stage_holds (time_rule core forms meets plan) k n first last comb node rest w.times).1;
     groups = (stage_holds (group_rule core forms meets plan) k n first last comb node rest w.groups).1;
     separated = w.separated.1;
+    numbered = numbered_right core n (n + number_count node) (numbers node) (stages_numbers rest) (ap (λ x. n + x) (node_many node)) w.numbered;
   }
 
   body_keeps : (start : List PlainOp) (state : ℕ) (test : List PlainOp) (body : PlainNode) (next : List PlainOp) (k n : ℕ) (around : Around) (earlier : List ℕ) → Keeps (fsm start state test body next) k n around earlier
@@ -130,6 +137,8 @@ module _ (core : PlainCore) (forms : PlainForms) (meets : List Meet) (plan : Pla
     times = fsm_holds (time_rule core forms meets plan) k n start state test body next w.times;
     groups = fsm_holds (group_rule core forms meets plan) k n start state test body next w.groups;
     separated = w.separated;
+    numbered = numbered_left core (n + (length start + length test)) (numbers body) (list_numbers next)
+        (numbered_right core n (n + (length start + length test)) (list_numbers start ++ list_numbers test) (numbers body ++ list_numbers next) (ap (λ x. n + x) (two_many start test)) w.numbered);
   }
 
   left_keeps : (test : List PlainOp) (first second : PlainNode) (k n : ℕ) (around : Around) (earlier : List ℕ) → Keeps (branch test first second) k n around earlier → Keeps first (suc k) (n + length test) around earlier
@@ -140,6 +149,8 @@ module _ (core : PlainCore) (forms : PlainForms) (meets : List Meet) (plan : Pla
     times = (branch_holds (time_rule core forms meets plan) k n test first second w.times).0;
     groups = (branch_holds (group_rule core forms meets plan) k n test first second w.groups).0;
     separated = w.separated.0;
+    numbered = numbered_left core (n + length test) (numbers first) (numbers second)
+        (numbered_right core n (n + length test) (list_numbers test) (numbers first ++ numbers second) (ap (λ x. n + x) (list_many test)) w.numbered);
   }
 
   right_keeps : (test : List PlainOp) (first second : PlainNode) (k n : ℕ) (around : Around) (earlier : List ℕ) → Keeps (branch test first second) k n around earlier
@@ -151,6 +162,8 @@ module _ (core : PlainCore) (forms : PlainForms) (meets : List Meet) (plan : Pla
     times = here (time_rule core forms meets plan) (branch_holds (time_rule core forms meets plan) k n test first second w.times).1;
     groups = here (group_rule core forms meets plan) (branch_holds (group_rule core forms meets plan) k n test first second w.groups).1;
     separated = subst (λ x. Separated core forms (schemes_of plan) x second) same w.separated.1;
+    numbered = numbered_right core (n + length test) (n + (length test + number_count first)) (numbers first) (numbers second) (let e : length (numbers first) ≡ number_count first = node_many first in omega arith)
+        (numbered_right core n (n + length test) (list_numbers test) (numbers first ++ numbers second) (ap (λ x. n + x) (list_many test)) w.numbered);
   }
     where
       same : (n + length test) + number_count first ≡ n + (length test + number_count first)
@@ -165,8 +178,12 @@ module _ (core : PlainCore) (forms : PlainForms) (meets : List Meet) (plan : Pla
     node_shares_none : (node : PlainNode) (k n : ℕ) (st : Standing) (copies : Copies) (h : History) (around : Around) (earlier : List ℕ) → Keeps node k n around earlier → IsSound core plan delays (schemes_of plan) meets node k n st copies h
         → Each AtForms (timed core plan delays node k n st copies h).events → InnersShareNone core plan delays forms node k n st copies h
     node_shares_none (inner counters owned ops comb) k n st copies (inner_ran bs counts groups) around earlier w sound at =
+        let values = group_values (loops_of in_lanes counters bs) in
         inner_shares_none core plan delays forms meets symbols around k n st copies counters owned ops comb bs groups sound.1
-        (record { bounds = (and_parts _ _ (and_parts _ _ (and_parts _ _ w.right).0).0).1; kind = w.kinds; timed = w.times; grouped = w.groups; separated = w.separated }) at sound.3
+        (record { bounds = (and_parts _ _ (and_parts _ _ (and_parts _ _ w.right).0).0).1; kind = w.kinds; timed = w.times; grouped = w.groups; separated = w.separated })
+        (body_forms core plan delays forms meets symbols around k n st copies counters owned ops comb values groups (node_plan plan k) w.kinds
+        (numbered_right core n (n + counters_size counters) (counters_numbers counters) (list_numbers ops) (ap (λ x. n + x) (counters_many counters)) w.numbered)
+        (each_split AtForms (stamped copies 0 (bounds_moments n (inside_at st k before []) counters bs)) (body_events core plan delays (node_plan plan k) copies k (n + counters_size counters) 0 st owned ops values groups) at).1) sound.3
     node_shares_none (outer counters style owned stages) k n st copies (outer_ran bs counts groups) around earlier w sound at =
         let values = group_values (loops_of in_lanes counters bs) in
         let runs = group_runs core plan delays stages k (n + counters_size counters) 0 st owned copies values groups in
@@ -227,10 +244,10 @@ module _ (core : PlainCore) (forms : PlainForms) (meets : List Meet) (plan : Pla
 pub planned_inners_share_no_port : (core : PlainCore) (plan : PlainPlan) (delays : Delays) → PlannedInnersShareNoPort core plan delays
 planned_inners_share_no_port core plan delays forms meets symbols w h met at =
     node_shares_none core forms meets plan delays symbols core.root 0 0 start (λ m. 0) h nothing [] keeps (plans_are_sound core plan delays forms meets w h met)
-    (from_told core forms meets plan delays symbols (core_timed core plan delays h).events (subst (Each (IsAtForms core forms symbols)) (sym (told_node core plan delays core.root 0 0 start (λ m. 0) h)) at))
+    (from_told core forms meets plan delays symbols (core_timed core plan delays h).events (subst (Each (IsAtOwnForms core forms symbols)) (sym (told_node core plan delays core.root 0 0 start (λ m. 0) h)) at))
   where
     start : Standing
     start = record { path = []; counters = [] }
 
     keeps : Keeps core forms meets plan delays symbols core.root 0 0 nothing []
-    keeps = record { right = w.is_core.nodes; timed = w.is_timed; kinds = w.valid.kinds; times = w.valid.times; groups = w.valid.groups; separated = w.valid.separated }
+    keeps = record { right = w.is_core.nodes; timed = w.is_timed; kinds = w.valid.kinds; times = w.valid.times; groups = w.valid.groups; separated = w.valid.separated; numbered = λ i l. ap (numbered core) (let e : 0 + i ≡ i = omega arith in e) }
