@@ -2,4 +2,4 @@ use Rattle.sp_ports.proofs.Linear.{schemes_keep_apart}
 use Rattle.sp_ports.proofs.laws.schemes_keep_apart.Goals as goal
 
 pub returns : goal.returns
-returns = schemes_keep_apart
+returns c = schemes_keep_apart
