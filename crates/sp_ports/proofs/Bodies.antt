@@ -246,8 +246,8 @@ with_each {A = A} P R Q f [] e p = tt
 with_each {A = A} P R Q f (x ∷ xs) e p = (all xs e.1 p.0, with_each P R Q f xs e.1 p.1)
   where
     all : (ys : List A) → Each P ys → Each (R x) ys → Each (Q x) ys
-    all [] e r = tt
-    all (y ∷ ys) e r = (f x y e.0 e.0 r.0, all ys e.1 r.1)
+    all [] g r = tt
+    all (y ∷ ys) g r = (f x y e.0 g.0 r.0, all ys g.1 r.1)
 
 both_pairs : {A : Type 0} (R Q : A → A → Type 0) (xs : List A) → Pairs R xs → Pairs Q xs → Pairs (λ x y. R x y × Q x y) xs
 both_pairs R Q [] p q = tt
@@ -423,7 +423,7 @@ module _ (core : PlainCore) (forms : PlainForms) (schemes : List (Option Banking
 pub bodies_share_no_port : (core : PlainCore) (plan : PlainPlan) (delays : Delays) → BodiesShareNoPort core plan delays
 bodies_share_no_port core plan delays forms schemes meets symbols k number st copies owned ops times ii latency serial values groups placed right grouped separated at met =
     all_shared core forms schemes meets symbols number standing_of ops times ii latency serial right grouped separated _
-    (body_rises core number standing_of ops times ii plan delays latency serial copies k 0 st owned values groups (λ m l. refl)) at
+    (body_rises core number standing_of ops times ii plan delays latency serial copies k 0 st owned values groups (λ m l. let q : 0 + m ≡ m = omega arith in ap (λ n. inside_at st k (in_group_of (0 + m) 0) (slice_index_or values n [])) q)) at
     (bodies_in_order core plan delays schemes meets k number st copies owned ops times ii latency serial values groups placed right met)
   where
     standing_of : ℕ → Standing
@@ -468,7 +468,7 @@ pub body_at_forms : (core : PlainCore) (plan : PlainPlan) (delays : Delays) (for
     → Each (λ s. IsAtOwnForms core forms symbols s.moment) (body_events core plan delays (inner_plan times ii latency serial) copies k number 0 st owned ops values groups)
     → Each (λ s. IsAtForms core forms symbols s.moment) (body_events core plan delays (inner_plan times ii latency serial) copies k number 0 st owned ops values groups)
 body_at_forms core plan delays forms symbols k number st copies owned ops times ii latency serial values groups right at =
-    at_own core forms symbols number standing_of ops times ii right 0 0 _ (body_rises core number standing_of ops times ii plan delays latency serial copies k 0 st owned values groups (λ m l. refl)) at
+    at_own core forms symbols number standing_of ops times ii right 0 0 _ (body_rises core number standing_of ops times ii plan delays latency serial copies k 0 st owned values groups (λ m l. let q : 0 + m ≡ m = omega arith in ap (λ n. inside_at st k (in_group_of (0 + m) 0) (slice_index_or values n [])) q)) at
   where
     standing_of : ℕ → Standing
     standing_of g = inside_at st k (in_group_of g 0) (slice_index_or values g [])

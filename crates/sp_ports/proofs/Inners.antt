@@ -44,12 +44,12 @@ none_append core [] b h k = k
 none_append core (x ∷ a) b h k = (h.0, none_append core a b h.1 k)
 
 -- bounds read no memory with banks
-early_read : (k : Kind) → is_early_kind kind.Read k ≡ true → has_banks k ≡ false
-early_read kinds.Sram h = absurd (false≢true h)
-early_read kinds.LineBuf h = absurd (false≢true h)
-early_read k h = refl
-
 module _ (core : PlainCore) (around : Around) where
+  early_read : (k : Kind) → is_early_kind core around kind.Read k ≡ true → has_banks k ≡ false
+  early_read kinds.Sram h = absurd (false≢true h)
+  early_read kinds.LineBuf h = absurd (false≢true h)
+  early_read k h = refl
+
   entry_ports : (n : ℕ) (st : Standing) (op : OpKind) (m : Option ℕ) (e : Entry) → is_early_at core around op m ≡ true → Each (HasNoPort core) (entry_moments n st op m e)
   entry_ports n st op m left_out h = tt
   entry_ports n st op m (gave w) h = tt
@@ -149,8 +149,8 @@ body_forms core plan delays forms meets symbols around k n st copies counters ow
 body_forms core plan delays forms meets symbols around k n st copies counters owned ops comb values groups (outer_plan slots chains) e right at = absurd (false≢true e)
 body_forms core plan delays forms meets symbols around k n st copies counters owned ops comb values groups other_plan e right at = absurd (false≢true e)
 
-unfolding timed
 pub inners_share_no_port : (core : PlainCore) (plan : PlainPlan) (delays : Delays) → InnersShareNoPort core plan delays
+unfolding timed
 inners_share_no_port core plan delays forms meets symbols around k n st copies counters owned ops comb bs counts groups placed w at met =
     inner_shares_none core plan delays forms meets symbols around k n st copies counters owned ops comb bs groups placed w
     (each_last (λ s. IsAtForms core forms symbols s.moment) (stamped copies 0 (bounds_moments n (inside_at st k before []) counters bs)) _ at)

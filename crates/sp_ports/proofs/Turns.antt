@@ -34,33 +34,28 @@ flat_append : {A B : Type 0} (f : A → List B) (xs ys : List A) → flat_map f 
 flat_append f [] ys = refl
 flat_append f (x ∷ xs) ys = ap (λ l. f x ++ l) (flat_append f xs ys) ∙ sym (append_assoc (f x) (flat_map f xs) (flat_map f ys))
 
+-- at the last number, or before it
+at_or_before : (C : Type 0) (i n : ℕ) → i < suc n → (i ≡ n → C) → (i < n → C) → C
+at_or_before C i n l here before = by (i == n) refl
+  where
+    smaller : (i ≡ n → ⊥) → i < n
+    smaller d = omega (arith, l, d)
+
+    by : (b : Bool) → (i == n) ≡ b → C
+    by true e = here (eqb-true i n e)
+    by false e = before (smaller (λ s. true≢false (sym (eq-eqb i n s) ∙ e)))
+
 pub all_below : (q : ℕ → Bool) (n i : ℕ) → list_all q (numbers_below n) ≡ true → i < n → q i ≡ true
 all_below q zero i h l = absurd (omega (arith, l))
-all_below q (suc n) i h l = at_last (i == n) refl
-  where
-    parts : (list_all q (numbers_below n) ≡ true) × (list_all q (n ∷ []) ≡ true)
-    parts = all_append q (numbers_below n) (n ∷ []) h
-
-    at_last : (b : Bool) → (i == n) ≡ b → q i ≡ true
-    at_last true e = ap q (eqb-true i n e) ∙ (and_parts (q n) true parts.1).0
-    at_last false e = all_below q n i parts.0 (smaller (λ s. true≢false (sym (eq-eqb i n s) ∙ e)))
-      where
-        smaller : (i ≡ n → ⊥) → i < n
-        smaller d = omega (arith, l, d)
+all_below q (suc n) i h l =
+    let parts = all_append q (numbers_below n) (n ∷ []) h in
+    at_or_before (q i ≡ true) i n l (λ e. ap q e ∙ (and_parts (q n) true parts.1).0) (λ s. all_below q n i parts.0 s)
 
 made_below : {B : Type 0} (p : B → Bool) (f : ℕ → List B) (n i : ℕ) → list_all p (flat_map f (numbers_below n)) ≡ true → i < n → list_all p (f i) ≡ true
 made_below p f zero i h l = absurd (omega (arith, l))
-made_below p f (suc n) i h l = at_last (i == n) refl
-  where
-    parts : (list_all p (flat_map f (numbers_below n)) ≡ true) × (list_all p (flat_map f (n ∷ [])) ≡ true)
-    parts = all_append p (flat_map f (numbers_below n)) (flat_map f (n ∷ [])) (ap (list_all p) (sym (flat_append f (numbers_below n) (n ∷ []))) ∙ h)
-
-    at_last : (b : Bool) → (i == n) ≡ b → list_all p (f i) ≡ true
-    at_last true e = ap (λ k. list_all p (f k)) (eqb-true i n e) ∙ (all_append p (f n) [] parts.1).0
-    at_last false e = made_below p f n i parts.0 (smaller (λ s. true≢false (sym (eq-eqb i n s) ∙ e)))
-      where
-        smaller : (i ≡ n → ⊥) → i < n
-        smaller d = omega (arith, l, d)
+made_below p f (suc n) i h l =
+    let parts = all_append p (flat_map f (numbers_below n)) (flat_map f (n ∷ [])) (ap (list_all p) (sym (flat_append f (numbers_below n) (n ∷ []))) ∙ h) in
+    at_or_before (list_all p (f i) ≡ true) i n l (λ e. ap (λ k. list_all p (f k)) e ∙ (all_append p (f n) [] parts.1).0) (λ s. made_below p f n i parts.0 s)
 
 -- two accesses share a port whichever is named first
 one_port_turned : (a b : OpKind) → is_one_port a b ≡ true → is_one_port b a ≡ true
@@ -68,7 +63,7 @@ one_port_turned kind.Read kind.Read h = refl
 one_port_turned kind.Write kind.Write h = refl
 one_port_turned a b h = absurd (false≢true h)
 
-and_true : (x y : Bool) → x ≡ true → y ≡ true → (x && y) ≡ true
+pub and_true : (x y : Bool) → x ≡ true → y ≡ true → (x && y) ≡ true
 and_true true y e f = f
 and_true false y e f = e
 
