@@ -27,7 +27,7 @@ use Rattle.sp_words.specs.declared.kind.Kind.TheVariants as kinds
 use Rattle.sp_machine.specs.InOrder.{IsPlaced}
 use Rattle.sp_machine.specs.Laws.{told}
 use Rattle.sp_machine.specs.Stamps.{Stamped, Copies, stamp, stamped}
-use Rattle.sp_machine.specs.Timeline.{body_events}
+use Rattle.sp_machine.specs.Timeline.{timed, body_events}
 use Rattle.sp_machine.specs.Transfers.{Delays}
 use Rattle.sp_ports.specs.Banks.{AreAtOnePort, SharePort, IsAtForms, IsAtOwnForms, ShareNoPort}
 use Rattle.sp_ports.specs.Laws.{IsInnerRight, InnersShareNoPort}
