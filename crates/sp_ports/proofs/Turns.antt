@@ -214,7 +214,7 @@ module _ (core : PlainCore) (schemes : List (Option Banking)) (meets : List Meet
       places zero zero = inr (inr refl)
       places zero (suc r) = inl (omega arith)
       places (suc j) zero = inr (inl (omega arith))
-      places (suc j) (suc r) = elim (places j r) [ | inl a ↦ inl (omega (arith, a)) | inr (inl b) ↦ inr (inl (omega (arith, b))) | inr (inr e) ↦ inr (inr (ap suc e)) ]
+      places (suc j) (suc r) = elim (places j r) [ inl a ↦ inl (omega (arith, a)) | inr (inl b) ↦ inr (inl (omega (arith, b))) | inr (inr e) ↦ inr (inr (ap suc e)) ]
 
       choose : (j < r) ⊎ ((r < j) ⊎ (j ≡ r)) → ⊥
       choose (inl a) = none_in_order h j g r some l (ordered kept j r a q share) c

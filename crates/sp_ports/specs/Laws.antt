@@ -64,11 +64,11 @@ BodiesShareNoPort core plan delays =
 
 -- what the rules of cores and of plans say of one inner body, by the number of the node and that of its first operation
 pub record IsInnerRight (core : PlainCore) (forms : PlainForms) (meets : List Meet) (plan : PlainPlan) (around : Around) (k n : ℕ) (counters : List PlainCounter) (owned : List ℕ) (ops : List PlainOp) (comb : Option ℕ) : Type 0 where
-    pub bounds : list_all (is_counter_right core around) counters ≡ true
-    pub kind : kind_rule core forms meets plan k n false (inner counters owned ops comb) ≡ true
-    pub timed : time_rule core forms meets plan k n false (inner counters owned ops comb) ≡ true
-    pub grouped : group_rule core forms meets plan k n false (inner counters owned ops comb) ≡ true
-    pub separated : Separated core forms (schemes_of plan) n (inner counters owned ops comb)
+  pub bounds : list_all (is_counter_right core around) counters ≡ true
+  pub kind : kind_rule core forms meets plan k n false (inner counters owned ops comb) ≡ true
+  pub timed : time_rule core forms meets plan k n false (inner counters owned ops comb) ≡ true
+  pub grouped : group_rule core forms meets plan k n false (inner counters owned ops comb) ≡ true
+  pub separated : Separated core forms (schemes_of plan) n (inner counters owned ops comb)
 
 -- then nothing that happens in a run of it, its bounds among it, shares a port of a bank, other than as one tap
 abbrev pub InnersShareNoPort : PlainCore → PlainPlan → Delays → Type 0
