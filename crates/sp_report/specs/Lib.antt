@@ -1,0 +1,3 @@
+pub mod Memories
+pub mod Nodes
+pub mod Report
