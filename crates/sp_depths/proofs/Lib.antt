@@ -1,0 +1,3 @@
+pub mod Outer
+pub mod Owned
+pub mod Some
