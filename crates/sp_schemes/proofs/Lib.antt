@@ -1,0 +1,14 @@
+pub mod Begun
+pub mod Bodies
+pub mod Counts
+pub mod Few
+pub mod Flat
+pub mod Found
+pub mod Grouping
+pub mod Joint
+pub mod Lists
+pub mod Ports
+pub mod Rows
+pub mod Sizes
+pub mod Together
+pub mod Trees

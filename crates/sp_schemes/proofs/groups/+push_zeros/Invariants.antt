@@ -1,0 +1,4 @@
+use Rattle.sp_schemes.proofs.groups.+push_zeros.Given as goal
+
+abbrev pub decreases-push_zeros : goal.decreases-push_zeros
+decreases-push_zeros l = l.count
