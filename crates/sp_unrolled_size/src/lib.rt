@@ -3,4 +3,4 @@
 
 mod laws;
 
-pub use laws::programs_stay_small;
+pub use laws::{programs_stay_small, worked_weights};
