@@ -11,6 +11,7 @@ ghost use Rattle.sp_outcomes.specs.Laws.{EndsAs};
 ghost use Rattle.sp_laned.specs.Laws.{MayHaveLanes};
 ghost use Rattle.sp_laned.specs.Marks.{IsLaned};
 ghost use Rattle.sp_laned.specs.Weights.{IsLight};
+ghost use Rattle.sp_proper.specs.Laws.{AreStreamsProper};
 
 use crate::NoMemory;
 use crate::tree::alone;
@@ -18,6 +19,7 @@ use sp_core::{Core, CoreError, CoreMem, Node, wrong_cores_are_shown};
 use sp_laned::{programs_are_laned, programs_are_light, programs_have_lanes};
 use sp_operations::push_written;
 use sp_outcomes::programs_are_followed;
+use sp_proper::stream_blocks_are_proper;
 use sp_sugar::programs_become_cores;
 use sp_tree::Program;
 use sp_words::{PortDecl, Ports};
@@ -103,7 +105,8 @@ fn defined_core(alloc: Global, program: &Program) -> Result<Core, NoMemory>
 /// added; its ports; and its block as a tree of loops and transfers over lists of operations, before its lanes stand one
 /// after the other. Where the program ends, its core ends with the same words, and counts as much. No combination owns a
 /// memory; only the last counter of a controller has several lanes; a combination stands where it is marked, and nothing
-/// else in its loop names its accumulator; and the core is small enough for its lanes to stand one after the other.
+/// else in its loop names its accumulator; the core is small enough for its lanes to stand one after the other; and each of
+/// its stream blocks is proper.
 pub fn desugar(alloc: Global, program: &Program) -> Result<Core, NoMemory>
     ensures core { IfOk result (λ core. plain_core core ≡ core_of (plain_program program.now)) }
     ensures ports { IfOk result (λ core. core.ports ≡ program.now.ports) }
@@ -111,10 +114,12 @@ pub fn desugar(alloc: Global, program: &Program) -> Result<Core, NoMemory>
     ensures lanes { IfOk result (λ core. MayHaveLanes (plain_core core)) }
     ensures marks { IfOk result (λ core. IsLaned (plain_core core) (plain_core core).root) }
     ensures light { IfOk result (λ core. IsLight (plain_core core)) }
+    ensures proper { IfOk result (λ core. AreStreamsProper (plain_core core)) }
 {
     programs_are_followed();
     programs_have_lanes();
     programs_are_laned();
     programs_are_light();
+    stream_blocks_are_proper();
     defined_core(alloc, program)
 }

@@ -1,0 +1,12 @@
+pub mod Forests
+pub mod Deeds
+pub mod RunDeeds
+pub mod Counting
+pub mod Plain
+pub mod Stages
+pub mod Acts
+pub mod Lists
+pub mod Block
+pub mod Sites
+pub mod Walk
+pub mod Whole
