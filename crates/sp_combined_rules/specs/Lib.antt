@@ -1,0 +1,3 @@
+pub mod Laws
+pub mod Meetings
+pub mod Standing

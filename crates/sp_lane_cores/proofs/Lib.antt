@@ -1,0 +1,5 @@
+pub mod Apart
+pub mod Forms
+pub mod Laned
+pub mod Near
+pub mod Whole
