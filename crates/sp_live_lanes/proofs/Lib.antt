@@ -1,0 +1,7 @@
+pub mod Accesses
+pub mod Along
+pub mod Copies
+pub mod Counters
+pub mod Lane
+pub mod Operations
+pub mod Whole
