@@ -1,0 +1,5 @@
+mod Distance
+mod Free
+mod Later
+mod Parallel
+mod Reach
