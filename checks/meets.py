@@ -1,0 +1,98 @@
+#!/usr/bin/env python3
+"""Rows of worked distances of accesses that have counters of their own, for the tests of sp_meets.
+
+Each class of distances is asked as checks/distances.py asks it. Beside that, every row whose ranges are known is compared
+with the loops run group by group: where two accesses touch one element, the distance given is no greater.
+
+    checks/meets.py > rows      prints the rows, always the same ones
+    checks/meets.py --check     compares them with those that stand in the tests
+"""
+import os, random, sys
+
+from distances import FAR, Access, can, draw_coefs, draw_form, draw_loop, least_touch, may
+
+MOST = 400
+
+
+def distance(a, b, outer, common, first, second):
+    """None for never."""
+    asked = lambda kind: may(a, b, outer, common, first, second, kind)
+    if not common:
+        return 0 if asked("same") else None
+    if any(asked(("earlier", i)) for i in range(len(common) - 1)):
+        return 1
+    known = a.forms is not None and b.forms is not None
+    parallel = known and all(f.coefs == g.coefs and f.symbol == g.symbol for f, g in zip(a.forms, b.forms))
+    for t in range(1, MOST if parallel else FAR):
+        if asked(("steps", t)):
+            return t
+    return None if parallel else FAR
+
+
+def draw_own(r):
+    """Counters of an access's own; one of them may have no known range."""
+    return [draw_loop(r, 0.8) for _ in range(r.choice([1, 1, 2]))]
+
+
+def draw_own_coefs(r, own):
+    """A counter without a known range counts once, and one at most does."""
+    coefs, open_one = [], True
+    for l in own:
+        if l.low is not None:
+            coefs.append(r.choice([0, 1, 1, 2, 3, -1, 6]))
+        else:
+            coefs.append(r.choice([0, 1]) if open_one else 0)
+            open_one = open_one and coefs[-1] == 0
+    return coefs
+
+
+def draw_pair(r, outer, common, first, second, alike):
+    mine, theirs = [], []
+    for _ in range(r.choice([1, 1, 2])):
+        around = draw_coefs(r, outer + len(common))
+        f = draw_form(r, around + draw_own_coefs(r, first))
+        g = draw_form(r, list(f.coefs) if alike else around + draw_own_coefs(r, second))
+        if r.random() < 0.9:
+            g.symbol = f.symbol
+        g.constant = f.constant + r.choice([0, 0, 1, -1, 4, -7, 12, 30])
+        mine.append(f)
+        theirs.append(g)
+    return Access(0, True, mine), Access(0, r.random() < 0.5, theirs)
+
+
+def rows(r, count):
+    made, tally = [], {}
+    while len(made) < count:
+        outer = r.choice([0, 0, 1])
+        common = [draw_loop(r) for _ in range(r.choice([0, 1, 1, 1, 2]))]
+        first = draw_own(r)
+        alike = r.random() < 0.75
+        second = [type(l)(l.low, l.high, l.by, l.par) for l in first] if alike else draw_own(r)
+        a, b = draw_pair(r, outer, common, first, second, alike)
+        want = distance(a, b, outer, common, first, second)
+        kind = "never" if want is None else "far" if want == FAR else min(want, 4)
+        if tally.get(kind, 0) >= count // 4:
+            continue
+        tally[kind] = tally.get(kind, 0) + 1
+        if all(l.low is not None for l in common + first + second):
+            touch = least_touch(a, b, outer, common, first, second)
+            assert touch is None or (want is not None and want <= touch), (a.text(), b.text(), want, touch)
+        loops = lambda ls: " ".join([str(len(ls))] + [l.text() for l in ls])
+        made.append(f"{outer} {loops(common)} {loops(first)} {loops(second)} {a.text()} {b.text()} {'-' if want is None else want}")
+    return made
+
+
+def main():
+    made = rows(random.Random(20251128), 80)
+    if sys.argv[1:] == ["--check"]:
+        here = os.path.dirname(os.path.abspath(__file__))
+        with open(os.path.join(here, "../crates/sp_meets/src/rows.rt")) as f:
+            stands = f.read()
+        missing = [row for row in made if row not in stands]
+        print("the rows stand in the tests" if not missing else f"{len(missing)} rows differ")
+        sys.exit(1 if missing else 0)
+    sys.stdout.write("".join(row + "\n" for row in made))
+
+
+if __name__ == "__main__":
+    main()

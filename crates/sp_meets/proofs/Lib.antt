@@ -1,0 +1,10 @@
+mod Distance
+mod Free
+mod Later
+mod Leasts
+mod Narrow
+mod Pairs
+mod Parallel
+mod Reach
+mod Trees
+mod WalkLemmas

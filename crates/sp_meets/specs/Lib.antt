@@ -1,0 +1,10 @@
+pub mod Around
+pub mod Spots
+pub mod Sites
+pub mod Between
+pub mod Meets
+pub mod Entries
+pub mod Plain
+pub mod Examples
+pub mod Reach
+pub mod Steps

@@ -1,0 +1,60 @@
+-- How many steps of the last counter have to be tried.
+use Rattle.std.specs.Prelude.{◌≡◌, ℕ, ◌+◌, ◌*◌, ◌<◌, ◌≤◌, Bool, true, false, List, [], ◌∷◌, length, Option}
+use Rattle.sp_affine.specs.Affine.{Affine}
+use Rattle.sp_deps.specs.declared.access.Dist.{Dist}
+use Rattle.sp_deps.specs.declared.access.Footprint.{Footprint}
+use Rattle.sp_deps.specs.declared.class.Class.TheVariants.{Steps}
+use Rattle.sp_deps.specs.Access.{PlainAccess}
+use Rattle.sp_deps.specs.declared.access.LoopRange.{LoopRange}
+use Rattle.sp_deps.specs.Classes.{Loops, is_open, is_ruled_out}
+use Rattle.sp_deps.specs.Distances.{ArePresentAndParallel, steps_may_meet, IsDistanceOver}
+use Rattle.sp_deps.specs.Stages.{loops_between, plain_accesses, stages_meet}
+use Rattle.sp_meets.specs.declared.least.Linear.{Linear}
+use Rattle.sp_meets.specs.declared.least.Linear.TheVariants.{Other, Equal, TooMany}
+use Rattle.sp_meets.specs.declared.steps.Tries.{Tries}
+use Rattle.sp_meets.specs.declared.steps.Tries.TheVariants.{Alike, UpTo, Unknown}
+
+abbrev pub loops_of : (common first second : List LoopRange) → Loops
+loops_of common first second = record { common = common; first = first; second = second }
+
+-- of one index: each number of steps does the same, or none past a number is open
+abbrev pub AreTriesOf : Loops → Affine → Affine → Tries → Type 0
+AreTriesOf loops f g Alike = (t : ℕ) → is_ruled_out loops f g (Steps t) ≡ is_ruled_out loops f g (Steps 1)
+AreTriesOf loops f g (UpTo n) = (1 ≤ n) × ((t : ℕ) → n < t → is_ruled_out loops f g (Steps t) ≡ true)
+AreTriesOf loops f g Unknown = Unit {0}
+
+-- of all indices: past that number, one of steps is open only where one step is
+pub record IsMost (loops : Loops) (fs gs : List Affine) (n : ℕ) : Type 0 where
+  pub some : 1 ≤ n
+  pub enough : (t : ℕ) → n < t → is_open loops (Steps t) fs gs ≡ true → is_open loops (Steps 1) fs gs ≡ true
+
+-- so many steps are further than the start and both reaches together
+pub record IsPast (start p q step n : ℕ) : Type 0 where
+  pub some : 1 ≤ n
+  pub past : (t : ℕ) → n < t → start + (p + q) < step * t
+
+-- whether two parts meet so many groups apart, or less
+abbrev pub parts_meet : Footprint → Footprint → ℕ → Bool
+parts_meet a b n = stages_meet (loops_between a b) (plain_accesses a) (plain_accesses b) n
+
+-- the first number from above `low` up to `high` at which two parts meet; where there is none below `high`, that one
+pub record IsFirst (a b : Footprint) (low high n : ℕ) : Type 0 where
+  pub above : low < n
+  pub within : n ≤ high
+  pub meets : n < high → parts_meet a b n ≡ true
+  pub first : (t : ℕ) → 1 ≤ t → t < n → parts_meet a b t ≡ false
+
+-- two parts are one access each
+abbrev pub IsOne : Footprint → PlainAccess → Type 0
+IsOne a x = plain_accesses a ≡ x ∷ []
+
+-- how the linear parts of two accesses are: not equal; equal, where numbers of steps up to this one have to be tried; or equal,
+-- where that isn't known
+abbrev pub IsLinearOf : Loops → Option (List Affine) → Option (List Affine) → Linear → Type 0
+IsLinearOf loops first second Other = ArePresentAndParallel first second → ⊥
+IsLinearOf loops first second (Equal n) = ArePresentAndParallel first second × ((t : ℕ) → n + 1 ≤ t → steps_may_meet loops first second t ≡ true → steps_may_meet loops first second 1 ≡ true) × (1 ≤ n)
+IsLinearOf loops first second TooMany = Unit {0}
+
+-- the distance of two parts of one access each, which can meet
+abbrev pub IsDistanceOf : (a b : Footprint) → (x y : PlainAccess) → Dist → Type 0
+IsDistanceOf a b x y d = IsDistanceOver (loops_between a b) x.forms y.forms (length (loops_between a b).common) d

@@ -1,0 +1,171 @@
+//! The least distance of two accesses that have counters of their own.
+ghost use Rattle.std.specs.Prelude.{◌≡◌, ◌≤◌, ◌<◌, ◌↔◌, ℕ, IsTrue, length, true, false, take, Some, IfSome, if◌then◌else◌};
+ghost use Rattle.std.specs.List.{All};
+ghost use Rattle.sp_deps.specs.Access.{PlainAccess, plain_access, can_meet};
+ghost use Rattle.sp_deps.specs.Bounds.{HasCounters};
+ghost use Rattle.sp_deps.specs.Distances.{AreParallel};
+ghost use Rattle.sp_deps.specs.Stages.{IsFootprint, loops_between};
+ghost use Rattle.sp_meets.specs.Steps.{loops_of, parts_meet, IsFirst, IsOne, IsLinearOf, IsDistanceOf};
+
+use crate::steps::most_tries;
+use sp_affine::Form;
+use sp_deps::{Access, Dist, Footprint, LoopRange, stage_meet};
+
+// The first number of groups past `low`, up to `high`, at which two parts meet.
+#[tactic(auto, using(crate::proofs::Later::parts_apart, crate::proofs::Later::first_below, crate::proofs::Later::first_above, crate::proofs::Later::first_at_end))]
+fn first_between(a: &Footprint, b: &Footprint, low: u64, high: u64) -> u64
+    requires a { IsFootprint a.now }
+    requires b { IsFootprint b.now }
+    requires common { take a.now.common a.now.loops.items ≡ take b.now.common b.now.loops.items }
+    requires room { low < high }
+    requires before { (t : ℕ) → 1 ≤ t → t ≤ low → parts_meet a.now b.now t ≡ false }
+    ensures { IsFirst a.now b.now low high result }
+{
+    if high - low == 1 {
+        return high;
+    }
+    let middle = low + (high - low) / 2;
+    if stage_meet(a, b, middle) {
+        first_between(a, b, low, middle)
+    } else {
+        first_between(a, b, middle, high)
+    }
+}
+
+fn are_parallel(a: &[Form], b: &[Form]) -> bool
+    ensures { IsTrue result ↔ AreParallel a.now b.now }
+{
+    let [f, fs @ ..] = a else {
+        return true;
+    };
+    let [g, gs @ ..] = b else {
+        return true;
+    };
+    f.has_linear_part_of(g) && are_parallel(fs, gs)
+}
+
+/// How the linear parts of two accesses are: not equal; equal, where numbers of steps up to this one have to be tried; or
+/// equal, where that number isn't known.
+#[derive(Clone, Copy, Debug)]
+pub enum Linear {
+    Other,
+    Equal(u64),
+    TooMany,
+}
+
+fn linear_of(
+    a: &[Form],
+    b: &[Form],
+    common: &[LoopRange],
+    first: &[LoopRange],
+    second: &[LoopRange],
+) -> Linear
+    requires a { All (λ f. HasCounters common.now first.now f.coefs) a.now }
+    requires b { All (λ g. HasCounters common.now second.now g.coefs) b.now }
+    ensures { IsLinearOf (loops_of common.now first.now second.now) (Some a.now) (Some b.now) result }
+{
+    if !are_parallel(a, b) {
+        return Linear::Other;
+    }
+    if first.len() != second.len() {
+        return Linear::TooMany;
+    }
+    match most_tries(a, b, common, first, second) {
+        Some(n) => Linear::Equal(n),
+        None => Linear::TooMany,
+    }
+}
+
+fn linear_with(
+    a: &Access,
+    b: &Access,
+    common: &[LoopRange],
+    first: &[LoopRange],
+    second: &[LoopRange],
+) -> Linear
+    requires a { IfSome a.now.forms (λ v. All (λ f. HasCounters common.now first.now f.coefs) v.items) }
+    requires b { IfSome b.now.forms (λ v. All (λ f. HasCounters common.now second.now f.coefs) v.items) }
+    ensures { IsLinearOf (loops_of common.now first.now second.now) (plain_access a.now).forms (plain_access b.now).forms result }
+{
+    match (&a.forms, &b.forms) {
+        (Some(f), Some(g)) => linear_of(f, g, common, first, second),
+        _ => Linear::Other,
+    }
+}
+
+// Where the linear parts are equal.
+fn parallel_distance(a: &Footprint, b: &Footprint, most: u64) -> Option<Dist>
+    requires a { IsFootprint a.now }
+    requires b { IsFootprint b.now }
+    requires common { take a.now.common a.now.loops.items ≡ take b.now.common b.now.loops.items }
+    ensures { (x y : PlainAccess) → IsOne a.now x → IsOne b.now y → can_meet x y ≡ true → 1 ≤ length (loops_between a.now b.now).common
+        → IsLinearOf (loops_between a.now b.now) x.forms y.forms (Equal most) → IfSome result (λ d. IsDistanceOf a.now b.now x y d) }
+{
+    let high = most.checked_add(1)?;
+    let groups = first_between(a, b, 0, high);
+    if groups < high {
+        Some(Dist::AtLeast(groups))
+    } else {
+        Some(Dist::Never)
+    }
+}
+
+// Where they aren't, past 64 steps the two are taken to meet.
+fn slanted_distance(a: &Footprint, b: &Footprint) -> Dist
+    requires a { IsFootprint a.now }
+    requires b { IsFootprint b.now }
+    requires common { take a.now.common a.now.loops.items ≡ take b.now.common b.now.loops.items }
+    ensures { (x y : PlainAccess) → IsOne a.now x → IsOne b.now y → can_meet x y ≡ true → 1 ≤ length (loops_between a.now b.now).common
+        → IsLinearOf (loops_between a.now b.now) x.forms y.forms Other → IsDistanceOf a.now b.now x y result }
+{
+    Dist::AtLeast(first_between(a, b, 0, 65))
+}
+
+// The linear parts of two parts of one access each.
+fn linear_between(a: &Footprint, b: &Footprint) -> Linear
+    requires a { IsFootprint a.now }
+    requires b { IsFootprint b.now }
+    requires common { take a.now.common a.now.loops.items ≡ take b.now.common b.now.loops.items }
+    ensures { (x y : PlainAccess) → IsOne a.now x → IsOne b.now y → IsLinearOf (loops_between a.now b.now) x.forms y.forms result }
+{
+    let [x] = a.accesses.as_slice() else {
+        return Linear::TooMany;
+    };
+    let [y] = b.accesses.as_slice() else {
+        return Linear::TooMany;
+    };
+    let (common, first) = a.loops.split_at(a.common as usize);
+    let (_, second) = b.loops.split_at(b.common as usize);
+    linear_with(x, y, common, first, second)
+}
+
+fn group_distance(a: &Footprint, b: &Footprint) -> Dist
+    requires a { IsFootprint a.now }
+    requires b { IsFootprint b.now }
+    requires common { take a.now.common a.now.loops.items ≡ take b.now.common b.now.loops.items }
+    ensures { result ≡ (if parts_meet a.now b.now 0 then AtLeast 0 else Never) }
+{
+    if stage_meet(a, b, 0) {
+        Dist::AtLeast(0)
+    } else {
+        Dist::Never
+    }
+}
+
+/// The least distance of two parts of one access each, which can meet, over the counters that they have in common. None where
+/// it isn't found: a counter of an access's own, of unknown range, counts more than once, or numbers pass 64 bits.
+pub fn least_distance(a: &Footprint, b: &Footprint) -> Option<Dist>
+    requires a { IsFootprint a.now }
+    requires b { IsFootprint b.now }
+    requires common { take a.now.common a.now.loops.items ≡ take b.now.common b.now.loops.items }
+    ensures { (x y : PlainAccess) → IsOne a.now x → IsOne b.now y → can_meet x y ≡ true → IfSome result (λ d. IsDistanceOf a.now b.now x y d) }
+{
+    if a.common == 0 {
+        return Some(group_distance(a, b));
+    }
+    match linear_between(a, b) {
+        Linear::Other => Some(slanted_distance(a, b)),
+        Linear::Equal(most) => parallel_distance(a, b, most),
+        Linear::TooMany => None,
+    }
+}

@@ -1,0 +1,183 @@
+//! How many steps of the last counter have to be tried to find the first one at which two accesses may meet, where their
+//! linear parts are equal.
+ghost use Rattle.std.specs.Prelude.{◌≡◌, ◌≤◌, ◌<◌, ◌+◌, ◌*ℤ◌, ℕ, pos, length, unsigned_abs, Some, IfSome};
+ghost use Rattle.std.specs.List.{All};
+ghost use Rattle.sp_deps.specs.Access.{advance};
+ghost use Rattle.sp_deps.specs.Bounds.{HasCounters};
+ghost use Rattle.sp_deps.specs.Classes.{of_common, of_own, last_step};
+ghost use Rattle.sp_deps.specs.Distances.{AreParallel};
+ghost use Rattle.sp_meets.specs.Reach.{part_reach, reach, is_free, has_free};
+ghost use Rattle.sp_meets.specs.Steps.{loops_of, AreTriesOf, IsMost, IsPast};
+
+use sp_affine::Form;
+use sp_deps::LoopRange;
+
+/// Of one index: each number of steps does the same; or numbers up to this one have to be tried; or it isn't known, since a
+/// counter without a range counts several times, or numbers pass 64 bits.
+#[derive(Clone, Copy, Debug)]
+pub enum Tries {
+    Alike,
+    UpTo(u64),
+    Unknown,
+}
+
+/// The coefficients of a loop's counters, and those of the access's own.
+#[derive(Clone, Copy, Debug)]
+struct Coefs<'a> {
+    common: &'a [i64],
+    own: &'a [i64],
+}
+
+fn parts<'a>(coefs: &'a [i64], common: &[LoopRange], own: &[LoopRange]) -> Coefs<'a>
+    requires { length common.now + length own.now ≤ length coefs.now }
+    ensures common { result.common.now ≡ of_common common.now own.now coefs.now }
+    ensures own { result.own.now ≡ of_own common.now own.now coefs.now }
+{
+    let (_, inside) = coefs.split_at(coefs.len() - (common.len() + own.len()));
+    let (common, own) = inside.split_at(common.len());
+    Coefs { common, own }
+}
+
+fn part_reach(x: &i64, l: &LoopRange) -> Option<u128>
+    ensures { IfSome result (λ n. part_reach (unsigned_abs x.now) l.now.from ≡ Some n) }
+{
+    let size = u128::from(x.unsigned_abs());
+    match l.from {
+        Some((least, greatest)) => {
+            let end = least.unsigned_abs().max(greatest.unsigned_abs());
+            size.checked_mul(u128::from(end))
+        }
+        None => {
+            if size == 0 {
+                Some(0)
+            } else {
+                None
+            }
+        }
+    }
+}
+
+/// How far counters of an access's own take an index.
+fn reach(coefs: &[i64], loops: &[LoopRange]) -> Option<u128>
+    ensures { IfSome result (λ n. reach coefs.now loops.now ≡ Some n) }
+{
+    let [x, xs @ ..] = coefs else {
+        return Some(0);
+    };
+    let [l, others @ ..] = loops else {
+        return Some(0);
+    };
+    let first = part_reach(x, l)?;
+    let rest = reach(xs, others)?;
+    first.checked_add(rest)
+}
+
+fn is_free(x: &i64, l: &LoopRange) -> bool
+    ensures { result ≡ is_free x.now l.now }
+{
+    l.from.is_none() && x.unsigned_abs() == 1
+}
+
+/// Whether a counter without a known range counts once.
+fn has_free(coefs: &[i64], loops: &[LoopRange]) -> bool
+    ensures { result ≡ has_free coefs.now loops.now }
+{
+    let [x, xs @ ..] = coefs else {
+        return false;
+    };
+    let [l, others @ ..] = loops else {
+        return false;
+    };
+    is_free(x, l) || has_free(xs, others)
+}
+
+/// How far the last counter goes on in a group, times the size of its coefficient.
+fn last_step(b: &[i64], loops: &[LoopRange]) -> u128
+    ensures { result ≡ unsigned_abs (last_step b.now loops.now) }
+{
+    let [y, ys @ ..] = b else {
+        return 0;
+    };
+    let [l, others @ ..] = loops else {
+        return 0;
+    };
+    if ys.is_empty() && others.is_empty() {
+        return far(y, l);
+    }
+    last_step(ys, others)
+}
+
+fn far(y: &i64, l: &LoopRange) -> u128
+    ensures { result ≡ unsigned_abs (y.now *ℤ pos (advance l.now)) }
+{
+    let steps = u64::from(l.by) * u64::from(l.par);
+    u128::from(y.unsigned_abs()) * u128::from(steps)
+}
+
+fn most_steps(start: u64, p: u128, q: u128, step: u128) -> Option<u64>
+    requires { 0 < step }
+    ensures { IfSome result (λ n. IsPast start p q step n) }
+{
+    let reach = p.checked_add(q)?.checked_add(u128::from(start))?;
+    let most = u64::try_from(reach / step).ok()?;
+    Some(most.max(1))
+}
+
+/// Of two indices with equal coefficients, of accesses with as many counters of their own.
+fn tries_of(
+    f: &Form,
+    g: &Form,
+    common: &[LoopRange],
+    first: &[LoopRange],
+    second: &[LoopRange],
+) -> Tries
+    requires f { HasCounters common.now first.now f.now.coefs }
+    requires g { HasCounters common.now second.now g.now.coefs }
+    requires parallel { f.now.coefs ≡ g.now.coefs }
+    requires alike { length first.now ≡ length second.now }
+    ensures { AreTriesOf (loops_of common.now first.now second.now) f.now g.now result }
+{
+    let a = parts(&f.coefs, common, first);
+    let b = parts(&g.coefs, common, second);
+    let step = last_step(b.common, common);
+    if step == 0 || (has_free(a.own, first) || has_free(b.own, second)) {
+        return Tries::Alike;
+    }
+    let Some(p) = reach(a.own, first) else {
+        return Tries::Unknown;
+    };
+    let Some(q) = reach(b.own, second) else {
+        return Tries::Unknown;
+    };
+    match most_steps(f.constant.abs_diff(g.constant), p, q, step) {
+        Some(n) => Tries::UpTo(n),
+        None => Tries::Unknown,
+    }
+}
+
+/// How many steps have to be tried, where that is known.
+pub fn most_tries(
+    a: &[Form],
+    b: &[Form],
+    common: &[LoopRange],
+    first: &[LoopRange],
+    second: &[LoopRange],
+) -> Option<u64>
+    requires a { All (λ f. HasCounters common.now first.now f.coefs) a.now }
+    requires b { All (λ g. HasCounters common.now second.now g.coefs) b.now }
+    requires parallel { AreParallel a.now b.now }
+    requires alike { length first.now ≡ length second.now }
+    ensures { IfSome result (λ n. IsMost (loops_of common.now first.now second.now) a.now b.now n) }
+{
+    let [f, fs @ ..] = a else {
+        return Some(1);
+    };
+    let [g, gs @ ..] = b else {
+        return Some(1);
+    };
+    match tries_of(f, g, common, first, second) {
+        Tries::Alike => most_tries(fs, gs, common, first, second),
+        Tries::UpTo(n) => Some(n),
+        Tries::Unknown => None,
+    }
+}
