@@ -1,5 +1,5 @@
 -- Indices with equal linear parts, of accesses with as many counters of their own: which numbers of steps are ruled out.
-use Rattle.std.proofs.Common.{◌≡◌, ℕ, ◌+◌, ◌-◌, ◌*◌, ◌<◌, ◌≤◌, Bool, true, false, not, ℤ, pos, neg_ℤ, ◌+ℤ◌, ◌-ℤ◌, ◌*ℤ◌, List, [], ◌∷◌, ◌++◌, length, take, drop, refl, ap, sym, ◌∙◌, subst, arith, unsigned_abs}
+use Rattle.std.proofs.Common.{◌≡◌, ℕ, ◌+◌, ◌-◌, ◌*◌, ◌/◌, ◌%◌, ◌<◌, ◌≤◌, ◌&&◌, inl, inr, Bool, true, false, not, ℤ, pos, neg_ℤ, ◌+ℤ◌, ◌-ℤ◌, ◌*ℤ◌, List, [], ◌∷◌, ◌++◌, length, take, drop, refl, ap, sym, ◌∙◌, subst, arith, unsigned_abs}
 use Rattle.std.specs.Prelude.{◌||◌, Some}
 use Rattle.std.proofs.lemmas.Int.{ints, unsigned_abs-mul}
 use Rattle.sp_affine.specs.Affine.{Affine}
@@ -9,7 +9,11 @@ use Rattle.sp_deps.specs.declared.sum.Term.{Term}
 use Rattle.sp_deps.specs.declared.sum.Sum.{Sum}
 use Rattle.sp_deps.specs.Classes.{Loops, outside, shared, own_first, own_second, last_step, of_common, of_outside, of_inside, of_own, is_ruled_out, terms_of, constant_of}
 use Rattle.sp_deps.specs.Sums.{plus, onto, nothing, sum_of, may_be}
+use Rattle.std.proofs.lemmas.Nat.{div-add-mod', mod_below, mul-le}
+use Rattle.sp_meets.specs.declared.steps.Tries.{Tries}
+use Rattle.sp_meets.specs.declared.steps.Tries.TheVariants.{Alike, UpTo, Unknown}
 use Rattle.sp_meets.specs.Reach.{reach, has_free}
+use Rattle.sp_meets.specs.Steps.{loops_of, AreTriesBy, AreTriesOf, IsMost}
 use Rattle.sp_meets.proofs.Reach.{IsBounded, first_bounded, second_bounded, outside_bounded, shared_bounded, nothing_bounded, value_within}
 use Rattle.sp_meets.proofs.Free.{IsAny, onto_any, first_any, second_any, any_number}
 
@@ -66,9 +70,6 @@ size_of_sum : (x y : ℤ) → unsigned_abs y ≤ unsigned_abs x + unsigned_abs (
 size_of_sum x y = omega (arith, ints)
 
 module _ (loops : Loops) (f g : Affine) where
-  step : ℤ
-  step = last_step (of_common loops.common loops.second g.coefs) loops.common
-
   pub past : f.coefs ≡ g.coefs → length loops.first ≡ length loops.second → (p q t : ℕ) →
       reach (of_own loops.common loops.first f.coefs) loops.first ≡ Some p → reach (of_own loops.common loops.second g.coefs) loops.second ≡ Some q →
       unsigned_abs (g.constant -ℤ f.constant) + (p + q) < unsigned_abs (last_step (of_common loops.common loops.second g.coefs) loops.common) * t → is_ruled_out loops f g (Steps t) ≡ true
@@ -109,3 +110,73 @@ module _ (loops : Loops) (f g : Affine) where
 
       flat : (s : ℤ) → unsigned_abs s ≡ 0 → (t u : ℕ) → s *ℤ pos t ≡ s *ℤ pos u
       flat s h t u = ap (λ z. z *ℤ pos t) (no_size s h) ∙ flat_zero t u ∙ ap (λ z. z *ℤ pos u) (sym (no_size s h))
+
+or_right : (a b : Bool) → b ≡ true → (a || b) ≡ true
+or_right true b e = refl
+or_right false b e = e
+
+or_left : (a b : Bool) → a ≡ true → (a || b) ≡ true
+or_left a b e = ap (λ x. x || b) e
+
+pub tries_are : (common first second : List LoopRange) (f g : Affine) (start : ℕ) → start ≡ unsigned_abs (g.constant -ℤ f.constant) → f.coefs ≡ g.coefs → length first ≡ length second →
+    (r : Tries) → AreTriesBy common first second f.coefs g.coefs start r → AreTriesOf (loops_of common first second) f g r
+tries_are common first second f g start s e alike Alike (inl none) = λ t. still (loops_of common first second) f g t 1 none
+tries_are common first second f g start s e alike Alike (inr (inl h)) = λ t. free (loops_of common first second) f g t 1 (or_left _ _ h)
+tries_are common first second f g start s e alike Alike (inr (inr h)) = λ t. free (loops_of common first second) f g t 1 (or_right _ _ h)
+tries_are common first second f g start s e alike (UpTo n) (p, q, h, k, far) =
+    (far.some, λ t more. past (loops_of common first second) f g e alike p q t h k (begun _ _ (p + q) s (far.past t more)))
+  where
+    begun : (a b r : ℕ) {m : ℕ} → a ≡ b → a + r < m → b + r < m
+    begun a b r e h = omega arith
+tries_are common first second f g start s e alike Unknown h = tt
+
+-- of all indices
+pub most_by_one : (loops : Loops) (f g : Affine) (fs gs : List Affine) (n : ℕ) → AreTriesOf loops f g (UpTo n) → IsMost loops (f ∷ fs) (g ∷ gs) n
+most_by_one loops f g fs gs n h = record {
+  some = h.0;
+  enough = λ t more open. absurd (closed _ _ (h.1 t more) open);
+}
+  where
+    closed : (out rest : Bool) → out ≡ true → (not out && rest) ≡ true → ⊥
+    closed true rest e h = no h
+      where
+        no : false ≡ true → ⊥
+        no e = cc
+    closed false rest e h = no e
+      where
+        no : false ≡ true → ⊥
+        no e = cc
+
+pub most_by_rest : (loops : Loops) (f g : Affine) (fs gs : List Affine) (n : ℕ) → AreTriesOf loops f g Alike → IsMost loops fs gs n → IsMost loops (f ∷ fs) (g ∷ gs) n
+most_by_rest loops f g fs gs n h most = record {
+  some = most.some;
+  enough = λ t more open. both _ _ _ _ (h t) (most.enough t more) open;
+}
+  where
+    both : (a b p q : Bool) → a ≡ b → (p ≡ true → q ≡ true) → (not a && p) ≡ true → (not b && q) ≡ true
+    both true b p q e f h = absurd (no h)
+      where
+        no : false ≡ true → ⊥
+        no e = cc
+    both false true p q e f h = absurd (no e)
+      where
+        no : false ≡ true → ⊥
+        no e = cc
+    both false false p q e f h = f h
+
+pub most_of_none : (loops : Loops) (gs : List Affine) → IsMost loops [] gs 1
+most_of_none loops gs = record { some = omega arith; enough = λ t more open. refl }
+
+pub most_of_few : (loops : Loops) (f : Affine) (fs : List Affine) → IsMost loops (f ∷ fs) [] 1
+most_of_few loops f fs = record { some = omega arith; enough = λ t more open. refl }
+
+-- a quotient
+pub past_quotient : (r s t : ℕ) → 0 < s → r / s < t → r < s * t
+past_quotient r s t some less =
+    let split = div-add-mod' r s in
+    let small = mod_below r s some in
+    let more = mul-le (r / s + 1) s t s (omega arith) (omega arith) in
+    joined (r / s) (r % s) s t r split small more
+  where
+    joined : (q m s t r : ℕ) → q * s + m ≡ r → m < s → (q + 1) * s ≤ t * s → r < s * t
+    joined q m s t r e h k = omega arith

@@ -1,14 +1,15 @@
 -- How many steps of the last counter have to be tried.
-use Rattle.std.specs.Prelude.{◌≡◌, ℕ, ◌+◌, ◌*◌, ◌<◌, ◌≤◌, Bool, true, false, List, [], ◌∷◌, length, Option}
+use Rattle.std.specs.Prelude.{◌≡◌, ℕ, ◌+◌, ◌*◌, ◌<◌, ◌≤◌, Bool, true, false, ◌⊎◌, ℤ, List, [], ◌∷◌, length, Option, Some, unsigned_abs}
 use Rattle.sp_affine.specs.Affine.{Affine}
 use Rattle.sp_deps.specs.declared.access.Dist.{Dist}
 use Rattle.sp_deps.specs.declared.access.Footprint.{Footprint}
 use Rattle.sp_deps.specs.declared.class.Class.TheVariants.{Steps}
 use Rattle.sp_deps.specs.Access.{PlainAccess}
 use Rattle.sp_deps.specs.declared.access.LoopRange.{LoopRange}
-use Rattle.sp_deps.specs.Classes.{Loops, is_open, is_ruled_out}
+use Rattle.sp_deps.specs.Classes.{Loops, is_open, is_ruled_out, of_common, of_own, last_step}
 use Rattle.sp_deps.specs.Distances.{ArePresentAndParallel, steps_may_meet, IsDistanceOver}
 use Rattle.sp_deps.specs.Stages.{loops_between, plain_accesses, stages_meet}
+use Rattle.sp_meets.specs.Reach.{reach, has_free}
 use Rattle.sp_meets.specs.declared.least.Linear.{Linear}
 use Rattle.sp_meets.specs.declared.least.Linear.TheVariants.{Other, Equal, TooMany}
 use Rattle.sp_meets.specs.declared.steps.Tries.{Tries}
@@ -23,15 +24,27 @@ AreTriesOf loops f g Alike = (t : ℕ) → is_ruled_out loops f g (Steps t) ≡ 
 AreTriesOf loops f g (UpTo n) = (1 ≤ n) × ((t : ℕ) → n < t → is_ruled_out loops f g (Steps t) ≡ true)
 AreTriesOf loops f g Unknown = Unit {0}
 
--- of all indices: past that number, one of steps is open only where one step is
-pub record IsMost (loops : Loops) (fs gs : List Affine) (n : ℕ) : Type 0 where
-  pub some : 1 ≤ n
-  pub enough : (t : ℕ) → n < t → is_open loops (Steps t) fs gs ≡ true → is_open loops (Steps 1) fs gs ≡ true
-
 -- so many steps are further than the start and both reaches together
 pub record IsPast (start p q step n : ℕ) : Type 0 where
   pub some : 1 ≤ n
   pub past : (t : ℕ) → n < t → start + (p + q) < step * t
+
+-- why that is so: the last counter doesn't count; a free counter makes every number a value; or so many steps are past all that
+-- own counters reach
+module _ (common first second : List LoopRange) (xs ys : List ℤ) (start : ℕ) where
+  abbrev pub AreTriesBy : Tries → Type 0
+  AreTriesBy Alike =
+      (unsigned_abs (last_step (of_common common second ys) common) ≡ 0)
+      ⊎ ((has_free (of_own common first xs) first ≡ true) ⊎ (has_free (of_own common second ys) second ≡ true))
+  AreTriesBy (UpTo n) =
+      (p q : ℕ) × (reach (of_own common first xs) first ≡ Some p) × (reach (of_own common second ys) second ≡ Some q)
+      × IsPast start p q (unsigned_abs (last_step (of_common common second ys) common)) n
+  AreTriesBy Unknown = Unit {0}
+
+-- of all indices: past that number, one of steps is open only where one step is
+pub record IsMost (loops : Loops) (fs gs : List Affine) (n : ℕ) : Type 0 where
+  pub some : 1 ≤ n
+  pub enough : (t : ℕ) → n < t → is_open loops (Steps t) fs gs ≡ true → is_open loops (Steps 1) fs gs ≡ true
 
 -- whether two parts meet so many groups apart, or less
 abbrev pub parts_meet : Footprint → Footprint → ℕ → Bool

@@ -1,13 +1,13 @@
 //! How many steps of the last counter have to be tried to find the first one at which two accesses may meet, where their
 //! linear parts are equal.
-ghost use Rattle.std.specs.Prelude.{◌≡◌, ◌≤◌, ◌<◌, ◌+◌, ◌*ℤ◌, ℕ, pos, length, unsigned_abs, Some, IfSome};
+ghost use Rattle.std.specs.Prelude.{◌≡◌, ◌≤◌, ◌<◌, ◌+◌, ◌-ℤ◌, ◌*ℤ◌, ℕ, pos, length, unsigned_abs, Some, IfSome};
 ghost use Rattle.std.specs.List.{All};
 ghost use Rattle.sp_deps.specs.Access.{advance};
 ghost use Rattle.sp_deps.specs.Bounds.{HasCounters};
 ghost use Rattle.sp_deps.specs.Classes.{of_common, of_own, last_step};
 ghost use Rattle.sp_deps.specs.Distances.{AreParallel};
 ghost use Rattle.sp_meets.specs.Reach.{part_reach, reach, is_free, has_free};
-ghost use Rattle.sp_meets.specs.Steps.{loops_of, AreTriesOf, IsMost, IsPast};
+ghost use Rattle.sp_meets.specs.Steps.{loops_of, AreTriesBy, AreTriesOf, IsMost, IsPast};
 
 use sp_affine::Form;
 use sp_deps::LoopRange;
@@ -123,6 +123,49 @@ fn most_steps(start: u64, p: u128, q: u128, step: u128) -> Option<u64>
     Some(most.max(1))
 }
 
+// By the coefficients of two indices, and how far their constants are apart.
+fn tries_by(
+    xs: &[i64],
+    ys: &[i64],
+    start: u64,
+    common: &[LoopRange],
+    first: &[LoopRange],
+    second: &[LoopRange],
+) -> Tries
+    requires xs { length common.now + length first.now ≤ length xs.now }
+    requires ys { length common.now + length second.now ≤ length ys.now }
+    ensures { AreTriesBy common.now first.now second.now xs.now ys.now start result }
+{
+    let a = parts(xs, common, first);
+    let b = parts(ys, common, second);
+    let step = last_step(b.common, common);
+    if step == 0 {
+        return Tries::Alike;
+    }
+    if has_free(a.own, first) {
+        return Tries::Alike;
+    }
+    if has_free(b.own, second) {
+        return Tries::Alike;
+    }
+    let Some(p) = reach(a.own, first) else {
+        return Tries::Unknown;
+    };
+    let Some(q) = reach(b.own, second) else {
+        return Tries::Unknown;
+    };
+    match most_steps(start, p, q, step) {
+        Some(n) => Tries::UpTo(n),
+        None => Tries::Unknown,
+    }
+}
+
+fn apart(x: &i64, y: &i64) -> u64
+    ensures { result ≡ unsigned_abs (y.now -ℤ x.now) }
+{
+    x.abs_diff(*y)
+}
+
 /// Of two indices with equal coefficients, of accesses with as many counters of their own.
 fn tries_of(
     f: &Form,
@@ -137,22 +180,8 @@ fn tries_of(
     requires alike { length first.now ≡ length second.now }
     ensures { AreTriesOf (loops_of common.now first.now second.now) f.now g.now result }
 {
-    let a = parts(&f.coefs, common, first);
-    let b = parts(&g.coefs, common, second);
-    let step = last_step(b.common, common);
-    if step == 0 || (has_free(a.own, first) || has_free(b.own, second)) {
-        return Tries::Alike;
-    }
-    let Some(p) = reach(a.own, first) else {
-        return Tries::Unknown;
-    };
-    let Some(q) = reach(b.own, second) else {
-        return Tries::Unknown;
-    };
-    match most_steps(f.constant.abs_diff(g.constant), p, q, step) {
-        Some(n) => Tries::UpTo(n),
-        None => Tries::Unknown,
-    }
+    let start = apart(&f.constant, &g.constant);
+    tries_by(&f.coefs, &g.coefs, start, common, first, second)
 }
 
 /// How many steps have to be tried, where that is known.
