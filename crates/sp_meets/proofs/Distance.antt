@@ -1,15 +1,18 @@
 -- The first number of groups at which two parts of one access each meet is their distance.
-use Rattle.std.proofs.Common.{◌≡◌, ℕ, zero, suc, ◌+◌, ◌-◌, ◌<◌, ◌≤◌, Bool, true, false, not, ◌&&◌, List, [], ◌∷◌, length, refl, ap, sym, ◌∙◌, subst, arith}
+use Rattle.std.proofs.Common.{◌≡◌, ℕ, zero, suc, ◌+◌, ◌-◌, ◌<◌, ◌≤◌, Bool, true, false, not, ◌&&◌, List, [], ◌∷◌, length, take, refl, ap, sym, ◌∙◌, subst, arith}
 use Rattle.std.specs.Prelude.{◌||◌, ◌==◌, if◌then◌else◌, Option, Some}
 use Rattle.sp_affine.specs.Affine.{Affine}
+use Rattle.sp_deps.specs.declared.access.Dist.{Dist}
 use Rattle.sp_deps.specs.declared.access.Dist.TheVariants.{Never, AtLeast}
 use Rattle.sp_deps.specs.declared.access.Footprint.{Footprint}
+use Rattle.sp_deps.specs.declared.access.LoopRange.{LoopRange}
 use Rattle.sp_deps.specs.declared.class.Class.TheVariants.{Same, Steps}
 use Rattle.sp_deps.specs.Access.{PlainAccess, can_meet}
 use Rattle.sp_deps.specs.Classes.{Loops, may_meet, have_same_symbols, is_open}
-use Rattle.sp_deps.specs.Distances.{IsLeast, IsLeastUpTo, ArePresentAndParallel, earlier_may_meet, steps_may_meet, IsDistanceOver}
-use Rattle.sp_deps.specs.Stages.{loops_between, plain_accesses, meets_up_to, stages_meet}
-use Rattle.sp_meets.specs.Steps.{parts_meet, IsFirst, IsMost, IsOne}
+use Rattle.sp_deps.specs.Distances.{AreParallel, IsLeast, IsLeastUpTo, ArePresentAndParallel, earlier_may_meet, steps_may_meet, IsDistanceOver}
+use Rattle.sp_deps.specs.Stages.{IsFootprint, loops_between, plain_accesses, meets_up_to, stages_meet}
+use Rattle.sp_meets.specs.declared.least.Linear.TheVariants.{Other, Equal}
+use Rattle.sp_meets.specs.Steps.{parts_meet, IsFirst, IsMost, IsOne, IsLinearOf, IsDistanceOf}
 use Rattle.sp_meets.proofs.Later.{no_clash, not_none}
 
 or_none : (a b : Bool) → (a || b) ≡ false → (a ≡ false) × (b ≡ false)
@@ -159,3 +162,46 @@ enough_steps loops fs gs n most t h = by_symbols (have_same_symbols fs gs) (is_o
     by_symbols : (s p q : Bool) → (p ≡ true → q ≡ true) → (not s || p) ≡ true → (not s || q) ≡ true
     by_symbols true p q f h = f h
     by_symbols false p q f h = refl
+
+pub linear_is : (loops : Loops) (fs gs : List Affine) (n : ℕ) → AreParallel fs gs → IsMost loops fs gs n → IsLinearOf loops (Some fs) (Some gs) (Equal n)
+linear_is loops fs gs n parallel most = (parallel, enough_steps loops fs gs n most, most.some)
+
+-- the two ends of a search over numbers of groups
+module _ (a b : Footprint) (x y : PlainAccess) (is_x : IsOne a x) (is_y : IsOne b y) (can : can_meet x y ≡ true) (some : 1 ≤ length (loops_between a b).common) where
+  pub parallel_some : (most high r : ℕ) → IsLinearOf (loops_between a b) x.forms y.forms (Equal most) → high ≡ most + 1 → IsFirst a b 0 high r → r < high → IsDistanceOf a b x y (AtLeast r)
+  parallel_some most high r h e found less = parallel_found a b x y is_x is_y can some high r found (room h.2) less h.0
+    where
+      room : 1 ≤ most → 1 < high
+      room k = omega (arith, e, k)
+
+  pub parallel_never : (most high r : ℕ) → IsLinearOf (loops_between a b) x.forms y.forms (Equal most) → high ≡ most + 1 → IsFirst a b 0 high r → (r < high → ⊥) → IsDistanceOf a b x y Never
+  parallel_never most high r h e found not_so =
+      parallel_none a b x y is_x is_y can some high r found (last r high found.within not_so) (room h.2) h.0 (λ t far. h.1 t (past t far))
+    where
+      room : 1 ≤ most → 1 < high
+      room k = omega (arith, e, k)
+
+      last : (r k : ℕ) → r ≤ k → (r < k → ⊥) → r ≡ k
+      last r k h n = grind arith
+
+      past : (t : ℕ) → high ≤ t → most + 1 ≤ t
+      past t k = omega (arith, e, k)
+
+  pub slanted_some : (r : ℕ) → IsLinearOf (loops_between a b) x.forms y.forms Other → IsFirst a b 0 65 r → IsDistanceOf a b x y (AtLeast r)
+  slanted_some r h found = slanted_found a b x y is_x is_y can some 65 r found refl h
+
+length_of_none : (xs : List LoopRange) (n : ℕ) → n ≡ 0 → length (take n xs) ≡ 0
+length_of_none xs n e = ap (λ k. length (take k xs)) e
+
+length_of_some : (xs : List LoopRange) (n : ℕ) → n ≤ length xs → (n ≡ 0 → ⊥) → 1 ≤ length (take n xs)
+length_of_some xs zero h not_so = absurd (not_so refl)
+length_of_some [] (suc n) h not_so = absurd (omega (arith, h))
+length_of_some (x ∷ xs) (suc n) h not_so = omega arith
+
+pub some_common : (a b : Footprint) → IsFootprint a → (a.common ≡ 0 → ⊥) → 1 ≤ length (loops_between a b).common
+some_common a b h not_so = length_of_some a.loops.items a.common h.common not_so
+
+pub group_is : (a b : Footprint) (x y : PlainAccess) (d : Dist) → IsOne a x → IsOne b y → can_meet x y ≡ true → a.common ≡ 0 → d ≡ (if parts_meet a b 0 then AtLeast 0 else Never) → IsDistanceOf a b x y d
+group_is a b x y d is_x is_y can none e =
+    let P : Dist → Type 0 = IsDistanceOf a b x y in
+    subst P (sym e) (only_group a b x y is_x is_y can (length_of_none a.loops.items a.common none))

@@ -27,11 +27,19 @@ gcd_right : (a : ℕ) → gcd a 1 ≡ 1
 unfolding gcd gcd_within
 gcd_right a = ap (gcd_within 1 1) (by_one a)
 
+with_one : (k d : ℕ) → d < k → gcd_within k 1 d ≡ 1
+unfolding gcd_within
+with_one zero d h = absurd (omega (arith, h))
+with_one (suc k) zero h = refl
+with_one (suc zero) (suc d) h = absurd (omega (arith, h))
+with_one (suc (suc k)) (suc zero) h = ap (gcd_within (suc k) 1) (by_one 1)
+with_one (suc (suc zero)) (suc (suc n)) h = absurd (omega (arith, h))
+with_one (suc (suc (suc k))) (suc (suc n)) h =
+    ap (gcd_within (suc (suc k)) (suc (suc n))) (small_rest n) ∙ ap (gcd_within (suc k) 1) (by_one (suc (suc n)))
+
 gcd_left : (d : ℕ) → gcd 1 d ≡ 1
-unfolding gcd gcd_within
-gcd_left zero = refl
-gcd_left (suc zero) = refl
-gcd_left (suc (suc n)) = ap (gcd_within (suc (suc n)) (suc (suc n))) (small_rest n) ∙ ap (gcd_within (suc n) 1) (by_one (suc (suc n)))
+unfolding gcd
+gcd_left d = with_one (d + 1) d (omega arith)
 
 no_end : (e : Option ℤ) → add_ends e None ≡ None
 no_end None = refl
@@ -78,11 +86,11 @@ first_any (x ∷ xs) [] s h = absurd (no h)
   where
     no : false ≡ true → ⊥
     no e = cc
-first_any (x ∷ xs) (l ∷ ls) s h = by_test (is_free x l) refl h
+first_any (x ∷ xs) (l ∷ ls) s h = by_test (is_free x l) refl (first_any xs ls s) h
   where
-    by_test : (b : Bool) → is_free x l ≡ b → (b || has_free xs ls) ≡ true → IsAny (onto (own_first (x ∷ xs) (l ∷ ls)) s)
-    by_test true e h = free_term (neg_ℤ x) l.from _ (ap (λ k. is_none l.from && (k == 1)) (size_of_opposite x) ∙ e)
-    by_test false e h = plus_any _ _ (first_any xs ls s h)
+    by_test : (b : Bool) → is_free x l ≡ b → (has_free xs ls ≡ true → IsAny (onto (own_first xs ls) s)) → (b || has_free xs ls) ≡ true → IsAny (onto (own_first (x ∷ xs) (l ∷ ls)) s)
+    by_test true e rest h = free_term (neg_ℤ x) l.from (onto (own_first xs ls) s) (ap (λ k. is_none l.from && (k == 1)) (size_of_opposite x) ∙ e)
+    by_test false e rest h = plus_any (term (neg_ℤ x) (range_of l)) (onto (own_first xs ls) s) (rest h)
 
 pub second_any : (ys : List ℤ) (ls : List LoopRange) (s : Sum) → has_free ys ls ≡ true → IsAny (onto (own_second ys ls) s)
 second_any [] ls s h = absurd (no h)
@@ -93,11 +101,11 @@ second_any (y ∷ ys) [] s h = absurd (no h)
   where
     no : false ≡ true → ⊥
     no e = cc
-second_any (y ∷ ys) (l ∷ ls) s h = by_test (is_free y l) refl h
+second_any (y ∷ ys) (l ∷ ls) s h = by_test (is_free y l) refl (second_any ys ls s) h
   where
-    by_test : (b : Bool) → is_free y l ≡ b → (b || has_free ys ls) ≡ true → IsAny (onto (own_second (y ∷ ys) (l ∷ ls)) s)
-    by_test true e h = free_term y l.from _ e
-    by_test false e h = plus_any _ _ (second_any ys ls s h)
+    by_test : (b : Bool) → is_free y l ≡ b → (has_free ys ls ≡ true → IsAny (onto (own_second ys ls) s)) → (b || has_free ys ls) ≡ true → IsAny (onto (own_second (y ∷ ys) (l ∷ ls)) s)
+    by_test true e rest h = free_term y l.from (onto (own_second ys ls) s) e
+    by_test false e rest h = plus_any (term y (range_of l)) (onto (own_second ys ls) s) (rest h)
 
 pub any_number : (s : Sum) (z : ℤ) → IsAny s → may_be s z ≡ true
 any_number s z h = by_parts s.divisor s.least s.greatest h.divisor h.least h.greatest

@@ -16,9 +16,16 @@ or_left : (a b : Bool) → a ≡ true → (a || b) ≡ true
 or_left true b e = refl
 or_left false b e = absurd (no_clash false e refl)
 
-more_steps : (loops : Loops) (a b : PlainAccess) (n k : ℕ) → meets_up_to loops a b n ≡ true → meets_up_to loops a b (k + n) ≡ true
-more_steps loops a b n zero h = h
-more_steps loops a b n (suc k) h = or_left _ _ (more_steps loops a b n k h)
+more_steps : (loops : Loops) (a b : PlainAccess) (n m k : ℕ) → n + k ≡ m → meets_up_to loops a b n ≡ true → meets_up_to loops a b m ≡ true
+more_steps loops a b n m zero e h = let P : ℕ → Type 0 = λ z. meets_up_to loops a b z ≡ true in subst P (none n m e) h
+  where
+    none : (n m : ℕ) → n + 0 ≡ m → n ≡ m
+    none n m e = omega arith
+more_steps loops a b n zero (suc k) e h = absurd (omega (arith, e))
+more_steps loops a b n (suc m) (suc k) e h = or_left _ _ (more_steps loops a b n m k (less n m k e) h)
+  where
+    less : (n m k : ℕ) → n + suc k ≡ suc m → n + k ≡ m
+    less n m k e = omega arith
 
 later_more : (z e m p : Bool) → (m ≡ true → p ≡ true) → (z && (e || m)) ≡ true → (z && (e || p)) ≡ true
 later_more true true m p g h = refl
@@ -34,14 +41,13 @@ pair_more true true w s l m e f g h = absurd (no_clash true refl e)
 pair_more true false true s l m e f g h = absurd (no_clash true refl f)
 pair_more true false false s l m e f g h = g h
 
-distance_to : (n t : ℕ) → t ≤ n → (n - t) + t ≡ n
+distance_to : (n t : ℕ) → t ≤ n → t + (n - t) ≡ n
 distance_to n t h = omega arith
 
 within_more : (loops : Loops) (a b : PlainAccess) (n t : ℕ) → 1 ≤ t → t ≤ n → meet_within loops a b t ≡ true → meet_within loops a b n ≡ true
 within_more loops a b n t some h met =
-    let P : ℕ → Type 0 = λ k. meets_up_to loops a b k ≡ true in
     pair_more (can_meet a b) (t == 0) (n == 0) (may_meet loops Same a.forms b.forms) (meet_later loops a b t) (meet_later loops a b n) (not_none t some) (not_none n (omega arith))
-    (later_more _ _ _ _ (λ up. subst P (distance_to n t h) (more_steps loops a b t (n - t) up))) met
+    (later_more _ _ _ _ (more_steps loops a b t n (n - t) (distance_to n t h))) met
 
 any_more : {A : Type 0} (p q : A → Bool) (xs : List A) → ((x : A) → p x ≡ true → q x ≡ true) → list_any p xs ≡ true → list_any q xs ≡ true
 any_more p q [] g h = h

@@ -86,17 +86,26 @@ module _ (loops : Loops) (f g : Affine) where
           below : (a b c d n : ℕ) → a ≡ b → a ≤ c + n → c + d < b → n ≤ d → ⊥
           below a b c d n e f g h = omega arith
 
+  own_any : (b : Bool) → has_free (of_own loops.common loops.first f.coefs) loops.first ≡ b → (b || has_free (of_own loops.common loops.second g.coefs) loops.second) ≡ true →
+      IsAny (onto (own_first (of_own loops.common loops.first f.coefs) loops.first) (onto (own_second (of_own loops.common loops.second g.coefs) loops.second) nothing))
+  own_any true e h = first_any (of_own loops.common loops.first f.coefs) loops.first (onto (own_second (of_own loops.common loops.second g.coefs) loops.second) nothing) e
+  own_any false e h =
+      onto_any (own_first (of_own loops.common loops.first f.coefs) loops.first) (onto (own_second (of_own loops.common loops.second g.coefs) loops.second) nothing)
+      (second_any (of_own loops.common loops.second g.coefs) loops.second nothing h)
+
+  all_any : (t : ℕ) → (has_free (of_own loops.common loops.first f.coefs) loops.first || has_free (of_own loops.common loops.second g.coefs) loops.second) ≡ true →
+      IsAny (sum_of (terms_of loops f g (Steps t)))
+  all_any t h =
+      whole_any (outside (of_outside loops.common loops.first f.coefs) (of_outside loops.common loops.second g.coefs))
+      (shared (of_common loops.common loops.first f.coefs) (of_common loops.common loops.second g.coefs) loops.common)
+      (own_first (of_own loops.common loops.first f.coefs) loops.first) (own_second (of_own loops.common loops.second g.coefs) loops.second)
+      (own_any (has_free (of_own loops.common loops.first f.coefs) loops.first) refl h)
+
   pub free : (t u : ℕ) → (has_free (of_own loops.common loops.first f.coefs) loops.first || has_free (of_own loops.common loops.second g.coefs) loops.second) ≡ true →
       is_ruled_out loops f g (Steps t) ≡ is_ruled_out loops f g (Steps u)
-  free t u h = ap not (any_number _ _ any ∙ sym (any_number _ _ any))
-    where
-      by_test : (b : Bool) → has_free (of_own loops.common loops.first f.coefs) loops.first ≡ b → (b || has_free (of_own loops.common loops.second g.coefs) loops.second) ≡ true →
-          IsAny (onto (own_first (of_own loops.common loops.first f.coefs) loops.first) (onto (own_second (of_own loops.common loops.second g.coefs) loops.second) nothing))
-      by_test true e h = first_any _ _ _ e
-      by_test false e h = onto_any _ _ (second_any _ _ _ h)
-
-      any : IsAny (sum_of (terms_of loops f g (Steps t)))
-      any = whole_any _ _ _ _ (by_test _ refl h)
+  free t u h =
+      ap not (any_number (sum_of (terms_of loops f g (Steps t))) (neg_ℤ (constant_of loops f g (Steps t))) (all_any t h)
+      ∙ sym (any_number (sum_of (terms_of loops f g (Steps u))) (neg_ℤ (constant_of loops f g (Steps u))) (all_any u h)))
 
   -- where the last counter doesn't count, each number of steps does the same
   pub still : (t u : ℕ) → unsigned_abs (last_step (of_common loops.common loops.second g.coefs) loops.common) ≡ 0 → is_ruled_out loops f g (Steps t) ≡ is_ruled_out loops f g (Steps u)
@@ -134,7 +143,7 @@ tries_are common first second f g start s e alike Unknown h = tt
 pub most_by_one : (loops : Loops) (f g : Affine) (fs gs : List Affine) (n : ℕ) → AreTriesOf loops f g (UpTo n) → IsMost loops (f ∷ fs) (g ∷ gs) n
 most_by_one loops f g fs gs n h = record {
   some = h.0;
-  enough = λ t more open. absurd (closed _ _ (h.1 t more) open);
+  enough = λ t more may. absurd (closed _ _ (h.1 t more) may);
 }
   where
     closed : (out rest : Bool) → out ≡ true → (not out && rest) ≡ true → ⊥
@@ -150,7 +159,7 @@ most_by_one loops f g fs gs n h = record {
 pub most_by_rest : (loops : Loops) (f g : Affine) (fs gs : List Affine) (n : ℕ) → AreTriesOf loops f g Alike → IsMost loops fs gs n → IsMost loops (f ∷ fs) (g ∷ gs) n
 most_by_rest loops f g fs gs n h most = record {
   some = most.some;
-  enough = λ t more open. both _ _ _ _ (h t) (most.enough t more) open;
+  enough = λ t more may. both _ _ _ _ (h t) (most.enough t more) may;
 }
   where
     both : (a b p q : Bool) → a ≡ b → (p ≡ true → q ≡ true) → (not a && p) ≡ true → (not b && q) ≡ true
@@ -165,10 +174,10 @@ most_by_rest loops f g fs gs n h most = record {
     both false false p q e f h = f h
 
 pub most_of_none : (loops : Loops) (gs : List Affine) → IsMost loops [] gs 1
-most_of_none loops gs = record { some = omega arith; enough = λ t more open. refl }
+most_of_none loops gs = record { some = omega arith; enough = λ t more may. refl }
 
 pub most_of_few : (loops : Loops) (f : Affine) (fs : List Affine) → IsMost loops (f ∷ fs) [] 1
-most_of_few loops f fs = record { some = omega arith; enough = λ t more open. refl }
+most_of_few loops f fs = record { some = omega arith; enough = λ t more may. refl }
 
 -- a quotient
 pub past_quotient : (r s t : ℕ) → 0 < s → r / s < t → r < s * t

@@ -103,17 +103,23 @@ size_of_opposite x = omega (arith, ints)
 regrouped : (a b n p : ℕ) → a + b ≡ p → a + (b + n) ≡ p + n
 regrouped a b n p e = omega arith
 
+none_plus : (n p : ℕ) → 0 ≡ p → n ≡ p + n
+none_plus n p e = omega arith
+
+zero_plus : (n : ℕ) → 0 + n ≡ n
+zero_plus n = omega arith
+
 pub first_bounded : (xs : List ℤ) (ls : List LoopRange) (s : Sum) (n p : ℕ) → reach xs ls ≡ Some p → IsBounded n s → IsBounded (p + n) (onto (own_first xs ls) s)
-first_bounded [] ls s n p e h = same_bound _ _ s (ap (λ k. k + n) (some_number 0 p e)) h
-first_bounded (x ∷ xs) [] s n p e h = same_bound _ _ s (ap (λ k. k + n) (some_number 0 p e)) h
+first_bounded [] ls s n p e h = same_bound n (p + n) s (none_plus n p (some_number 0 p e)) h
+first_bounded (x ∷ xs) [] s n p e h = same_bound n (p + n) s (none_plus n p (some_number 0 p e)) h
 first_bounded (x ∷ xs) (l ∷ ls) s n p e h =
     let (a, b, f, g, sum) = split_reach (part_reach (unsigned_abs x) l.from) (reach xs ls) p e in
     let at = term_at (neg_ℤ x) l.from a (ap (λ k. part_reach k l.from) (size_of_opposite x) ∙ f) in
     same_bound _ _ _ (regrouped a b n p sum) (plus_bounded (b + n) a (term (neg_ℤ x) (range_of l)) _ at (first_bounded xs ls s n b g h))
 
 pub second_bounded : (ys : List ℤ) (ls : List LoopRange) (s : Sum) (n p : ℕ) → reach ys ls ≡ Some p → IsBounded n s → IsBounded (p + n) (onto (own_second ys ls) s)
-second_bounded [] ls s n p e h = same_bound _ _ s (ap (λ k. k + n) (some_number 0 p e)) h
-second_bounded (y ∷ ys) [] s n p e h = same_bound _ _ s (ap (λ k. k + n) (some_number 0 p e)) h
+second_bounded [] ls s n p e h = same_bound n (p + n) s (none_plus n p (some_number 0 p e)) h
+second_bounded (y ∷ ys) [] s n p e h = same_bound n (p + n) s (none_plus n p (some_number 0 p e)) h
 second_bounded (y ∷ ys) (l ∷ ls) s n p e h =
     let (a, b, f, g, sum) = split_reach (part_reach (unsigned_abs y) l.from) (reach ys ls) p e in
     let at = term_at y l.from a f in
@@ -124,12 +130,12 @@ less_itself x = omega (arith, ints)
 
 pub outside_bounded : (xs : List ℤ) (s : Sum) (n : ℕ) → IsBounded n s → IsBounded n (onto (outside xs xs) s)
 outside_bounded [] s n h = h
-outside_bounded (x ∷ xs) s n h = plus_bounded n 0 (term (x -ℤ x) unknown) _ (zero_at (x -ℤ x) unknown (less_itself x)) (outside_bounded xs s n h)
+outside_bounded (x ∷ xs) s n h = same_bound _ _ _ (zero_plus n) (plus_bounded n 0 (term (x -ℤ x) unknown) _ (zero_at (x -ℤ x) unknown (less_itself x)) (outside_bounded xs s n h))
 
 pub shared_bounded : (xs : List ℤ) (ls : List LoopRange) (s : Sum) (n : ℕ) → IsBounded n s → IsBounded n (onto (shared xs xs ls) s)
 shared_bounded [] ls s n h = h
 shared_bounded (x ∷ xs) [] s n h = h
-shared_bounded (x ∷ xs) (l ∷ ls) s n h = plus_bounded n 0 (term (x -ℤ x) (range_of l)) _ (zero_at (x -ℤ x) (range_of l) (less_itself x)) (shared_bounded xs ls s n h)
+shared_bounded (x ∷ xs) (l ∷ ls) s n h = same_bound _ _ _ (zero_plus n) (plus_bounded n 0 (term (x -ℤ x) (range_of l)) _ (zero_at (x -ℤ x) (range_of l) (less_itself x)) (shared_bounded xs ls s n h))
 
 pub nothing_bounded : IsBounded 0 nothing
 nothing_bounded = record { least = omega arith; greatest = omega arith }

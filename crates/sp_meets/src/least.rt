@@ -1,6 +1,7 @@
 //! The least distance of two accesses that have counters of their own.
 ghost use Rattle.std.specs.Prelude.{◌≡◌, ◌≤◌, ◌<◌, ◌↔◌, ℕ, IsTrue, length, true, false, take, Some, IfSome, if◌then◌else◌};
 ghost use Rattle.std.specs.List.{All};
+ghost use Rattle.sp_deps.specs.declared.access.Dist.TheVariants.{Never, AtLeast};
 ghost use Rattle.sp_deps.specs.Access.{PlainAccess, plain_access, can_meet};
 ghost use Rattle.sp_deps.specs.Bounds.{HasCounters};
 ghost use Rattle.sp_deps.specs.Distances.{AreParallel};
@@ -53,6 +54,7 @@ pub enum Linear {
     TooMany,
 }
 
+#[tactic(auto, using(crate::proofs::Distance::linear_is))]
 fn linear_of(
     a: &[Form],
     b: &[Form],
@@ -94,14 +96,18 @@ fn linear_with(
 }
 
 // Where the linear parts are equal.
+#[tactic(auto, using(crate::proofs::Distance::parallel_some, crate::proofs::Distance::parallel_never))]
 fn parallel_distance(a: &Footprint, b: &Footprint, most: u64) -> Option<Dist>
     requires a { IsFootprint a.now }
     requires b { IsFootprint b.now }
     requires common { take a.now.common a.now.loops.items ≡ take b.now.common b.now.loops.items }
     ensures { (x y : PlainAccess) → IsOne a.now x → IsOne b.now y → can_meet x y ≡ true → 1 ≤ length (loops_between a.now b.now).common
-        → IsLinearOf (loops_between a.now b.now) x.forms y.forms (Equal most) → IfSome result (λ d. IsDistanceOf a.now b.now x y d) }
+        → IsLinearOf (loops_between a.now b.now) x.forms y.forms (Linear.Equal most) → IfSome result (λ d. IsDistanceOf a.now b.now x y d) }
 {
-    let high = most.checked_add(1)?;
+    if most == u64::MAX {
+        return None;
+    }
+    let high = most + 1;
     let groups = first_between(a, b, 0, high);
     if groups < high {
         Some(Dist::AtLeast(groups))
@@ -111,12 +117,13 @@ fn parallel_distance(a: &Footprint, b: &Footprint, most: u64) -> Option<Dist>
 }
 
 // Where they aren't, past 64 steps the two are taken to meet.
+#[tactic(auto, using(crate::proofs::Distance::slanted_some))]
 fn slanted_distance(a: &Footprint, b: &Footprint) -> Dist
     requires a { IsFootprint a.now }
     requires b { IsFootprint b.now }
     requires common { take a.now.common a.now.loops.items ≡ take b.now.common b.now.loops.items }
     ensures { (x y : PlainAccess) → IsOne a.now x → IsOne b.now y → can_meet x y ≡ true → 1 ≤ length (loops_between a.now b.now).common
-        → IsLinearOf (loops_between a.now b.now) x.forms y.forms Other → IsDistanceOf a.now b.now x y result }
+        → IsLinearOf (loops_between a.now b.now) x.forms y.forms Linear.Other → IsDistanceOf a.now b.now x y result }
 {
     Dist::AtLeast(first_between(a, b, 0, 65))
 }
@@ -154,6 +161,7 @@ fn group_distance(a: &Footprint, b: &Footprint) -> Dist
 
 /// The least distance of two parts of one access each, which can meet, over the counters that they have in common. None where
 /// it isn't found: a counter of an access's own, of unknown range, counts more than once, or numbers pass 64 bits.
+#[tactic(auto, using(crate::proofs::Distance::group_is, crate::proofs::Distance::some_common))]
 pub fn least_distance(a: &Footprint, b: &Footprint) -> Option<Dist>
     requires a { IsFootprint a.now }
     requires b { IsFootprint b.now }

@@ -185,6 +185,7 @@ fn tries_of(
 }
 
 /// How many steps have to be tried, where that is known.
+#[tactic(auto, using(crate::proofs::Parallel::most_by_one, crate::proofs::Parallel::most_by_rest, crate::proofs::Parallel::most_of_none, crate::proofs::Parallel::most_of_few))]
 pub fn most_tries(
     a: &[Form],
     b: &[Form],
