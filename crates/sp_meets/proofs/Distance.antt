@@ -174,15 +174,15 @@ module _ (a b : Footprint) (x y : PlainAccess) (is_x : IsOne a x) (is_y : IsOne 
       room : 1 ≤ most → 1 < high
       room k = omega (arith, e, k)
 
-  pub parallel_never : (most high r : ℕ) → IsLinearOf (loops_between a b) x.forms y.forms (Equal most) → high ≡ most + 1 → IsFirst a b 0 high r → (r < high → ⊥) → IsDistanceOf a b x y Never
-  parallel_never most high r h e found not_so =
-      parallel_none a b x y is_x is_y can some high r found (last r high found.within not_so) (room h.2) h.0 (λ t far. h.1 t (past t far))
+  pub parallel_never : (most high r : ℕ) → IsLinearOf (loops_between a b) x.forms y.forms (Equal most) → high ≡ most + 1 → IsFirst a b 0 high r → high ≤ r → IsDistanceOf a b x y Never
+  parallel_never most high r h e found end =
+      parallel_none a b x y is_x is_y can some high r found (last r high found.within end) (room h.2) h.0 (λ t far. h.1 t (past t far))
     where
       room : 1 ≤ most → 1 < high
       room k = omega (arith, e, k)
 
-      last : (r k : ℕ) → r ≤ k → (r < k → ⊥) → r ≡ k
-      last r k h n = grind arith
+      last : (r k : ℕ) → r ≤ k → k ≤ r → r ≡ k
+      last r k h n = omega arith
 
       past : (t : ℕ) → high ≤ t → most + 1 ≤ t
       past t k = omega (arith, e, k)

@@ -76,12 +76,12 @@ module _ (path : List PlainLevel) where
   abbrev pub bounds_spots : (number : ℕ) → List PlainCounter → List PlainSpot
   bounds_spots n [] = []
   bounds_spots n (c ∷ counters) =
-      (list_spots n c.from ++ list_spots (n + length c.from) c.until) ++ bounds_spots (n + (length c.from + length c.until)) counters
+      (list_spots n c.from ++ list_spots (n + length c.from) c.until) ++ bounds_spots ((n + length c.from) + length c.until) counters
 
   abbrev pub spans_spots : (number : ℕ) → List PlainSpan → List PlainSpot
   spans_spots n [] = []
   spans_spots n (single ops ∷ spans) = list_spots n ops ++ spans_spots (n + length ops) spans
-  spans_spots n (range a b ∷ spans) = (list_spots n a ++ list_spots (n + length a) b) ++ spans_spots (n + (length a + length b)) spans
+  spans_spots n (range a b ∷ spans) = (list_spots n a ++ list_spots (n + length a) b) ++ spans_spots ((n + length a) + length b) spans
 
 module _ (core : PlainCore) where
   -- a slice of a DRAM, and the words of a memory that go there or come from there
@@ -134,17 +134,17 @@ module _ (core : PlainCore) where
         ++ stages_spots path (outer_level core.mems places counters style owned (changed_in (outer counters style owned stages))) (places ++ places_in counters) 0 (n + counters_size counters) stages
     node_spots path places n (fsm start state test body next) =
         (list_spots path n start ++ list_spots (path ++ once (changed_in (fsm start state test body next)) ∷ []) (n + length start) test)
-        ++ (node_spots (path ++ in_part 1 (once (changed_in (fsm start state test body next))) ∷ []) places (n + (length start + length test)) body
-        ++ list_spots (path ++ in_part 2 (once (changed_in (fsm start state test body next))) ∷ []) (n + (length start + (length test + number_count body))) next)
+        ++ (node_spots (path ++ in_part 1 (once (changed_in (fsm start state test body next))) ∷ []) places ((n + length start) + length test) body
+        ++ list_spots (path ++ in_part 2 (once (changed_in (fsm start state test body next))) ∷ []) (((n + length start) + length test) + number_count body) next)
     node_spots path places n (branch test first second) =
         list_spots (path ++ once (changed_in (branch test first second)) ∷ []) n test
         ++ (node_spots (path ++ in_part 1 (once (changed_in (branch test first second))) ∷ []) places (n + length test) first
-        ++ node_spots (path ++ in_part 2 (once (changed_in (branch test first second))) ∷ []) places (n + (length test + number_count first)) second)
+        ++ node_spots (path ++ in_part 2 (once (changed_in (branch test first second))) ∷ []) places ((n + length test) + number_count first) second)
     node_spots path places n (load r m spans) = spans_spots path n spans ++ slice_spot path (n + spans_size spans) true r m spans ∷ []
     node_spots path places n (store r m spans) = spans_spots path n spans ++ slice_spot path (n + spans_size spans) false r m spans ∷ []
     node_spots path places n (sparse kind r m p spans count par) =
         spans_spots path n spans
-        ++ (list_spots path (n + spans_size spans) count ++ sparse_spot path (n + (spans_size spans + length count)) kind r m p spans ∷ [])
+        ++ (list_spots path (n + spans_size spans) count ++ sparse_spot path ((n + spans_size spans) + length count) kind r m p spans ∷ [])
 
     pub stages_spots : List PlainLevel → PlainLevel → List CounterPlace → (part number : ℕ) → PlainStages → List PlainSpot
     stages_spots path l places s n no_stage = []

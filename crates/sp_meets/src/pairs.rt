@@ -69,6 +69,7 @@ fn share_port(chip: usize, v: &View, w: &View, mem: u32) -> bool
 }
 
 // In one group, the first before the second.
+#[tactic(auto, using(crate::proofs::PairLemmas::group_same))]
 fn meet_in_group(before: bool, shares: bool, p: &Footprint, q: &Footprint) -> bool
     requires { AreComparable p.now q.now }
     ensures { (P Q : PlainPart) → IsPart p.now P → IsPart q.now Q → can_meet P.access Q.access ≡ true
@@ -78,6 +79,7 @@ fn meet_in_group(before: bool, shares: bool, p: &Footprint, q: &Footprint) -> bo
 }
 
 // In a later group.
+#[tactic(auto, using(crate::proofs::PairLemmas::distance_at, crate::proofs::PairLemmas::port_shared, crate::proofs::PairLemmas::no_port))]
 fn later_least(shares: bool, p: &Footprint, q: &Footprint) -> Result<Option<u64>, AllocError>
     requires { AreComparable p.now q.now }
     ensures { (P Q : PlainPart) → IsPart p.now P → IsPart q.now Q → can_meet P.access Q.access ≡ true → 0 < length P.common
@@ -94,6 +96,7 @@ fn later_least(shares: bool, p: &Footprint, q: &Footprint) -> Result<Option<u64>
 }
 
 // Of two accesses, as parts of one body.
+#[tactic(auto, using(crate::proofs::PairLemmas::in_group, crate::proofs::PairLemmas::no_more, crate::proofs::PairLemmas::later))]
 fn pair_least(
     chip: usize,
     v: &View,
@@ -117,6 +120,7 @@ fn pair_least(
     later_least(shares, p, q)
 }
 
+#[tactic(auto, using(crate::proofs::PairLemmas::of_singles, crate::proofs::PairLemmas::can_not, crate::proofs::PairLemmas::can_so))]
 fn part_least(
     chip: usize,
     v: &View,
@@ -153,6 +157,7 @@ fn sooner(a: Option<u64>, b: Option<u64>) -> Option<u64>
 }
 
 // Of a part and several others.
+#[tactic(auto, using(crate::proofs::Leasts::none_meet, crate::proofs::Leasts::least_of_others))]
 fn least_with(
     chip: usize,
     v: &View,
@@ -172,6 +177,7 @@ fn least_with(
 }
 
 // Of several parts and several others.
+#[tactic(auto, using(crate::proofs::Leasts::least_of_firsts))]
 fn least_among(
     chip: usize,
     v: &View,
