@@ -1,10 +1,5 @@
 mod Distance
 mod Free
 mod Later
-mod Leasts
-mod Narrow
-mod PairLemmas
 mod Parallel
 mod Reach
-mod Trees
-mod WalkLemmas

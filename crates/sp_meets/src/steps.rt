@@ -47,13 +47,7 @@ fn part_reach(x: &i64, l: &LoopRange) -> Option<u128>
             let end = least.unsigned_abs().max(greatest.unsigned_abs());
             size.checked_mul(u128::from(end))
         }
-        None => {
-            if size == 0 {
-                Some(0)
-            } else {
-                None
-            }
-        }
+        None => { if size == 0 { Some(0) } else { None } }
     }
 }
 
