@@ -9,3 +9,8 @@ mod steps;
 pub use examples::{worked_loops, worked_stages, worked_transfers};
 pub use least::least_distance;
 pub use spot::Places;
+
+#[cfg(test)]
+mod rows;
+#[cfg(test)]
+mod tests;
