@@ -1,5 +1,10 @@
 mod Distance
 mod Free
 mod Later
+mod Leasts
+mod Narrow
+mod PairLemmas
 mod Parallel
 mod Reach
+mod Trees
+mod WalkLemmas
