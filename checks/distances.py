@@ -105,21 +105,24 @@ def can(a, b):
     return a.mem == b.mem and (a.writes or b.writes)
 
 
-def distance(a, b, outer, loops):
-    """None for never."""
-    if not can(a, b):
-        return None
-    asked = lambda kind: may(a, b, outer, loops, [], [], kind)
-    if not loops:
+def least(a, b, outer, common, first, second, most):
+    """Of two accesses that can meet, with counters of their own; None for never, which is told from so many steps."""
+    asked = lambda kind: may(a, b, outer, common, first, second, kind)
+    if not common:
         return 0 if asked("same") else None
-    if any(asked(("earlier", i)) for i in range(len(loops) - 1)):
+    if any(asked(("earlier", i)) for i in range(len(common) - 1)):
         return 1
     known = a.forms is not None and b.forms is not None
     parallel = known and all(f.coefs == g.coefs and f.symbol == g.symbol for f, g in zip(a.forms, b.forms))
-    for t in range(1, 2000 if parallel else FAR):
+    for t in range(1, most if parallel else FAR):
         if asked(("steps", t)):
             return t
     return None if parallel else FAR
+
+
+def distance(a, b, outer, loops):
+    """None for never."""
+    return least(a, b, outer, loops, [], [], 2000) if can(a, b) else None
 
 
 def stage_meet(first, second, outer, common, own_first, own_second, within):

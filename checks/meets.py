@@ -9,24 +9,14 @@ with the loops run group by group: where two accesses touch one element, the dis
 """
 import os, random, sys
 
-from distances import FAR, Access, can, draw_coefs, draw_form, draw_loop, least_touch, may
+from distances import FAR, Access, can, draw_coefs, draw_form, draw_loop, least, least_touch
 
 MOST = 400
 
 
 def distance(a, b, outer, common, first, second):
     """None for never."""
-    asked = lambda kind: may(a, b, outer, common, first, second, kind)
-    if not common:
-        return 0 if asked("same") else None
-    if any(asked(("earlier", i)) for i in range(len(common) - 1)):
-        return 1
-    known = a.forms is not None and b.forms is not None
-    parallel = known and all(f.coefs == g.coefs and f.symbol == g.symbol for f, g in zip(a.forms, b.forms))
-    for t in range(1, MOST if parallel else FAR):
-        if asked(("steps", t)):
-            return t
-    return None if parallel else FAR
+    return least(a, b, outer, common, first, second, MOST)
 
 
 def draw_own(r):

@@ -66,7 +66,7 @@ IsOne a x = plain_accesses a ≡ x ∷ []
 abbrev pub IsLinearOf : Loops → Option (List Affine) → Option (List Affine) → Linear → Type 0
 IsLinearOf loops first second Other = ArePresentAndParallel first second → ⊥
 IsLinearOf loops first second (Equal n) = ArePresentAndParallel first second × ((t : ℕ) → n + 1 ≤ t → steps_may_meet loops first second t ≡ true → steps_may_meet loops first second 1 ≡ true) × (1 ≤ n)
-IsLinearOf loops first second TooMany = Unit {0}
+IsLinearOf loops first second TooMany = ArePresentAndParallel first second
 
 -- the distance of two parts of one access each, which can meet
 abbrev pub IsDistanceOf : (a b : Footprint) → (x y : PlainAccess) → Dist → Type 0

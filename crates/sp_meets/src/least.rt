@@ -1,10 +1,10 @@
 //! The least distance of two accesses that have counters of their own.
-ghost use Rattle.std.specs.Prelude.{◌≡◌, ◌≤◌, ◌<◌, ◌↔◌, ℕ, IsTrue, length, true, false, take, Some, IfSome, if◌then◌else◌};
+ghost use Rattle.std.specs.Prelude.{◌≡◌, ◌≤◌, ◌<◌, ◌↔◌, ℕ, IsTrue, length, true, false, take, Some, IfSome, IsNone, if◌then◌else◌};
 ghost use Rattle.std.specs.List.{All};
 ghost use Rattle.sp_deps.specs.declared.access.Dist.TheVariants.{Never, AtLeast};
 ghost use Rattle.sp_deps.specs.Access.{PlainAccess, plain_access, can_meet};
 ghost use Rattle.sp_deps.specs.Bounds.{HasCounters};
-ghost use Rattle.sp_deps.specs.Distances.{AreParallel};
+ghost use Rattle.sp_deps.specs.Distances.{AreParallel, ArePresentAndParallel};
 ghost use Rattle.sp_deps.specs.Stages.{IsFootprint, loops_between};
 ghost use Rattle.sp_meets.specs.Steps.{loops_of, parts_meet, IsFirst, IsOne, IsLinearOf, IsDistanceOf};
 
@@ -160,13 +160,15 @@ fn group_distance(a: &Footprint, b: &Footprint) -> Dist
 }
 
 /// The least distance of two parts of one access each, which can meet, over the counters that they have in common. None where
-/// it isn't found: a counter of an access's own, of unknown range, counts more than once, or numbers pass 64 bits.
+/// it isn't found, which comes only in a loop and where linear parts are equal: a counter of an access's own, of unknown
+/// range, counts more than once, the two have not as many counters of their own, or numbers pass 64 bits.
 #[tactic(auto, using(crate::proofs::Distance::group_is, crate::proofs::Distance::some_common))]
 pub fn least_distance(a: &Footprint, b: &Footprint) -> Option<Dist>
     requires a { IsFootprint a.now }
     requires b { IsFootprint b.now }
     requires common { take a.now.common a.now.loops.items ≡ take b.now.common b.now.loops.items }
-    ensures { (x y : PlainAccess) → IsOne a.now x → IsOne b.now y → can_meet x y ≡ true → IfSome result (λ d. IsDistanceOf a.now b.now x y d) }
+    ensures distance { (x y : PlainAccess) → IsOne a.now x → IsOne b.now y → can_meet x y ≡ true → IfSome result (λ d. IsDistanceOf a.now b.now x y d) }
+    ensures none { IsNone result → (x y : PlainAccess) → IsOne a.now x → IsOne b.now y → 0 < a.now.common × ArePresentAndParallel x.forms y.forms }
 {
     if a.common == 0 {
         return Some(group_distance(a, b));
