@@ -9,7 +9,7 @@ with the loops run group by group: where two accesses touch one element, the dis
 """
 import os, random, sys
 
-from distances import FAR, Access, can, draw_coefs, draw_form, draw_loop, least, least_touch
+from distances import FAR, Access, draw_coefs, draw_form, draw_loop, least, least_touch
 
 MOST = 400
 
