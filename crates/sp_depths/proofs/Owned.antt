@@ -1,6 +1,6 @@
 -- Each memory has one owner, so what that one says of its copies is what the whole tree says.
-use Rattle.std.proofs.Common.{◌≡◌, ℕ, suc, ◌+◌, Bool, true, false, List, [], ◌∷◌, ◌++◌, length, arith, refl, sym, ap, ◌∙◌}
-use Rattle.std.proofs.lemmas.Bool.{and_parts, and_from, eqb-true, eq-eqb, or_parts, or_from, or_left, or_right, false≢true, true≢false, false_from_ne_true}
+use Rattle.std.proofs.Common.{◌≡◌, ℕ, suc, ◌+◌, ◌<◌, Bool, true, false, List, [], ◌∷◌, ◌++◌, length, arith, refl, sym, ap, ◌∙◌, ⊎_elim}
+use Rattle.std.proofs.lemmas.Bool.{and_parts, and_from, eqb-true, eq-eqb, ltb-true, or_cases, or_parts, or_from, or_left, or_right, false≢true, true≢false, false_from_ne_true}
 use Rattle.std.specs.List.{list_all}
 use Rattle.std.specs.Prelude.{◌&&◌, ◌||◌, ◌==◌, not, nat_lt, slice_index_or, if◌then◌else◌}
 use Rattle.sp_core.specs.declared.access.Meet.{Meet}
@@ -78,6 +78,36 @@ module _ (core : PlainCore) where
     all_apart around earlier no_stage r m e = refl
     all_apart around earlier (more_stage first last comb node rest) r m e =
         from_neither m (owned_in node) (owned_in_stages rest) (apart around earlier node r.0 m e) (all_apart around (earlier ++ owned_in node) rest r.1 m (in_left m earlier (owned_in node) e))
+
+  -- what is owned is a memory of the core
+  owned_below : (earlier owned : List ℕ) → is_owned_once core earlier owned ≡ true → (m : ℕ) → is_among m owned ≡ true → m < length core.mems
+  owned_below earlier [] h m e = absurd (false≢true e)
+  owned_below earlier (x ∷ owned) h m e =
+      let parts = and_parts ((nat_lt x (length core.mems) && not (is_port_kind (mem core x).kind)) && not (is_among x earlier)) (is_owned_once core (earlier ++ x ∷ []) owned) h in
+      ⊎_elim (λ is. let same = eqb-true m x is in let lt = ltb-true x (length core.mems) (and_parts (nat_lt x (length core.mems)) _ (and_parts _ (not (is_among x earlier)) parts.0).0).0 in omega arith)
+      (λ others. owned_below (earlier ++ x ∷ []) owned parts.1 m others)
+      (or_cases (m == x) (is_among m owned) e)
+
+  among_both : (m : ℕ) (a b : List ℕ) (P : Type 0) → (is_among m a ≡ true → P) → (is_among m b ≡ true → P) → is_among m (a ++ b) ≡ true → P
+  among_both m a b P f g e = ⊎_elim f g (or_cases (is_among m a) (is_among m b) (sym (among_append m a b) ∙ e))
+
+  mutual
+    pub below : (around : Around) (earlier : List ℕ) (node : PlainNode) → IsRight core around earlier node → (m : ℕ) → is_among m (owned_in node) ≡ true → m < length core.mems
+    below around earlier (inner counters owned ops comb) r m e = owned_below earlier owned (and_parts _ _ r).1 m e
+    below around earlier (outer counters style owned stages) r m e =
+        among_both m owned (owned_in_stages stages) (m < length core.mems) (owned_below earlier owned (and_parts _ _ r.0).1 m) (all_below (within around counters owned) (earlier ++ owned) stages r.1 m) e
+    below around earlier (fsm start state test body next) r m e =
+        among_both m (state ∷ []) (owned_in body) (m < length core.mems) (owned_below earlier (state ∷ []) (and_parts _ _ r.0).1 m) (below (with_state core around state) (earlier ++ state ∷ []) body r.1 m) e
+    below around earlier (branch test first second) r m e =
+        among_both m (owned_in first) (owned_in second) (m < length core.mems) (below around earlier first r.1 m) (below around (earlier ++ owned_in first) second r.2 m) e
+    below around earlier (load dram s spans) r m e = absurd (false≢true e)
+    below around earlier (store dram s spans) r m e = absurd (false≢true e)
+    below around earlier (sparse kind dram s places spans count par) r m e = absurd (false≢true e)
+
+    all_below : (around : Around) (earlier : List ℕ) (stages : PlainStages) → AreRight core around earlier stages → (m : ℕ) → is_among m (owned_in_stages stages) ≡ true → m < length core.mems
+    all_below around earlier no_stage r m e = absurd (false≢true e)
+    all_below around earlier (more_stage first last comb node rest) r m e =
+        among_both m (owned_in node) (owned_in_stages rest) (m < length core.mems) (below around earlier node r.0 m) (all_below around (earlier ++ owned_in node) rest r.1 m) e
 
 module _ (core : PlainCore) (nodes : List PlainNodePlan) (m : ℕ) where
   -- what a part doesn't own has one copy there

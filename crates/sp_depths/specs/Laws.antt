@@ -1,5 +1,5 @@
 -- What the copies by slots are good for.
-use Rattle.std.specs.Prelude.{◌≡◌, ℕ, List}
+use Rattle.std.specs.Prelude.{◌≡◌, ℕ, ◌<◌, List, length}
 use Rattle.sp_core.specs.declared.access.Meet.{Meet}
 use Rattle.sp_core.specs.Forms.{PlainForms}
 use Rattle.sp_core.specs.Invariant.{IsCore}
@@ -11,7 +11,7 @@ use Rattle.sp_plan.specs.Validity.{EachNode, EachMem, copy_rule}
 
 -- each memory has as many copies as the slots of its owner ask
 abbrev pub HasDepths : PlainCore → PlainPlan → Type 0
-HasDepths core plan = (m : ℕ) → (mem_plan plan m).depth ≡ depth_of core plan.nodes m
+HasDepths core plan = (m : ℕ) → m < length core.mems → (mem_plan plan m).depth ≡ depth_of core plan.nodes m
 
 -- then a plan keeps the rules of valid plans on copies
 pub record AreCopiesRight (core : PlainCore) (forms : PlainForms) (meets : List Meet) (plan : PlainPlan) : Type 0 where

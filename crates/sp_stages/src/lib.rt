@@ -20,5 +20,5 @@ pub use laws::{
     chains_by_leaders_are_finest, divided_slots_are_finest, finest_chains_are_right,
     finest_plans_are_right, finest_slots_are_right, stages_are_in_place,
 };
-pub use planned::stages;
+pub use planned::{is_outer_of, stages};
 pub use std::alloc::AllocError as NoMemory;

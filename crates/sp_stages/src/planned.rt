@@ -21,7 +21,8 @@ fn is_outer(node: &Node) -> bool
     }
 }
 
-fn is_outer_of(core: &Core, node: u32) -> bool
+/// Whether the node of a number is an outer body.
+pub fn is_outer_of(core: &Core, node: u32) -> bool
     ensures { result ≡ is_outer_of (plain_core core.now) node }
 {
     match site_at(node, 0, false, core.root()) {
