@@ -1,4 +1,7 @@
+pub mod AloneBanks
 pub mod BestRules
+pub mod ByParts
+pub mod ExactDepths
 pub mod FewCopies
 pub mod FewReaders
 pub mod FromSites

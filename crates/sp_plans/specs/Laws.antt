@@ -1,5 +1,5 @@
--- What the parts of a chosen plan are good for.
-use Rattle.std.specs.Prelude.{ℕ, ◌≤◌, ◌^◌, List, Option}
+-- What chosen plans are good for, and how any plan is judged by its parts.
+use Rattle.std.specs.Prelude.{ℕ, ◌≤◌, ◌^◌, ◌↔◌, List, Option}
 use Rattle.sp_bank.specs.Banking.{Banking}
 use Rattle.sp_core.specs.declared.access.Meet.{Meet}
 use Rattle.sp_core.specs.Forms.{PlainForms}
@@ -8,6 +8,7 @@ use Rattle.sp_core.specs.PlainCore.{PlainCore}
 use Rattle.sp_depths.specs.Depths.{depth_of}
 use Rattle.sp_plan.specs.PlainPlan.{PlainNodePlan, PlainPlan}
 use Rattle.sp_plan.specs.Validity.{IsValid}
+use Rattle.sp_plans.specs.Parts.{IsRightByParts}
 use Rattle.sp_plans.specs.Planned.{AreBestPlans, IsPlanned}
 
 -- a chosen plan is valid
@@ -17,3 +18,7 @@ ChosenAreValid = (core : PlainCore) (forms : PlainForms) (meets : List Meet) (pl
 -- by the best plans of the nodes the copies of a memory are few
 abbrev pub CopiesAreFew : Type 0
 CopiesAreFew = (core : PlainCore) (meets : List Meet) (schemes : List (Option Banking)) (nodes : List PlainNodePlan) → IsCore core → AreBestPlans core meets schemes nodes → (m : ℕ) → depth_of core nodes m ≤ 2 ^ 30
+
+-- any plan is valid exactly where its nodes and its memories are right, one by one
+abbrev pub ValidByParts : Type 0
+ValidByParts = (core : PlainCore) (forms : PlainForms) (meets : List Meet) (plan : PlainPlan) → IsCore core → (IsValid core forms meets plan ↔ IsRightByParts core forms meets plan)

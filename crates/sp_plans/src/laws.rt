@@ -1,6 +1,6 @@
-//! Laws of chosen plans. Each function does nothing: what it ensures is the law.
+//! Laws of plans. Each function does nothing: what it ensures is the law.
 
-ghost use Rattle.sp_plans.specs.Laws.{ChosenAreValid, CopiesAreFew};
+ghost use Rattle.sp_plans.specs.Laws.{ChosenAreValid, CopiesAreFew, ValidByParts};
 
 use sp_depths::depths_are_right;
 use sp_sched::least_plans_are_right;
@@ -24,4 +24,12 @@ pub fn best_plans_have_few_copies()
 {
     divided_slots_are_finest();
     stages_are_in_place();
+}
+
+/// A plan is valid exactly where each node keeps its rules, each scheme serves its memory alone, and each memory has the
+/// copies and the duplicates that are asked.
+pub fn plans_are_valid_by_parts()
+    ensures { ValidByParts }
+{
+    depths_are_right();
 }

@@ -9,5 +9,5 @@ mod nodes;
 mod tests;
 
 pub use core_plan::planned;
-pub use laws::{best_plans_have_few_copies, chosen_plans_are_valid};
+pub use laws::{best_plans_have_few_copies, chosen_plans_are_valid, plans_are_valid_by_parts};
 pub use std::alloc::AllocError as NoMemory;
