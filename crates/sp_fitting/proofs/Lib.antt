@@ -1,0 +1,10 @@
+pub mod Contents
+pub mod Inputs
+pub mod Keeping
+pub mod Lists
+pub mod Moments
+pub mod Nodes
+pub mod Rules
+pub mod Symbols
+pub mod Transfers
+pub mod Words
