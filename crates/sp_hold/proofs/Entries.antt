@@ -12,7 +12,7 @@ use Rattle.sp_patterns.specs.Patterns.{some_forms, list_forms, bounds_forms, spa
 use Rattle.sp_patterns.specs.Ranges.{PlainAround, nothing_around, inside}
 use Rattle.sp_hold.specs.Laws.{HasEntries}
 
-count_of_both : (a b : List Numbered) → access_count (a ++ b) ≡ access_count a + access_count b
+pub count_of_both : (a b : List Numbered) → access_count (a ++ b) ≡ access_count a + access_count b
 count_of_both [] b = zero_first (access_count b)
   where
     zero_first : (n : ℕ) → n ≡ 0 + n
@@ -21,7 +21,7 @@ count_of_both (plain ∷ a) b = count_of_both a b
 count_of_both (accesses ∷ a) b = let h = count_of_both a b in omega arith
 count_of_both (transfers n ∷ a) b = let h = count_of_both a b in omega arith
 
-ranges_of_both : (a b : List Numbered) → ranges_count (a ++ b) ≡ ranges_count a + ranges_count b
+pub ranges_of_both : (a b : List Numbered) → ranges_count (a ++ b) ≡ ranges_count a + ranges_count b
 ranges_of_both [] b = zero_first (ranges_count b)
   where
     zero_first : (n : ℕ) → n ≡ 0 + n
@@ -45,7 +45,7 @@ after_none a b n h k = omega (arith, ranges_of_both a b)
 before_none : (a b : List Numbered) (n : ℕ) → n ≡ ranges_count a → ranges_count b ≡ 0 → n ≡ ranges_count (a ++ b)
 before_none a b n h k = omega (arith, ranges_of_both a b)
 
-no_ranges : (ops : List PlainOp) → ranges_count (list_numbers ops) ≡ 0
+pub no_ranges : (ops : List PlainOp) → ranges_count (list_numbers ops) ≡ 0
 no_ranges [] = refl
 no_ranges (op ∷ ops) = by_test (is_access op.kind) ∙ no_ranges ops
   where
@@ -53,11 +53,11 @@ no_ranges (op ∷ ops) = by_test (is_access op.kind) ∙ no_ranges ops
     by_test true = refl
     by_test false = refl
 
-no_bound_ranges : (counters : List PlainCounter) → ranges_count (counters_numbers counters) ≡ 0
+pub no_bound_ranges : (counters : List PlainCounter) → ranges_count (counters_numbers counters) ≡ 0
 no_bound_ranges [] = refl
 no_bound_ranges (c ∷ counters) = none_joined (list_numbers c.from ++ list_numbers c.until) (counters_numbers counters) (none_joined (list_numbers c.from) (list_numbers c.until) (no_ranges c.from) (no_ranges c.until)) (no_bound_ranges counters)
 
-no_span_ranges : (spans : List PlainSpan) → ranges_count (spans_numbers spans) ≡ 0
+pub no_span_ranges : (spans : List PlainSpan) → ranges_count (spans_numbers spans) ≡ 0
 no_span_ranges [] = refl
 no_span_ranges (single ops ∷ spans) = none_joined (list_numbers ops) (spans_numbers spans) (no_ranges ops) (no_span_ranges spans)
 no_span_ranges (range a b ∷ spans) = none_joined (list_numbers a ++ list_numbers b) (spans_numbers spans) (none_joined (list_numbers a) (list_numbers b) (no_ranges a) (no_ranges b)) (no_span_ranges spans)
@@ -75,22 +75,22 @@ module _ (mems : List PlainMem) where
       by_test true h = omega arith
       by_test false h = h
 
-  list_entries : (around : PlainAround) (ops : List PlainOp) → length (list_forms mems around ops) ≡ access_count (list_numbers ops)
+  pub list_entries : (around : PlainAround) (ops : List PlainOp) → length (list_forms mems around ops) ≡ access_count (list_numbers ops)
   list_entries around ops = some_entries around ops ops
 
-  bounds_entries : (around : PlainAround) (counters : List PlainCounter) → length (bounds_forms mems around counters) ≡ access_count (counters_numbers counters)
+  pub bounds_entries : (around : PlainAround) (counters : List PlainCounter) → length (bounds_forms mems around counters) ≡ access_count (counters_numbers counters)
   bounds_entries around [] = refl
   bounds_entries around (c ∷ counters) =
       joined (list_numbers c.from ++ list_numbers c.until) (counters_numbers counters) _ _
       (joined (list_numbers c.from) (list_numbers c.until) _ _ (list_entries around c.from) (list_entries around c.until)) (bounds_entries around counters)
 
-  spans_entries : (around : PlainAround) (spans : List PlainSpan) → length (spans_forms mems around spans) ≡ access_count (spans_numbers spans)
+  pub spans_entries : (around : PlainAround) (spans : List PlainSpan) → length (spans_forms mems around spans) ≡ access_count (spans_numbers spans)
   spans_entries around [] = refl
   spans_entries around (single ops ∷ spans) = joined (list_numbers ops) (spans_numbers spans) _ _ (list_entries around ops) (spans_entries around spans)
   spans_entries around (range a b ∷ spans) =
       joined (list_numbers a ++ list_numbers b) (spans_numbers spans) _ _ (joined (list_numbers a) (list_numbers b) _ _ (list_entries around a) (list_entries around b)) (spans_entries around spans)
 
-  lengths_entries : (around : PlainAround) (spans : List PlainSpan) → length (range_lengths mems around spans) ≡ range_count spans
+  pub lengths_entries : (around : PlainAround) (spans : List PlainSpan) → length (range_lengths mems around spans) ≡ range_count spans
   lengths_entries around [] = refl
   lengths_entries around (single ops ∷ spans) = lengths_entries around spans
   lengths_entries around (range a b ∷ spans) = let h = lengths_entries around spans in omega arith
@@ -112,7 +112,7 @@ module _ (mems : List PlainMem) where
       after_none (spans_numbers spans) (list_numbers count ++ transfers n ∷ []) k (no_span_ranges spans) (after_none (list_numbers count) (transfers n ∷ []) k (no_ranges count) (e ∙ one_more n))
 
   mutual
-    node_entries : (around : PlainAround) (node : PlainNode) → length (node_forms mems around node) ≡ access_count (numbers node)
+    pub node_entries : (around : PlainAround) (node : PlainNode) → length (node_forms mems around node) ≡ access_count (numbers node)
     node_entries around (inner counters owned ops comb) = joined (counters_numbers counters) (list_numbers ops) _ _ (bounds_entries around counters) (list_entries (inside mems around counters) ops)
     node_entries around (outer counters style owned stages) = joined (counters_numbers counters) (stages_numbers stages) _ _ (bounds_entries around counters) (stages_entries (inside mems around counters) stages)
     node_entries around (fsm start state test body next) =
@@ -127,12 +127,12 @@ module _ (mems : List PlainMem) where
     node_entries around (sparse WideLoad r m places spans count par) = sparse_entry around spans count _ (range_count spans)
     node_entries around (sparse WideStore r m places spans count par) = sparse_entry around spans count _ (range_count spans)
 
-    stages_entries : (around : PlainAround) (stages : PlainStages) → length (stages_forms mems around stages) ≡ access_count (stages_numbers stages)
+    pub stages_entries : (around : PlainAround) (stages : PlainStages) → length (stages_forms mems around stages) ≡ access_count (stages_numbers stages)
     stages_entries around no_stage = refl
     stages_entries around (more_stage first last comb node rest) = joined (numbers node) (stages_numbers rest) _ _ (node_entries around node) (stages_entries around rest)
 
   mutual
-    node_ranges : (around : PlainAround) (node : PlainNode) → length (node_lengths mems around node) ≡ ranges_count (numbers node)
+    pub node_ranges : (around : PlainAround) (node : PlainNode) → length (node_lengths mems around node) ≡ ranges_count (numbers node)
     node_ranges around (inner counters owned ops comb) = sym (none_joined (counters_numbers counters) (list_numbers ops) (no_bound_ranges counters) (no_ranges ops))
     node_ranges around (outer counters style owned stages) = after_none (counters_numbers counters) (stages_numbers stages) _ (no_bound_ranges counters) (stages_ranges (inside mems around counters) stages)
     node_ranges around (fsm start state test body next) =
@@ -147,7 +147,7 @@ module _ (mems : List PlainMem) where
     node_ranges around (sparse WideLoad r m places spans count par) = sparse_ranges spans count _ (range_count spans) (lengths_entries around spans)
     node_ranges around (sparse WideStore r m places spans count par) = sparse_ranges spans count _ (range_count spans) (lengths_entries around spans)
 
-    stages_ranges : (around : PlainAround) (stages : PlainStages) → length (stages_lengths mems around stages) ≡ ranges_count (stages_numbers stages)
+    pub stages_ranges : (around : PlainAround) (stages : PlainStages) → length (stages_lengths mems around stages) ≡ ranges_count (stages_numbers stages)
     stages_ranges around no_stage = refl
     stages_ranges around (more_stage first last comb node rest) = lengths_joined (numbers node) (stages_numbers rest) _ _ (node_ranges around node) (stages_ranges around rest)
 

@@ -57,7 +57,7 @@ all_zero (c ∷ coefs) (x ∷ xs) h =
     nothing : (a b : ℤ) → a ≡ pos 0 → b ≡ pos 0 → a +ℤ b ≡ pos 0
     nothing a b h k = omega (arith, ints)
 
-constant_value : (f : Affine) (values : List ℤ) (symbols : ℕ → ℤ) → is_constant f ≡ true → value_of f values symbols ≡ f.constant
+pub constant_value : (f : Affine) (values : List ℤ) (symbols : ℕ → ℤ) → is_constant f ≡ true → value_of f values symbols ≡ f.constant
 constant_value f values symbols h =
     let parts = both (list_all (int_eq (pos 0)) f.coefs) _ h in
     joined _ f.constant _ (all_zero f.coefs values parts.0) (no_symbol f.symbol parts.1)

@@ -68,7 +68,7 @@ module _ (core : PlainCore) (scope : Scope) where
       let one = (Decides-eqb m n).0 a in
       ap (λ x. word_of x == 0) (sym (same m ((Decides-ltb m (length done)).0 e))) ∙ ap (λ k. word_at es k == 0) one ∙ clear
 
-  passes : (mask : Option ℕ) (later : List PlainOp) (done : List Entry) (u : Store) (es : List Entry) (t : Store) → operations_after core scope done later u ≡ went es t → are_masks_earlier (length done) later ≡ true →
+  pub passes : (mask : Option ℕ) (later : List PlainOp) (done : List Entry) (u : Store) (es : List Entry) (t : Store) → operations_after core scope done later u ≡ went es t → are_masks_earlier (length done) later ≡ true →
       IfSome mask (λ m. (word_at es m == 0) ≡ false) → ArePassed mask (length done) later es
   passes mask [] done u es t h masks clear = tt
   passes mask (op ∷ later) done u es t h masks clear =
