@@ -4,10 +4,12 @@
 Each class of distances is asked as checks/distances.py asks it. Beside that, every row whose ranges are known is compared
 with the loops run group by group: where two accesses touch one element, the distance given is no greater.
 
+The meets of worked loops, `s(d * i + e) = s(a * i + c)` with i from 0 to 11, are found by running all iterations.
+
     checks/meets.py > rows      prints the rows, always the same ones
-    checks/meets.py --check     compares them with those that stand in the tests
+    checks/meets.py --check     compares them, and the worked loops, with those that stand in the tests
 """
-import os, random, sys
+import os, random, re, sys
 
 from distances import FAR, Access, draw_coefs, draw_form, draw_loop, least, least_touch
 
@@ -24,8 +26,10 @@ def draw_own(r):
     return [draw_loop(r, 0.8) for _ in range(r.choice([1, 1, 2]))]
 
 
-def draw_own_coefs(r, own):
-    """A counter without a known range counts once, and one at most does."""
+def draw_own_coefs(r, own, wide):
+    """A counter without a known range counts once, and one at most does; or else each counts as often as it likes."""
+    if wide:
+        return [r.choice([0, 2, 3, -4, 6]) for l in own]
     coefs, open_one = [], True
     for l in own:
         if l.low is not None:
@@ -36,12 +40,12 @@ def draw_own_coefs(r, own):
     return coefs
 
 
-def draw_pair(r, outer, common, first, second, alike):
+def draw_pair(r, outer, common, first, second, alike, wide):
     mine, theirs = [], []
     for _ in range(r.choice([1, 1, 2])):
         around = draw_coefs(r, outer + len(common))
-        f = draw_form(r, around + draw_own_coefs(r, first))
-        g = draw_form(r, list(f.coefs) if alike else around + draw_own_coefs(r, second))
+        f = draw_form(r, around + draw_own_coefs(r, first, wide))
+        g = draw_form(r, list(f.coefs) if alike else around + draw_own_coefs(r, second, wide))
         if r.random() < 0.9:
             g.symbol = f.symbol
         g.constant = f.constant + r.choice([0, 0, 1, -1, 4, -7, 12, 30])
@@ -50,7 +54,7 @@ def draw_pair(r, outer, common, first, second, alike):
     return Access(0, True, mine), Access(0, r.random() < 0.5, theirs)
 
 
-def rows(r, count):
+def rows(r, count, wide):
     made, tally = [], {}
     while len(made) < count:
         outer = r.choice([0, 0, 1])
@@ -58,7 +62,7 @@ def rows(r, count):
         first = draw_own(r)
         alike = r.random() < 0.75
         second = [type(l)(l.low, l.high, l.by, l.par) for l in first] if alike else draw_own(r)
-        a, b = draw_pair(r, outer, common, first, second, alike)
+        a, b = draw_pair(r, outer, common, first, second, alike, wide)
         want = distance(a, b, outer, common, first, second)
         kind = "never" if want is None else "far" if want == FAR else min(want, 4)
         if tally.get(kind, 0) >= count // 4:
@@ -72,15 +76,37 @@ def rows(r, count):
     return made
 
 
+def meets_of_loop(a, c, d, e):
+    """The read is access 7, the write 12; of each ordered pair that touches one element, the least number of groups."""
+    accesses = [(7, lambda i: a * i + c), (12, lambda i: d * i + e)]
+    found = []
+    for first, f in accesses:
+        for second, g in accesses:
+            apart = [j - i for i in range(12) for j in range(i, 12) if f(i) == g(j) and (j > i or first < second)]
+            if apart and (first, second) != (7, 7):
+                found.append(f"{first} {second} {min(apart)}")
+    return ";".join(found)
+
+
+def wrong_loops(text):
+    """The rows of worked loops that aren't what running them gives."""
+    loops = re.findall(r"^(\d+) (\d+) (\d+) (\d+)=>([\d ;]*)", text, re.M)
+    assert loops
+    return [row for row in loops if meets_of_loop(*map(int, row[:4])) != row[4]]
+
+
 def main():
-    made = rows(random.Random(20251128), 80)
+    made = rows(random.Random(20251128), 80, False) + rows(random.Random(20261128), 24, True)
     if sys.argv[1:] == ["--check"]:
         here = os.path.dirname(os.path.abspath(__file__))
         with open(os.path.join(here, "../crates/sp_meets/src/rows.rt")) as f:
             stands = f.read()
+        with open(os.path.join(here, "../crates/sp_meets/src/meets_tests.rt")) as f:
+            wrong = wrong_loops(f.read())
         missing = [row for row in made if row not in stands]
         print("the rows stand in the tests" if not missing else f"{len(missing)} rows differ")
-        sys.exit(1 if missing else 0)
+        print("the worked loops meet so" if not wrong else f"{len(wrong)} worked loops differ")
+        sys.exit(1 if missing or wrong else 0)
     sys.stdout.write("".join(row + "\n" for row in made))
 
 

@@ -1,6 +1,7 @@
 -- The first number of groups at which two parts of one access each meet is their distance.
-use Rattle.std.proofs.Common.{◌≡◌, ℕ, zero, suc, ◌+◌, ◌-◌, ◌<◌, ◌≤◌, Bool, true, false, not, ◌&&◌, List, [], ◌∷◌, length, take, refl, ap, sym, ◌∙◌, subst, arith}
-use Rattle.std.specs.Prelude.{◌||◌, ◌==◌, if◌then◌else◌, Some}
+use Rattle.std.proofs.Common.{◌≡◌, ℕ, zero, suc, ◌+◌, ◌-◌, ◌<◌, ◌≤◌, Bool, true, false, not, ◌&&◌, List, [], ◌∷◌, length, take, refl, ap, sym, ◌∙◌, subst, Vec, Global, arith}
+use Rattle.std.specs.Prelude.{◌||◌, ◌==◌, if◌then◌else◌, Option, Some, IfSome}
+use Rattle.std.specs.List.{All}
 use Rattle.sp_affine.specs.Affine.{Affine}
 use Rattle.sp_deps.specs.declared.access.Dist.{Dist}
 use Rattle.sp_deps.specs.declared.access.Dist.TheVariants.{Never, AtLeast}
@@ -8,11 +9,12 @@ use Rattle.sp_deps.specs.declared.access.Footprint.{Footprint}
 use Rattle.sp_deps.specs.declared.access.LoopRange.{LoopRange}
 use Rattle.sp_deps.specs.declared.class.Class.TheVariants.{Same, Steps}
 use Rattle.sp_deps.specs.Access.{PlainAccess, can_meet}
+use Rattle.sp_deps.specs.Bounds.{HasCounters}
 use Rattle.sp_deps.specs.Classes.{Loops, may_meet, have_same_symbols, is_open}
-use Rattle.sp_deps.specs.Distances.{AreParallel, ArePresentAndParallel, earlier_may_meet, steps_may_meet, IsDistanceOver}
+use Rattle.sp_deps.specs.Distances.{all_common, AreParallel, ArePresentAndParallel, earlier_may_meet, steps_may_meet, IsDistanceOver}
 use Rattle.sp_deps.specs.Stages.{IsFootprint, loops_between, plain_accesses, meets_up_to, stages_meet}
 use Rattle.sp_meets.specs.declared.least.Linear.TheVariants.{Other, Equal}
-use Rattle.sp_meets.specs.Steps.{parts_meet, IsFirst, IsMost, IsOne, IsLinearOf, IsDistanceOf}
+use Rattle.sp_meets.specs.Steps.{loops_of, parts_meet, IsFirst, IsMost, IsOne, IsLinearOf, IsDistanceOf}
 use Rattle.sp_meets.proofs.Later.{no_clash, not_none}
 
 or_none : (a b : Bool) → (a || b) ≡ false → (a ≡ false) × (b ≡ false)
@@ -96,7 +98,7 @@ module _ (a b : Footprint) (x y : PlainAccess) (is_x : IsOne a x) (is_y : IsOne 
     }
 
     pub parallel_none : r ≡ high → 1 < high → ArePresentAndParallel x.forms y.forms →
-        ((t : ℕ) → high ≤ t → steps_may_meet (loops_between a b) x.forms y.forms t ≡ true → steps_may_meet (loops_between a b) x.forms y.forms 1 ≡ true) →
+        ((t : ℕ) → high ≤ t → steps_may_meet (loops_between a b) x.forms y.forms t ≡ true → (s : ℕ) × (1 ≤ s) × (s < high) × (steps_may_meet (loops_between a b) x.forms y.forms s ≡ true)) →
         IsDistanceOver (loops_between a b) x.forms y.forms (length (loops_between a b).common) Never
     parallel_none last room parallel enough = record {
       one_group = λ e. absurd (omega (arith, some, e));
@@ -108,11 +110,8 @@ module _ (a b : Footprint) (x y : PlainAccess) (is_x : IsOne a x) (is_y : IsOne 
         not_one : r ≡ 1 → ⊥
         not_one e = omega (arith, e, last, room)
 
-        not_yet : steps_may_meet (loops_between a b) x.forms y.forms 1 ≡ false
-        not_yet = none_before 1 (omega arith) (omega (arith, last, room))
-
         never : (t : ℕ) → 1 ≤ t → steps_may_meet (loops_between a b) x.forms y.forms t ≡ false
-        never t few = by_place (steps_may_meet (loops_between a b) x.forms y.forms t) t r high last (none_before t few) (λ far. by_test _ (λ e. no_clash _ (enough t far e) not_yet))
+        never t few = by_place (steps_may_meet (loops_between a b) x.forms y.forms t) t r high last (none_before t few) (λ far. by_test _ (λ e. not_found (enough t far e)))
           where
             by_test : (z : Bool) → (z ≡ true → ⊥) → z ≡ false
             by_test true h = absurd (h refl)
@@ -120,6 +119,9 @@ module _ (a b : Footprint) (x y : PlainAccess) (is_x : IsOne a x) (is_y : IsOne 
 
             by_place : (z : Bool) (t r k : ℕ) → r ≡ k → (t < r → z ≡ false) → (k ≤ t → z ≡ false) → z ≡ false
             by_place z t r k e f g = grind arith
+
+            not_found : (s : ℕ) × (1 ≤ s) × (s < high) × (steps_may_meet (loops_between a b) x.forms y.forms s ≡ true) → ⊥
+            not_found (s, some, few, may) = no_clash _ may (none_before s some (omega (arith, few, last)))
 
     pub slanted_found : high ≡ 65 → (ArePresentAndParallel x.forms y.forms → ⊥) → IsDistanceOver (loops_between a b) x.forms y.forms (length (loops_between a b).common) (AtLeast r)
     slanted_found is slanted = record {
@@ -156,12 +158,13 @@ only_group a b x y is_x is_y can none = record {
         ∙ by_can (can_meet x y) _ can
 
 -- where the tries are enough
-pub enough_steps : (loops : Loops) (fs gs : List Affine) (n : ℕ) → IsMost loops fs gs n → (t : ℕ) → n + 1 ≤ t → steps_may_meet loops (Some fs) (Some gs) t ≡ true → steps_may_meet loops (Some fs) (Some gs) 1 ≡ true
-enough_steps loops fs gs n most t h = by_symbols (have_same_symbols fs gs) (is_open loops (Steps t) fs gs) (is_open loops (Steps 1) fs gs) (most.enough t (omega arith))
+pub enough_steps : (loops : Loops) (fs gs : List Affine) (n : ℕ) → IsMost loops fs gs n → (t : ℕ) → n + 1 ≤ t → steps_may_meet loops (Some fs) (Some gs) t ≡ true
+    → (s : ℕ) × (1 ≤ s) × (s ≤ n) × (steps_may_meet loops (Some fs) (Some gs) s ≡ true)
+enough_steps loops fs gs n most t h may = by_symbols (have_same_symbols fs gs) refl may
   where
-    by_symbols : (s p q : Bool) → (p ≡ true → q ≡ true) → (not s || p) ≡ true → (not s || q) ≡ true
-    by_symbols true p q f h = f h
-    by_symbols false p q f h = refl
+    by_symbols : (same : Bool) → have_same_symbols fs gs ≡ same → (not same || is_open loops (Steps t) fs gs) ≡ true → (s : ℕ) × (1 ≤ s) × (s ≤ n) × ((not (have_same_symbols fs gs) || is_open loops (Steps s) fs gs) ≡ true)
+    by_symbols true e may = let (s, some, few, free) = most.enough t (omega (arith, h)) may in (s, some, few, ap (λ b. not b || is_open loops (Steps s) fs gs) e ∙ free)
+    by_symbols false e may = (1, omega arith, most.some, ap (λ b. not b || is_open loops (Steps 1) fs gs) e)
 
 pub linear_is : (loops : Loops) (fs gs : List Affine) (n : ℕ) → AreParallel fs gs → IsMost loops fs gs n → IsLinearOf loops (Some fs) (Some gs) (Equal n)
 linear_is loops fs gs n parallel most = (parallel, enough_steps loops fs gs n most, most.some)
@@ -176,7 +179,7 @@ module _ (a b : Footprint) (x y : PlainAccess) (is_x : IsOne a x) (is_y : IsOne 
 
   pub parallel_never : (most high r : ℕ) → IsLinearOf (loops_between a b) x.forms y.forms (Equal most) → high ≡ most + 1 → IsFirst a b 0 high r → high ≤ r → IsDistanceOf a b x y Never
   parallel_never most high r h e found end =
-      parallel_none a b x y is_x is_y can some high r found (last r high found.within end) (room h.2) h.0 (λ t far. h.1 t (past t far))
+      parallel_none a b x y is_x is_y can some high r found (last r high found.within end) (room h.2) h.0 (λ t far may. within high (h.1 t (past t far) may) e)
     where
       room : 1 ≤ most → 1 < high
       room k = omega (arith, e, k)
@@ -186,6 +189,10 @@ module _ (a b : Footprint) (x y : PlainAccess) (is_x : IsOne a x) (is_y : IsOne 
 
       past : (t : ℕ) → high ≤ t → most + 1 ≤ t
       past t k = omega (arith, e, k)
+
+      within : (high : ℕ) → (s : ℕ) × (1 ≤ s) × (s ≤ most) × (steps_may_meet (loops_between a b) x.forms y.forms s ≡ true) → high ≡ most + 1
+          → (s : ℕ) × (1 ≤ s) × (s < high) × (steps_may_meet (loops_between a b) x.forms y.forms s ≡ true)
+      within high (s, some, few, may) e = (s, some, omega (arith, few, e), may)
 
   pub slanted_some : (r : ℕ) → IsLinearOf (loops_between a b) x.forms y.forms Other → IsFirst a b 0 65 r → IsDistanceOf a b x y (AtLeast r)
   slanted_some r h found = slanted_found a b x y is_x is_y can some 65 r found refl h
@@ -205,3 +212,16 @@ pub group_is : (a b : Footprint) (x y : PlainAccess) (d : Dist) → IsOne a x �
 group_is a b x y d is_x is_y can none e =
     let P : Dist → Type 0 = IsDistanceOf a b x y in
     subst P (sym e) (only_group a b x y is_x is_y can (length_of_none a.loops.items a.common none))
+
+-- of two accesses of one body
+pub none_left : (loops : List LoopRange) → length loops ≡ 0 → loops ≡ []
+none_left [] e = refl
+none_left (l ∷ loops) e = absurd (omega (arith, e))
+
+pub without_own : (common own : List LoopRange) (forms : Option (Vec Affine Global)) → own ≡ [] → IfSome forms (λ v. All (λ f. HasCounters common own f.coefs) v.items) → IfSome forms (λ v. All (λ f. HasCounters common [] f.coefs) v.items)
+without_own common own forms e h = subst (λ (xs : List LoopRange). IfSome forms (λ v. All (λ f. HasCounters common xs f.coefs) v.items)) e h
+
+pub in_one_body : (common first second : List LoopRange) (x y : Option (List Affine)) (d : Dist) → first ≡ [] → second ≡ [] → IsDistanceOver (all_common common) x y (length common) d → IsDistanceOver (loops_of common first second) x y (length common) d
+in_one_body common first second x y d e f h =
+    subst (λ (xs : List LoopRange). IsDistanceOver (loops_of common xs second) x y (length common) d) (sym e)
+    (subst (λ (xs : List LoopRange). IsDistanceOver (loops_of common [] xs) x y (length common) d) (sym f) h)

@@ -1,5 +1,12 @@
+mod Collected
 mod Distance
-mod Free
 mod Later
+mod Leasts
+mod Narrow
+mod PairLemmas
 mod Parallel
+mod Pushed
 mod Reach
+mod Spread
+mod Trees
+mod WalkLemmas

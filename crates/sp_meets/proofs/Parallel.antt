@@ -1,21 +1,22 @@
 -- Indices with equal linear parts, of accesses with as many counters of their own: which numbers of steps are ruled out.
-use Rattle.std.proofs.Common.{◌≡◌, ℕ, ◌+◌, ◌-◌, ◌*◌, ◌/◌, ◌%◌, ◌<◌, ◌≤◌, ◌&&◌, inl, inr, Bool, true, false, not, ℤ, pos, neg_ℤ, ◌+ℤ◌, ◌-ℤ◌, ◌*ℤ◌, List, [], ◌∷◌, ◌++◌, length, take, drop, refl, ap, sym, ◌∙◌, subst, arith, unsigned_abs}
-use Rattle.std.specs.Prelude.{◌||◌, Some}
+use Rattle.std.proofs.Common.{◌≡◌, ◌⊎◌, ℕ, zero, suc, ◌+◌, ◌-◌, ◌*◌, ◌/◌, ◌%◌, ◌<◌, ◌≤◌, ◌&&◌, inl, inr, Bool, true, false, not, ℤ, pos, neg_ℤ, ◌+ℤ◌, ◌-ℤ◌, ◌*ℤ◌, List, [], ◌∷◌, ◌++◌, length, take, drop, get_or, refl, ap, ap₂, sym, ◌∙◌, subst, arith, unsigned_abs}
+use Rattle.std.specs.Prelude.{Some}
 use Rattle.std.proofs.lemmas.Int.{ints, unsigned_abs-mul}
 use Rattle.sp_affine.specs.Affine.{Affine}
 use Rattle.sp_deps.specs.declared.access.LoopRange.{LoopRange}
 use Rattle.sp_deps.specs.declared.class.Class.TheVariants.{Steps}
 use Rattle.sp_deps.specs.declared.sum.Term.{Term}
 use Rattle.sp_deps.specs.declared.sum.Sum.{Sum}
-use Rattle.sp_deps.specs.Classes.{Loops, outside, shared, own_first, own_second, last_step, of_common, of_outside, of_own, is_ruled_out, terms_of, constant_of}
+use Rattle.sp_deps.specs.Classes.{Loops, outside, shared, own_first, own_second, last_step, of_common, of_outside, of_own, is_ruled_out, terms_of, is_open}
 use Rattle.sp_deps.specs.Sums.{plus, onto, nothing, sum_of, may_be}
+use Rattle.std.proofs.lemmas.List.{take_all}
 use Rattle.std.proofs.lemmas.Nat.{div-add-mod', mod_below, mul-le}
 use Rattle.sp_meets.specs.declared.steps.Tries.{Tries}
-use Rattle.sp_meets.specs.declared.steps.Tries.TheVariants.{Alike, UpTo, Unknown}
-use Rattle.sp_meets.specs.Reach.{reach, has_free}
-use Rattle.sp_meets.specs.Steps.{loops_of, AreTriesBy, AreTriesOf, IsMost}
+use Rattle.sp_meets.specs.declared.steps.Tries.TheVariants.{Every, UpTo, Unknown}
+use Rattle.sp_meets.specs.Reach.{reach, unbounded}
+use Rattle.sp_meets.specs.Steps.{loops_of, AreTriesBy, AreTriesOf, AreTriesOfAll, IsBoth, IsJoined, IsMost}
 use Rattle.sp_meets.proofs.Reach.{IsBounded, first_bounded, second_bounded, outside_bounded, shared_bounded, nothing_bounded, value_within}
-use Rattle.sp_meets.proofs.Free.{IsAny, onto_any, first_any, second_any, any_number}
+use Rattle.sp_meets.proofs.Spread.{IsSpread, onto_spread, first_spread, second_spread, unbounded_some, same_on}
 
 onto_append : (ts us : List Term) (s : Sum) → onto (ts ++ us) s ≡ onto ts (onto us s)
 onto_append [] us s = refl
@@ -44,10 +45,10 @@ whole_bounded os ps cs ds xs ys ls first second p q e f g h =
     let P : Sum → Type 0 = IsBounded (p + q) in
     subst P (sym (stacked (outside os ps) (shared cs ds ls) (own_first xs first) (own_second ys second))) all
 
-whole_any : (os cs xs ys : List Term) → IsAny (onto xs (onto ys nothing)) → IsAny (sum_of (os ++ (cs ++ (xs ++ ys))))
-whole_any os cs xs ys h =
-    let P : Sum → Type 0 = IsAny in
-    subst P (sym (stacked os cs xs ys)) (onto_any os _ (onto_any cs _ h))
+whole_spread : (p : ℕ) (os cs xs ys : List Term) → IsSpread p (onto xs (onto ys nothing)) → IsSpread p (sum_of (os ++ (cs ++ (xs ++ ys))))
+whole_spread p os cs xs ys h =
+    let P : Sum → Type 0 = IsSpread p in
+    subst P (sym (stacked os cs xs ys)) (onto_spread p os _ (onto_spread p cs _ h))
 
 -- the parts of equal coefficients
 same_outside : (common first second : List LoopRange) (xs ys : List ℤ) → xs ≡ ys → length first ≡ length second → of_outside common first xs ≡ of_outside common second ys
@@ -86,26 +87,33 @@ module _ (loops : Loops) (f g : Affine) where
           below : (a b c d n : ℕ) → a ≡ b → a ≤ c + n → c + d < b → n ≤ d → ⊥
           below a b c d n e f g h = omega arith
 
-  own_any : (b : Bool) → has_free (of_own loops.common loops.first f.coefs) loops.first ≡ b → (b || has_free (of_own loops.common loops.second g.coefs) loops.second) ≡ true →
-      IsAny (onto (own_first (of_own loops.common loops.first f.coefs) loops.first) (onto (own_second (of_own loops.common loops.second g.coefs) loops.second) nothing))
-  own_any true e h = first_any (of_own loops.common loops.first f.coefs) loops.first (onto (own_second (of_own loops.common loops.second g.coefs) loops.second) nothing) e
-  own_any false e h =
-      onto_any (own_first (of_own loops.common loops.first f.coefs) loops.first) (onto (own_second (of_own loops.common loops.second g.coefs) loops.second) nothing)
-      (second_any (of_own loops.common loops.second g.coefs) loops.second nothing h)
+  abbrev own_sum : Sum
+  own_sum = onto (own_first (of_own loops.common loops.first f.coefs) loops.first) (onto (own_second (of_own loops.common loops.second g.coefs) loops.second) nothing)
 
-  all_any : (t : ℕ) → (has_free (of_own loops.common loops.first f.coefs) loops.first || has_free (of_own loops.common loops.second g.coefs) loops.second) ≡ true →
-      IsAny (sum_of (terms_of loops f g (Steps t)))
-  all_any t h =
-      whole_any (outside (of_outside loops.common loops.first f.coefs) (of_outside loops.common loops.second g.coefs))
+  abbrev IsUnbounded : ℕ → Type 0
+  IsUnbounded p = (unbounded (of_own loops.common loops.first f.coefs) loops.first ≡ Some p) ⊎ (unbounded (of_own loops.common loops.second g.coefs) loops.second ≡ Some p)
+
+  own_spread : (p : ℕ) → IsUnbounded p → IsSpread p own_sum
+  own_spread p (inl h) = first_spread (of_own loops.common loops.first f.coefs) loops.first (onto (own_second (of_own loops.common loops.second g.coefs) loops.second) nothing) p h
+  own_spread p (inr h) =
+      onto_spread p (own_first (of_own loops.common loops.first f.coefs) loops.first) (onto (own_second (of_own loops.common loops.second g.coefs) loops.second) nothing)
+      (second_spread (of_own loops.common loops.second g.coefs) loops.second nothing p h)
+
+  -- the terms are the same for each number of steps
+  all_spread : (p t : ℕ) → IsUnbounded p → IsSpread p (sum_of (terms_of loops f g (Steps t)))
+  all_spread p t h =
+      whole_spread p (outside (of_outside loops.common loops.first f.coefs) (of_outside loops.common loops.second g.coefs))
       (shared (of_common loops.common loops.first f.coefs) (of_common loops.common loops.second g.coefs) loops.common)
       (own_first (of_own loops.common loops.first f.coefs) loops.first) (own_second (of_own loops.common loops.second g.coefs) loops.second)
-      (own_any (has_free (of_own loops.common loops.first f.coefs) loops.first) refl h)
+      (own_spread p h)
 
-  pub free : (t u : ℕ) → (has_free (of_own loops.common loops.first f.coefs) loops.first || has_free (of_own loops.common loops.second g.coefs) loops.second) ≡ true →
-      is_ruled_out loops f g (Steps t) ≡ is_ruled_out loops f g (Steps u)
-  free t u h =
-      ap not (any_number (sum_of (terms_of loops f g (Steps t))) (neg_ℤ (constant_of loops f g (Steps t))) (all_any t h)
-      ∙ sym (any_number (sum_of (terms_of loops f g (Steps u))) (neg_ℤ (constant_of loops f g (Steps u))) (all_any u h)))
+  some_unbounded : (p : ℕ) → IsUnbounded p → 1 ≤ p
+  some_unbounded p (inl h) = unbounded_some (of_own loops.common loops.first f.coefs) loops.first p h
+  some_unbounded p (inr h) = unbounded_some (of_own loops.common loops.second g.coefs) loops.second p h
+
+  pub again : (p t : ℕ) → IsUnbounded p → is_ruled_out loops f g (Steps (t + p)) ≡ is_ruled_out loops f g (Steps t)
+  again p t h =
+      ap not (same_on p (sum_of (terms_of loops f g (Steps t))) (g.constant -ℤ f.constant) (last_step (of_common loops.common loops.second g.coefs) loops.common) t (some_unbounded p h) (all_spread p t h))
 
   -- where the last counter doesn't count, each number of steps does the same
   pub still : (t u : ℕ) → unsigned_abs (last_step (of_common loops.common loops.second g.coefs) loops.common) ≡ 0 → is_ruled_out loops f g (Steps t) ≡ is_ruled_out loops f g (Steps u)
@@ -120,18 +128,10 @@ module _ (loops : Loops) (f g : Affine) where
       flat : (s : ℤ) → unsigned_abs s ≡ 0 → (t u : ℕ) → s *ℤ pos t ≡ s *ℤ pos u
       flat s h t u = ap (λ z. z *ℤ pos t) (no_size s h) ∙ flat_zero t u ∙ ap (λ z. z *ℤ pos u) (sym (no_size s h))
 
-or_right : (a b : Bool) → b ≡ true → (a || b) ≡ true
-or_right true b e = refl
-or_right false b e = e
-
-or_left : (a b : Bool) → a ≡ true → (a || b) ≡ true
-or_left a b e = ap (λ x. x || b) e
-
 pub tries_are : (common first second : List LoopRange) (f g : Affine) (start : ℕ) → start ≡ unsigned_abs (g.constant -ℤ f.constant) → f.coefs ≡ g.coefs → length first ≡ length second →
     (r : Tries) → AreTriesBy common first second f.coefs g.coefs start r → AreTriesOf (loops_of common first second) f g r
-tries_are common first second f g start s e alike Alike (inl none) = λ t. still (loops_of common first second) f g t 1 none
-tries_are common first second f g start s e alike Alike (inr (inl h)) = λ t. free (loops_of common first second) f g t 1 (or_left _ _ h)
-tries_are common first second f g start s e alike Alike (inr (inr h)) = λ t. free (loops_of common first second) f g t 1 (or_right _ _ h)
+tries_are common first second f g start s e alike (Every p) (inl (none, one)) = (omega (arith, one), λ t. still (loops_of common first second) f g (t + p) t none)
+tries_are common first second f g start s e alike (Every p) (inr h) = (some_unbounded (loops_of common first second) f g p h, λ t. again (loops_of common first second) f g p t h)
 tries_are common first second f g start s e alike (UpTo n) (p, q, h, k, far) =
     (far.some, λ t more. past (loops_of common first second) f g e alike p q t h k (begun _ _ (p + q) s (far.past t more)))
   where
@@ -140,44 +140,127 @@ tries_are common first second f g start s e alike (UpTo n) (p, q, h, k, far) =
 tries_are common first second f g start s e alike Unknown h = tt
 
 -- of all indices
-pub most_by_one : (loops : Loops) (f g : Affine) (fs gs : List Affine) (n : ℕ) → AreTriesOf loops f g (UpTo n) → IsMost loops (f ∷ fs) (g ∷ gs) n
-most_by_one loops f g fs gs n h = record {
-  some = h.0;
-  enough = λ t more may. absurd (closed _ _ (h.1 t more) may);
-}
+no : false ≡ true → ⊥
+no e = cc
+
+at_most_or_more : (a b : ℕ) → (a ≤ b) ⊎ (b < a)
+at_most_or_more zero b = inl (omega arith)
+at_most_or_more (suc a) zero = inr (omega arith)
+at_most_or_more (suc a) (suc b) = next (at_most_or_more a b)
   where
-    closed : (out rest : Bool) → out ≡ true → (not out && rest) ≡ true → ⊥
-    closed true rest e h = no h
-      where
-        no : false ≡ true → ⊥
-        no e = cc
-    closed false rest e h = no e
-      where
-        no : false ≡ true → ⊥
-        no e = cc
+    next : (a ≤ b) ⊎ (b < a) → (suc a ≤ suc b) ⊎ (suc b < suc a)
+    next (inl h) = inl (omega (arith, h))
+    next (inr h) = inr (omega (arith, h))
 
-pub most_by_rest : (loops : Loops) (f g : Affine) (fs gs : List Affine) (n : ℕ) → AreTriesOf loops f g Alike → IsMost loops fs gs n → IsMost loops (f ∷ fs) (g ∷ gs) n
-most_by_rest loops f g fs gs n h most = record {
-  some = most.some;
-  enough = λ t more may. both _ _ _ _ (h t) (most.enough t more) may;
-}
+-- what is the same after p is the same after k times p
+repeated : (test : ℕ → Bool) (p : ℕ) → ((t : ℕ) → test (t + p) ≡ test t) → (k t : ℕ) → test (t + k * p) ≡ test t
+repeated test p h zero t = ap test (omega arith)
+repeated test p h (suc k) t = ap test further ∙ h (t + k * p) ∙ repeated test p h k t
   where
-    both : (a b p q : Bool) → a ≡ b → (p ≡ true → q ≡ true) → (not a && p) ≡ true → (not b && q) ≡ true
-    both true b p q e f h = absurd (no h)
-      where
-        no : false ≡ true → ⊥
-        no e = cc
-    both false true p q e f h = absurd (no e)
-      where
-        no : false ≡ true → ⊥
-        no e = cc
-    both false false p q e f h = f h
+    further : t + suc k * p ≡ (t + k * p) + p
+    further = omega arith
 
-pub most_of_none : (loops : Loops) (gs : List Affine) → IsMost loops [] gs 1
-most_of_none loops gs = record { some = omega arith; enough = λ t more may. refl }
+module _ (loops : Loops) (f g : Affine) (fs gs : List Affine) where
+  pub with_every : (p q n : ℕ) → AreTriesOf loops f g (Every p) → AreTriesOfAll loops fs gs (Every q) → n ≡ p * q → AreTriesOfAll loops (f ∷ fs) (g ∷ gs) (Every n)
+  with_every p q n h k e = (one_or_more p q n h.0 k.0 e, same)
+    where
+      one_or_more : (p q n : ℕ) → 1 ≤ p → 1 ≤ q → n ≡ p * q → 1 ≤ n
+      one_or_more p q n h k e = let more = mul-le 1 1 p q h k in omega (arith, more, e)
 
-pub most_of_few : (loops : Loops) (f : Affine) (fs : List Affine) → IsMost loops (f ∷ fs) [] 1
-most_of_few loops f fs = record { some = omega arith; enough = λ t more may. refl }
+      turned : n ≡ q * p
+      turned = e ∙ mul_turned p q
+        where
+          mul_turned : (p q : ℕ) → p * q ≡ q * p
+          mul_turned p q = grind arith
+
+      same : (t : ℕ) → is_open loops (Steps (t + n)) (f ∷ fs) (g ∷ gs) ≡ is_open loops (Steps t) (f ∷ fs) (g ∷ gs)
+      same t =
+          ap₂ (λ a b. not a && b)
+          (ap (λ m. is_ruled_out loops f g (Steps (t + m))) turned ∙ repeated (λ t. is_ruled_out loops f g (Steps t)) p h.1 q t)
+          (ap (λ m. is_open loops (Steps (t + m)) fs gs) e ∙ repeated (λ t. is_open loops (Steps t) fs gs) q k.1 p t)
+
+  pub with_up_to : (n : ℕ) → AreTriesOf loops f g (UpTo n) → AreTriesOfAll loops (f ∷ fs) (g ∷ gs) (UpTo n)
+  with_up_to n h = (h.0, λ t more. ap (λ out. not out && is_open loops (Steps t) fs gs) (h.1 t more))
+
+  pub rest_up_to : (n : ℕ) → AreTriesOfAll loops fs gs (UpTo n) → AreTriesOfAll loops (f ∷ fs) (g ∷ gs) (UpTo n)
+  rest_up_to n h = (h.0, λ t more. ap (λ rest. not (is_ruled_out loops f g (Steps t)) && rest) (h.1 t more) ∙ and_false (not (is_ruled_out loops f g (Steps t))))
+    where
+      and_false : (b : Bool) → (b && false) ≡ false
+      and_false true = refl
+      and_false false = refl
+
+-- of an index and the others
+module _ (loops : Loops) (f g : Affine) (fs gs : List Affine) where
+  abbrev AreAll : Tries → Type 0
+  AreAll r = AreTriesOfAll loops (f ∷ fs) (g ∷ gs) r
+
+  both_tries : (p q : ℕ) (r : Tries) → IsBoth p q r → AreTriesOf loops f g (Every p) → AreTriesOfAll loops fs gs (Every q) → AreAll r
+  both_tries p q (Every n) is one rest = with_every loops f g fs gs p q n one rest is
+  both_tries p q (UpTo n) is one rest = absurd is
+  both_tries p q Unknown is one rest = tt
+
+  pub joined_tries : (one rest r : Tries) → IsJoined one rest r → AreTriesOf loops f g one → AreTriesOfAll loops fs gs rest → AreAll r
+  joined_tries (Every p) (Every q) r is h k = both_tries p q r is h k
+  joined_tries (Every p) (UpTo n) r is h k = subst AreAll (sym is) (rest_up_to loops f g fs gs n k)
+  joined_tries (Every p) Unknown r is h k = subst AreAll (sym is) tt
+  joined_tries (UpTo n) rest r is h k = subst AreAll (sym is) (with_up_to loops f g fs gs n h)
+  joined_tries Unknown (Every q) r is h k = subst AreAll (sym is) tt
+  joined_tries Unknown (UpTo n) r is h k = subst AreAll (sym is) (rest_up_to loops f g fs gs n k)
+  joined_tries Unknown Unknown r is h k = subst AreAll (sym is) tt
+
+-- a list that isn't empty is its first element and the others
+first_and_rest : (xs : List Affine) (x : Affine) → 1 ≤ length xs → x ≡ get_or xs 0 x → x ∷ take (length xs - 1) (drop 1 xs) ≡ xs
+first_and_rest [] x some is = absurd (omega (arith, some))
+first_and_rest (y ∷ ys) x some is = ap₂ (λ v vs. v ∷ vs) is (take_all (length (y ∷ ys) - 1) ys (omega arith))
+
+pub joined_whole : (loops : Loops) (xs ys : List Affine) (f g : Affine) (one rest r : Tries) → 1 ≤ length xs → 1 ≤ length ys → f ≡ get_or xs 0 f → g ≡ get_or ys 0 g → IsJoined one rest r →
+    AreTriesOf loops f g one → AreTriesOfAll loops (take (length xs - 1) (drop 1 xs)) (take (length ys - 1) (drop 1 ys)) rest → AreTriesOfAll loops xs ys r
+joined_whole loops xs ys f g one rest r some_as some_bs is_f is_g is h k =
+    let A : List Affine → Type 0 = λ zs. AreTriesOfAll loops zs (g ∷ take (length ys - 1) (drop 1 ys)) r in
+    let B : List Affine → Type 0 = λ zs. AreTriesOfAll loops xs zs r in
+    subst B (first_and_rest ys g some_bs is_g) (subst A (first_and_rest xs f some_as is_f) (joined_tries loops f g (take (length xs - 1) (drop 1 xs)) (take (length ys - 1) (drop 1 ys)) one rest r is h k))
+
+pub tries_of_none : (loops : Loops) (gs : List Affine) → AreTriesOfAll loops [] gs (Every 1)
+tries_of_none loops gs = (omega arith, λ t. refl)
+
+pub tries_of_few : (loops : Loops) (f : Affine) (fs : List Affine) → AreTriesOfAll loops (f ∷ fs) [] (Every 1)
+tries_of_few loops f fs = (omega arith, λ t. refl)
+
+module _ (loops : Loops) (fs gs : List Affine) (n : ℕ) where
+  pub most_by_every : AreTriesOfAll loops fs gs (Every n) → IsMost loops fs gs n
+  most_by_every h = record { some = h.0; enough = λ t more may. down t t (omega arith) (omega arith) may }
+    where
+      IsFound : Type 0
+      IsFound = (s : ℕ) × (1 ≤ s) × (s ≤ n) × (is_open loops (Steps s) fs gs ≡ true)
+
+      -- n steps less, until there are at most n
+      down : (fuel t : ℕ) → t ≤ fuel → 1 ≤ t → is_open loops (Steps t) fs gs ≡ true → IsFound
+      down zero t few some may = absurd (omega (arith, few, some))
+      down (suc fuel) t few some may = by_place (down fuel) (at_most_or_more t n)
+        where
+          before : n < t → t ≡ (t - n) + n
+          before more = omega (arith, more)
+
+          by_place : ((t : ℕ) → t ≤ fuel → 1 ≤ t → is_open loops (Steps t) fs gs ≡ true → IsFound) → (t ≤ n) ⊎ (n < t) → IsFound
+          by_place rest (inl few_enough) = (t, some, few_enough, may)
+          by_place rest (inr more) =
+              rest (t - n) (omega (arith, few, h.0)) (omega (arith, more)) (sym (h.1 (t - n)) ∙ ap (λ k. is_open loops (Steps k) fs gs) (sym (before more)) ∙ may)
+
+  pub most_by_none_past : AreTriesOfAll loops fs gs (UpTo n) → IsMost loops fs gs n
+  most_by_none_past h = record { some = h.0; enough = λ t more may. absurd (no (sym (h.1 t more) ∙ may)) }
+
+-- without an index each number of steps does the same
+pub most_without : (loops : Loops) (fs gs : List Affine) → (fs ≡ []) ⊎ (gs ≡ []) → IsMost loops fs gs 1
+most_without loops [] gs h = most_by_every loops [] gs 1 (tries_of_none loops gs)
+most_without loops (f ∷ fs) [] h = most_by_every loops (f ∷ fs) [] 1 (tries_of_few loops f fs)
+most_without loops (f ∷ fs) (g ∷ gs) (inl e) = absurd (some_none f fs e)
+  where
+    some_none : (f : Affine) (fs : List Affine) → f ∷ fs ≡ [] → ⊥
+    some_none f fs e = cc
+most_without loops (f ∷ fs) (g ∷ gs) (inr e) = absurd (some_none g gs e)
+  where
+    some_none : (f : Affine) (fs : List Affine) → f ∷ fs ≡ [] → ⊥
+    some_none f fs e = cc
 
 -- a quotient
 pub past_quotient : (r s t : ℕ) → 0 < s → r / s < t → r < s * t

@@ -3,6 +3,8 @@ pub mod Spots
 pub mod Sites
 pub mod Between
 pub mod Meets
+pub mod Plain
+pub mod Entries
 pub mod Examples
 pub mod Reach
 pub mod Steps

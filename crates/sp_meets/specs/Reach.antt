@@ -1,6 +1,6 @@
 -- How far the difference of two indices goes by the counters of each access's own: the size of each coefficient times the
 -- greatest size of a value, summed up.
-use Rattle.std.specs.Prelude.{ℕ, ◌+◌, ◌*◌, ◌==◌, max, Bool, false, ◌&&◌, ◌||◌, if◌then◌else◌, ℤ, List, ◌∷◌, Option, Some, None, is_none, unsigned_abs}
+use Rattle.std.specs.Prelude.{ℕ, ◌+◌, ◌*◌, ◌==◌, max, Bool, ◌&&◌, not, if◌then◌else◌, ℤ, List, ◌∷◌, Option, Some, None, is_none, unsigned_abs}
 use Rattle.sp_deps.specs.declared.access.LoopRange.{LoopRange}
 
 -- a counter without a known range has no end, unless it doesn't count
@@ -16,10 +16,11 @@ abbrev pub reach : List ℤ → List LoopRange → Option ℕ
 reach (x ∷ xs) (l ∷ loops) = both_reach (part_reach (unsigned_abs x) l.from) (reach xs loops)
 reach _ _ = Some 0
 
--- whether a counter without a known range counts once, so that every number is a value
-abbrev pub is_free : ℤ → LoopRange → Bool
-is_free x l = is_none l.from && (unsigned_abs x == 1)
+-- whether a counter without a known range counts
+abbrev pub is_unbounded : ℤ → LoopRange → Bool
+is_unbounded x l = is_none l.from && not (unsigned_abs x == 0)
 
-abbrev pub has_free : List ℤ → List LoopRange → Bool
-has_free (x ∷ xs) (l ∷ loops) = is_free x l || has_free xs loops
-has_free _ _ = false
+-- the size of the coefficient of the first such counter
+abbrev pub unbounded : List ℤ → List LoopRange → Option ℕ
+unbounded (x ∷ xs) (l ∷ loops) = if is_unbounded x l then Some (unsigned_abs x) else unbounded xs loops
+unbounded _ _ = None

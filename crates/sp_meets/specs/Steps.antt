@@ -9,42 +9,63 @@ use Rattle.sp_deps.specs.declared.access.LoopRange.{LoopRange}
 use Rattle.sp_deps.specs.Classes.{Loops, is_open, is_ruled_out, of_common, of_own, last_step}
 use Rattle.sp_deps.specs.Distances.{ArePresentAndParallel, steps_may_meet, IsDistanceOver}
 use Rattle.sp_deps.specs.Stages.{loops_between, plain_accesses, stages_meet}
-use Rattle.sp_meets.specs.Reach.{reach, has_free}
+use Rattle.sp_meets.specs.Reach.{reach, unbounded}
 use Rattle.sp_meets.specs.declared.least.Linear.{Linear}
 use Rattle.sp_meets.specs.declared.least.Linear.TheVariants.{Other, Equal, TooMany}
 use Rattle.sp_meets.specs.declared.steps.Tries.{Tries}
-use Rattle.sp_meets.specs.declared.steps.Tries.TheVariants.{Alike, UpTo, Unknown}
+use Rattle.sp_meets.specs.declared.steps.Tries.TheVariants.{Every, UpTo, Unknown}
 
 abbrev pub loops_of : (common first second : List LoopRange) → Loops
 loops_of common first second = record { common = common; first = first; second = second }
 
--- of one index: each number of steps does the same, or none past a number is open
+-- of one index: that many steps more do the same, or none past a number is open
 abbrev pub AreTriesOf : Loops → Affine → Affine → Tries → Type 0
-AreTriesOf loops f g Alike = (t : ℕ) → is_ruled_out loops f g (Steps t) ≡ is_ruled_out loops f g (Steps 1)
+AreTriesOf loops f g (Every p) = (1 ≤ p) × ((t : ℕ) → is_ruled_out loops f g (Steps (t + p)) ≡ is_ruled_out loops f g (Steps t))
 AreTriesOf loops f g (UpTo n) = (1 ≤ n) × ((t : ℕ) → n < t → is_ruled_out loops f g (Steps t) ≡ true)
 AreTriesOf loops f g Unknown = Unit {0}
+
+-- the same of all indices
+abbrev pub AreTriesOfAll : Loops → List Affine → List Affine → Tries → Type 0
+AreTriesOfAll loops fs gs (Every p) = (1 ≤ p) × ((t : ℕ) → is_open loops (Steps (t + p)) fs gs ≡ is_open loops (Steps t) fs gs)
+AreTriesOfAll loops fs gs (UpTo n) = (1 ≤ n) × ((t : ℕ) → n < t → is_open loops (Steps t) fs gs ≡ false)
+AreTriesOfAll loops fs gs Unknown = Unit {0}
+
+-- of one index and the others, by what is known of each
+abbrev pub IsBoth : (p q : ℕ) → Tries → Type 0
+IsBoth p q (Every n) = n ≡ p * q
+IsBoth p q (UpTo n) = ⊥
+IsBoth p q Unknown = Unit {0}
+
+abbrev pub IsJoined : (one rest result : Tries) → Type 0
+IsJoined (Every p) (Every q) r = IsBoth p q r
+IsJoined (Every p) (UpTo n) r = r ≡ UpTo n
+IsJoined (Every p) Unknown r = r ≡ Unknown
+IsJoined (UpTo n) rest r = r ≡ UpTo n
+IsJoined Unknown (Every q) r = r ≡ Unknown
+IsJoined Unknown (UpTo n) r = r ≡ UpTo n
+IsJoined Unknown Unknown r = r ≡ Unknown
 
 -- so many steps are further than the start and both reaches together
 pub record IsPast (start p q step n : ℕ) : Type 0 where
   pub some : 1 ≤ n
   pub past : (t : ℕ) → n < t → start + (p + q) < step * t
 
--- why that is so: the last counter doesn't count; a free counter makes every number a value; or so many steps are past all that
--- own counters reach
+-- why that is so: the last counter doesn't count; a counter without a known range takes the index as far as one likes; or so many
+-- steps are past all that own counters reach
 module _ (common first second : List LoopRange) (xs ys : List ℤ) (start : ℕ) where
   abbrev pub AreTriesBy : Tries → Type 0
-  AreTriesBy Alike =
-      (unsigned_abs (last_step (of_common common second ys) common) ≡ 0)
-      ⊎ ((has_free (of_own common first xs) first ≡ true) ⊎ (has_free (of_own common second ys) second ≡ true))
+  AreTriesBy (Every p) =
+      ((unsigned_abs (last_step (of_common common second ys) common) ≡ 0) × (p ≡ 1))
+      ⊎ ((unbounded (of_own common first xs) first ≡ Some p) ⊎ (unbounded (of_own common second ys) second ≡ Some p))
   AreTriesBy (UpTo n) =
       (p q : ℕ) × (reach (of_own common first xs) first ≡ Some p) × (reach (of_own common second ys) second ≡ Some q)
       × IsPast start p q (unsigned_abs (last_step (of_common common second ys) common)) n
   AreTriesBy Unknown = Unit {0}
 
--- of all indices: past that number, one of steps is open only where one step is
+-- of all indices: where a number of steps past that one is open, one of those up to it is
 pub record IsMost (loops : Loops) (fs gs : List Affine) (n : ℕ) : Type 0 where
   pub some : 1 ≤ n
-  pub enough : (t : ℕ) → n < t → is_open loops (Steps t) fs gs ≡ true → is_open loops (Steps 1) fs gs ≡ true
+  pub enough : (t : ℕ) → n < t → is_open loops (Steps t) fs gs ≡ true → (s : ℕ) × (1 ≤ s) × (s ≤ n) × (is_open loops (Steps s) fs gs ≡ true)
 
 -- whether two parts meet so many groups apart, or less
 abbrev pub parts_meet : Footprint → Footprint → ℕ → Bool
@@ -65,7 +86,7 @@ IsOne a x = plain_accesses a ≡ x ∷ []
 -- where that isn't known
 abbrev pub IsLinearOf : Loops → Option (List Affine) → Option (List Affine) → Linear → Type 0
 IsLinearOf loops first second Other = ArePresentAndParallel first second → ⊥
-IsLinearOf loops first second (Equal n) = ArePresentAndParallel first second × ((t : ℕ) → n + 1 ≤ t → steps_may_meet loops first second t ≡ true → steps_may_meet loops first second 1 ≡ true) × (1 ≤ n)
+IsLinearOf loops first second (Equal n) = ArePresentAndParallel first second × ((t : ℕ) → n + 1 ≤ t → steps_may_meet loops first second t ≡ true → (s : ℕ) × (1 ≤ s) × (s ≤ n) × (steps_may_meet loops first second s ≡ true)) × (1 ≤ n)
 IsLinearOf loops first second TooMany = ArePresentAndParallel first second
 
 -- the distance of two parts of one access each, which can meet

@@ -5,18 +5,19 @@ ghost use Rattle.std.specs.List.{All};
 ghost use Rattle.sp_deps.specs.Access.{advance};
 ghost use Rattle.sp_deps.specs.Bounds.{HasCounters};
 ghost use Rattle.sp_deps.specs.Classes.{of_common, of_own, last_step};
+ghost use Rattle.sp_meets.specs.declared.steps.Tries.TheVariants.{Every, Unknown};
 ghost use Rattle.sp_deps.specs.Distances.{AreParallel};
-ghost use Rattle.sp_meets.specs.Reach.{part_reach, reach, is_free, has_free};
-ghost use Rattle.sp_meets.specs.Steps.{loops_of, AreTriesBy, AreTriesOf, IsMost, IsPast};
+ghost use Rattle.sp_meets.specs.Reach.{part_reach, reach, is_unbounded, unbounded};
+ghost use Rattle.sp_meets.specs.Steps.{loops_of, AreTriesBy, AreTriesOf, AreTriesOfAll, IsBoth, IsJoined, IsMost, IsPast};
 
 use sp_affine::Form;
 use sp_deps::LoopRange;
 
-/// Of one index: each number of steps does the same; or numbers up to this one have to be tried; or it isn't known, since a
-/// counter without a range counts several times, or numbers pass 64 bits.
+/// Which numbers of steps have to be tried: so many more do the same, so those up to that number; numbers up to this one,
+/// since none past it can meet; or it isn't known, since numbers pass 64 bits.
 #[derive(Clone, Copy, Debug)]
 pub enum Tries {
-    Alike,
+    Every(u64),
     UpTo(u64),
     Unknown,
 }
@@ -66,23 +67,28 @@ fn reach(coefs: &[i64], loops: &[LoopRange]) -> Option<u128>
     first.checked_add(rest)
 }
 
-fn is_free(x: &i64, l: &LoopRange) -> bool
-    ensures { result ≡ is_free x.now l.now }
+/// Whether a counter without a known range counts.
+fn is_unbounded(x: &i64, l: &LoopRange) -> bool
+    ensures { result ≡ is_unbounded x.now l.now }
 {
-    l.from.is_none() && x.unsigned_abs() == 1
+    l.from.is_none() && x.unsigned_abs() != 0
 }
 
-/// Whether a counter without a known range counts once.
-fn has_free(coefs: &[i64], loops: &[LoopRange]) -> bool
-    ensures { result ≡ has_free coefs.now loops.now }
+/// The size of the coefficient of the first such counter.
+fn unbounded(coefs: &[i64], loops: &[LoopRange]) -> Option<u64>
+    ensures { result ≡ unbounded coefs.now loops.now }
 {
     let [x, xs @ ..] = coefs else {
-        return false;
+        return None;
     };
     let [l, others @ ..] = loops else {
-        return false;
+        return None;
     };
-    is_free(x, l) || has_free(xs, others)
+    if is_unbounded(x, l) {
+        Some(x.unsigned_abs())
+    } else {
+        unbounded(xs, others)
+    }
 }
 
 /// How far the last counter goes on in a group, times the size of its coefficient.
@@ -134,13 +140,13 @@ fn tries_by(
     let b = parts(ys, common, second);
     let step = last_step(b.common, common);
     if step == 0 {
-        return Tries::Alike;
+        return Tries::Every(1);
     }
-    if has_free(a.own, first) {
-        return Tries::Alike;
+    if let Some(p) = unbounded(a.own, first) {
+        return Tries::Every(p);
     }
-    if has_free(b.own, second) {
-        return Tries::Alike;
+    if let Some(p) = unbounded(b.own, second) {
+        return Tries::Every(p);
     }
     let Some(p) = reach(a.own, first) else {
         return Tries::Unknown;
@@ -178,8 +184,74 @@ fn tries_of(
     tries_by(&f.coefs, &g.coefs, start, common, first, second)
 }
 
+// Where each so many steps more do the same.
+fn both(p: u64, q: u64) -> Tries
+    ensures { IsBoth p q result }
+{
+    match p.checked_mul(q) {
+        Some(n) => Tries::Every(n),
+        None => Tries::Unknown,
+    }
+}
+
+fn after_every(p: u64, rest: Tries) -> Tries
+    ensures { IsJoined (Every p) rest result }
+{
+    match rest {
+        Tries::Every(q) => both(p, q),
+        Tries::UpTo(n) => Tries::UpTo(n),
+        Tries::Unknown => Tries::Unknown,
+    }
+}
+
+fn after_unknown(rest: Tries) -> Tries
+    ensures { IsJoined Unknown rest result }
+{
+    match rest {
+        Tries::Every(_) => Tries::Unknown,
+        Tries::UpTo(n) => Tries::UpTo(n),
+        Tries::Unknown => Tries::Unknown,
+    }
+}
+
+/// Of an index and the others.
+fn joined(one: Tries, rest: Tries) -> Tries
+    ensures { IsJoined one rest result }
+{
+    match one {
+        Tries::Every(p) => after_every(p, rest),
+        Tries::UpTo(n) => Tries::UpTo(n),
+        Tries::Unknown => after_unknown(rest),
+    }
+}
+
+/// Of all indices.
+#[tactic(auto, using(crate::proofs::Parallel::tries_of_none, crate::proofs::Parallel::tries_of_few, crate::proofs::Parallel::joined_tries))]
+fn tries_of_all(
+    a: &[Form],
+    b: &[Form],
+    common: &[LoopRange],
+    first: &[LoopRange],
+    second: &[LoopRange],
+) -> Tries
+    requires a { All (λ f. HasCounters common.now first.now f.coefs) a.now }
+    requires b { All (λ g. HasCounters common.now second.now g.coefs) b.now }
+    requires parallel { AreParallel a.now b.now }
+    requires alike { length first.now ≡ length second.now }
+    ensures { AreTriesOfAll (loops_of common.now first.now second.now) a.now b.now result }
+{
+    let [f, fs @ ..] = a else {
+        return Tries::Every(1);
+    };
+    let [g, gs @ ..] = b else {
+        return Tries::Every(1);
+    };
+    let rest = tries_of_all(fs, gs, common, first, second);
+    joined(tries_of(f, g, common, first, second), rest)
+}
+
 /// How many steps have to be tried, where that is known.
-#[tactic(auto, using(crate::proofs::Parallel::most_by_one, crate::proofs::Parallel::most_by_rest, crate::proofs::Parallel::most_of_none, crate::proofs::Parallel::most_of_few))]
+#[tactic(auto, using(crate::proofs::Parallel::most_by_every, crate::proofs::Parallel::most_by_none_past))]
 pub fn most_tries(
     a: &[Form],
     b: &[Form],
@@ -193,14 +265,8 @@ pub fn most_tries(
     requires alike { length first.now ≡ length second.now }
     ensures { IfSome result (λ n. IsMost (loops_of common.now first.now second.now) a.now b.now n) }
 {
-    let [f, fs @ ..] = a else {
-        return Some(1);
-    };
-    let [g, gs @ ..] = b else {
-        return Some(1);
-    };
-    match tries_of(f, g, common, first, second) {
-        Tries::Alike => most_tries(fs, gs, common, first, second),
+    match tries_of_all(a, b, common, first, second) {
+        Tries::Every(n) => Some(n),
         Tries::UpTo(n) => Some(n),
         Tries::Unknown => None,
     }
