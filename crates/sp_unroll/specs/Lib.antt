@@ -1,2 +1,5 @@
 pub mod Arranged
+pub mod Bodies
 pub mod Entries
+pub mod Stages
+pub mod Words

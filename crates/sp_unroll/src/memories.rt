@@ -53,7 +53,11 @@ fn mem_at(alloc: Global, mems: &[CoreMem], m: u32) -> Result<CoreMem, NoMemory>
 }
 
 /// Copies of the memories of these numbers.
-fn mems_at(alloc: Global, mems: &[CoreMem], order: &[u32]) -> Result<Vec<CoreMem>, NoMemory>
+pub(crate) fn mems_at(
+    alloc: Global,
+    mems: &[CoreMem],
+    order: &[u32],
+) -> Result<Vec<CoreMem>, NoMemory>
     ensures { IfOk result (λ made. map plain_mem made.items ≡ map (λ m. slice_index_or (map plain_mem mems.now) m no_mem) order.now) }
 {
     let mut made = Vec::new(alloc);
