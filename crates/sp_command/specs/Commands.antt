@@ -6,6 +6,7 @@ pub data Command : Type 0 where
   format : (program : List ℕ) → Command
   compile : (program : List ℕ) → Command
   verilog : (program : List ℕ) → Command
+  report : (program : List ℕ) → Command
   seq : (program setup : List ℕ) → Command
   simulate : (listing setup : List ℕ) → Command
   waves : (listing setup : List ℕ) → Command
@@ -21,6 +22,7 @@ IsCommand said (check program) = (said ≡ codes "check" ∷ program ∷ []) × 
 IsCommand said (format program) = (said ≡ codes "format" ∷ program ∷ []) × IsFileWord program
 IsCommand said (compile program) = (said ≡ codes "compile" ∷ program ∷ []) × IsFileWord program
 IsCommand said (verilog program) = (said ≡ codes "verilog" ∷ program ∷ []) × IsFileWord program
+IsCommand said (report program) = (said ≡ codes "report" ∷ program ∷ []) × IsFileWord program
 IsCommand said (seq program setup) = (said ≡ codes "seq" ∷ program ∷ setup ∷ []) × IsFileWord program × IsFileWord setup
 IsCommand said (simulate listing setup) = (said ≡ codes "simulate" ∷ listing ∷ setup ∷ []) × IsFileWord listing × IsFileWord setup
 IsCommand said (waves listing setup) = (said ≡ codes "waves" ∷ listing ∷ setup ∷ []) × IsFileWord listing × IsFileWord setup

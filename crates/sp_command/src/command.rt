@@ -18,6 +18,8 @@ pub enum Command<'a> {
     Compile { program: &'a str },
     /// `verilog P`: the Verilog text of that netlist.
     Verilog { program: &'a str },
+    /// `report P`: what is decided of program P: its banks, times, slots and copies.
+    Report { program: &'a str },
     /// `seq P S`: what program P leaves under the setup S.
     Seq { program: &'a str, setup: &'a str },
     /// `simulate L S`: the result of the listing L under the setup S.
@@ -38,6 +40,7 @@ fn row_of(said: Said<'_>) -> Option<Command<'_>>
         ("format", None) => Some(Command::Format { program }),
         ("compile", None) => Some(Command::Compile { program }),
         ("verilog", None) => Some(Command::Verilog { program }),
+        ("report", None) => Some(Command::Report { program }),
         ("seq", Some(setup)) => Some(Command::Seq { program, setup }),
         ("simulate", Some(setup)) => Some(Command::Simulate {
             listing: program,

@@ -7,7 +7,7 @@ use Rattle.sp_top.specs.Status.{PlainStatus, done, words, setup_refused, read_fa
 use Rattle.sp_edges.specs.Calls.{Call}
 use Rattle.sp_top.specs.Reads.{IsPastText}
 use Rattle.sp_top.specs.Compile.{longest_program, CompileRefuses}
-use Rattle.sp_top.specs.Commands.{Command, check, format, compile, verilog, seq, simulate, waves, IsCommand, MayRefuse, Refuses, MayEnd, NotRefused}
+use Rattle.sp_top.specs.Commands.{Command, check, format, compile, verilog, report, seq, simulate, waves, IsCommand, MayRefuse, Refuses, MayEnd, NotRefused}
 use Rattle.sp_top.specs.Record.{SinkChange, Records}
 use Rattle.sp_top.proofs.LawLemmas.{breaks_or_reads}
 
@@ -50,6 +50,26 @@ not_format_check said p q one other =
     let letters : 102 ≡ 99 = sym (ap first_letter one.0) ∙ ap first_letter other.0 in
     omega (arith, letters)
 
+pub not_report : (said : List (List ℕ)) (p q : List ℕ) → IsCommand said (report p) → IsCommand said (compile q) → ⊥
+not_report said p q one other =
+    let letters : 114 ≡ 99 = sym (ap first_letter one.0) ∙ ap first_letter other.0 in
+    omega (arith, letters)
+
+pub not_report_verilog : (said : List (List ℕ)) (p q : List ℕ) → IsCommand said (report p) → IsCommand said (verilog q) → ⊥
+not_report_verilog said p q one other =
+    let letters : 114 ≡ 118 = sym (ap first_letter one.0) ∙ ap first_letter other.0 in
+    omega (arith, letters)
+
+pub not_report_check : (said : List (List ℕ)) (p q : List ℕ) → IsCommand said (report p) → IsCommand said (check q) → ⊥
+not_report_check said p q one other =
+    let letters : 114 ≡ 99 = sym (ap first_letter one.0) ∙ ap first_letter other.0 in
+    omega (arith, letters)
+
+pub not_report_format : (said : List (List ℕ)) (p q : List ℕ) → IsCommand said (report p) → IsCommand said (format q) → ⊥
+not_report_format said p q one other =
+    let letters : 114 ≡ 102 = sym (ap first_letter one.0) ∙ ap first_letter other.0 in
+    omega (arith, letters)
+
 not_both : (said : List (List ℕ)) (p q : List ℕ) → IsCommand said (compile p) → IsCommand said (verilog q) → ⊥
 not_both said p q one other =
     let letters : 99 ≡ 118 = sym (ap first_letter one.0) ∙ ap first_letter other.0 in
@@ -87,6 +107,8 @@ only_compile said told failed asked program status (compile other) (inr is) also
 only_compile said told failed asked program status (verilog other) (inl is) also refuses = absurd (not_both said program other is also)
 only_compile said told failed asked program status (verilog other) (inr is) also refuses =
     let P : List ℕ → Type 0 = λ p. CompileRefuses told failed asked p status in subst P (one_verilog said other program also is) refuses
+only_compile said told failed asked program status (report other) (inl is) also refuses = absurd (not_report said other program also is)
+only_compile said told failed asked program status (report other) (inr is) also refuses = absurd (not_report_verilog said other program also is)
 only_compile said told failed asked program status (seq name setup) (inl is) also refuses = let a = is.0 in let b = also.0 in absurd (cc)
 only_compile said told failed asked program status (seq name setup) (inr is) also refuses = let a = is.0 in let b = also.0 in absurd (cc)
 only_compile said told failed asked program status (simulate listing setup) (inl is) also refuses = let a = is.0 in let b = also.0 in absurd (cc)

@@ -14,7 +14,7 @@ use Rattle.sp_tree.specs.PlainProgram.{PlainProgram}
 use Rattle.sp_words.specs.Ports.{PlainPorts}
 use Rattle.sp_top.specs.Status.{PlainStatus, done, words, setup_refused, read_fault, write_fault, memory, listing_refused, conflict, cycles_spent, stopped_at, turns_spent, too_long, unbuilt, source_refused}
 use Rattle.sp_top.specs.Check.{CheckRefuses}
-use Rattle.sp_top.specs.Commands.{Command, check, format, compile, verilog, seq, simulate, waves, IsCommand, DoneTexts, MayRefuse, Refuses, MayEnd, NotRefused}
+use Rattle.sp_top.specs.Commands.{Command, check, format, compile, verilog, report, seq, simulate, waves, IsCommand, DoneTexts, MayRefuse, Refuses, MayEnd, NotRefused}
 use Rattle.sp_top.specs.Complete.{CanBeRun, EndsInTime, TellsEnd}
 use Rattle.sp_top.specs.Record.{SinkChange, Records}
 use Rattle.sp_top.specs.Seq.{GivesProgram, RunsProgram, Stops, SeqRefuses}
@@ -145,6 +145,7 @@ module _ (laws : HasSeqLaws) (told : List ℕ → Standing) (sure failed : List 
   seq_alone said (format other) is also = let a = is.0 in let b = also.0 in absurd (cc)
   seq_alone said (compile other) is also = let a = is.0 in let b = also.0 in absurd (cc)
   seq_alone said (verilog other) is also = let a = is.0 in let b = also.0 in absurd (cc)
+  seq_alone said (report other) is also = let a = is.0 in let b = also.0 in absurd (cc)
   seq_alone said (seq p s) is also =
       let a = is.0 in
       let b = also.0 in

@@ -17,7 +17,7 @@ use Rattle.sp_top.specs.Compile.{CompileRefuses}
 use Rattle.sp_tree.specs.PlainProgram.{PlainProgram}
 use Rattle.sp_top.specs.Seq.{Stops}
 use Rattle.sp_top.specs.Simulate.{ListingRefuses, SetupRefuses, end_status, RunEnds, DumpEnds, longest_setup}
-use Rattle.sp_top.specs.Commands.{Command, check, format, compile, verilog, seq, simulate, waves, MayRefuse, Refuses, MayEnd}
+use Rattle.sp_top.specs.Commands.{Command, check, format, compile, verilog, report, seq, simulate, waves, MayRefuse, Refuses, MayEnd}
 
 -- a status in which a command may refuse
 abbrev pub IsRefusal : PlainStatus → Type 0
@@ -161,6 +161,7 @@ dump_refuses cells plain (unbuilt line) refuses = tt
 may_refuse : (told : List ℕ → Standing) (failed : List ℕ → Type 0) (asked : List Call → Type 0) (command : Command) (status : PlainStatus) → MayRefuse told failed asked command status → IsRefusal status
 may_refuse told failed asked (check program) status refuses = check_refuses told failed asked program status refuses
 may_refuse told failed asked (format program) status refuses = check_refuses told failed asked program status refuses
+may_refuse told failed asked (report program) status refuses = check_refuses told failed asked program status refuses
 may_refuse told failed asked (compile program) status refuses = compile_refuses told failed asked program status refuses
 may_refuse told failed asked (verilog program) status refuses = compile_refuses told failed asked program status refuses
 may_refuse told failed asked (simulate listing setup) status (inl refuses) = listing_refuses (told listing) (failed listing) asked listing status refuses
@@ -296,6 +297,7 @@ memory_refuses : (told : List ℕ → Standing) (failed : List ℕ → Type 0) (
     → MayRefuse told failed asked command status → MayRefuse told failed asked command memory
 memory_refuses told failed asked (check program) status parts refuses = check_memory told failed asked program status parts refuses
 memory_refuses told failed asked (format program) status parts refuses = check_memory told failed asked program status parts refuses
+memory_refuses told failed asked (report program) status parts refuses = check_memory told failed asked program status parts refuses
 memory_refuses told failed asked (compile program) status parts refuses = compile_memory told failed asked program status parts refuses
 memory_refuses told failed asked (verilog program) status parts refuses = compile_memory told failed asked program status parts refuses
 memory_refuses told failed asked (simulate listing setup) status parts (inl refuses) = inl (listing_memory (told listing) (failed listing) asked listing status parts refuses)

@@ -1,4 +1,4 @@
--- `check P` and `format P`: whether program P is one of the language, and its canonical text.
+-- `check P`, `format P` and `report P`: whether program P is one of the language, its canonical text, and what is decided of it.
 use Rattle.std.specs.Prelude.{◌≡◌, ◌≢◌, ℕ, List, [], ◌∷◌, codes}
 use Rattle.sp_edges.specs.Standing.{Standing}
 use Rattle.sp_edges.specs.Calls.{Call, given}
@@ -7,6 +7,9 @@ use Rattle.sp_printer.specs.Program.{canonical_text}
 use Rattle.sp_source.specs.declared.error.SourceError.{SourceError}
 use Rattle.sp_source.specs.declared.error.SourceError.TheVariants as source
 use Rattle.sp_source.specs.Texts.{Spells, IsCauseOf}
+use Rattle.sp_plan.specs.PlainPlan.{PlainPlan}
+use Rattle.sp_report.specs.Report.{report_text}
+use Rattle.sp_compile.specs.Choices.{lanes_of, IsPlanOf}
 use Rattle.sp_top.specs.Compile.{longest_program}
 use Rattle.sp_top.specs.Reads.{GivesText, ReadRefuses}
 use Rattle.sp_top.specs.Status.{PlainStatus, memory, source_refused}
@@ -18,6 +21,10 @@ SaysRight bytes text = (program : PlainProgram) × Spells bytes program × (text
 -- the bytes spell a program, and the text is the canonical one of that program
 abbrev pub WritesCanonical : (bytes text : List ℕ) → Type 0
 WritesCanonical bytes text = (program : PlainProgram) × Spells bytes program × (text ≡ canonical_text program)
+
+-- the bytes spell a program, and the text tells the plan that is chosen for it
+abbrev pub WritesReport : (bytes text : List ℕ) → Type 0
+WritesReport bytes text = (program : PlainProgram) × Spells bytes program × ((plan : PlainPlan) × IsPlanOf program plan × (text ≡ report_text (lanes_of program) plan))
 
 -- the status in which bytes are refused that spell none
 abbrev pub status_of_source : SourceError → PlainStatus
@@ -38,7 +45,7 @@ pub record BreaksSource (told : List ℕ → Standing) (asked : List Call → Ty
   pub is_cause : IsCauseOf bytes error
   pub not_memory : error ≢ source.Memory
 
--- The statuses in which either command refuses, each with its cause.
+-- The statuses in which such a command refuses, each with its cause.
 abbrev pub CheckRefuses : (List ℕ → Standing) → (failed : List ℕ → Type 0) → (asked : List Call → Type 0) → (program : List ℕ) → PlainStatus → Type 0
 CheckRefuses told failed asked program (source_refused error) = BreaksSource told asked program error
 CheckRefuses told failed asked program status = ReadRefuses (told program) (failed program) asked longest_program program status

@@ -1,9 +1,9 @@
 -- How a command of the table may end, and what it then puts.
 use Rattle.std.specs.Prelude.{◌≡◌, ◌⊎◌, ℕ, List, []}
-pub use Rattle.sp_command.specs.Commands.{Command, check, format, compile, verilog, seq, simulate, waves, IsFileWord, IsCommand}
+pub use Rattle.sp_command.specs.Commands.{Command, check, format, compile, verilog, report, seq, simulate, waves, IsFileWord, IsCommand}
 use Rattle.sp_edges.specs.Standing.{Standing}
 use Rattle.sp_edges.specs.Calls.{Call}
-use Rattle.sp_top.specs.Check.{SaysRight, WritesCanonical, CheckRefuses}
+use Rattle.sp_top.specs.Check.{SaysRight, WritesCanonical, WritesReport, CheckRefuses}
 use Rattle.sp_top.specs.Compile.{ListsProgram, PrintsProgram, Translates, CompileRefuses}
 use Rattle.sp_top.specs.Seq.{RunsProgram, SeqRefuses}
 use Rattle.sp_top.specs.Simulate.{Prints, RunEnds, Dumps, DumpEnds, Simulates, SimulateRefuses}
@@ -15,6 +15,7 @@ DoneTexts told asked (check program) out aside = Translates SaysRight told asked
 DoneTexts told asked (format program) out aside = Translates WritesCanonical told asked program out aside
 DoneTexts told asked (compile program) out aside = Translates ListsProgram told asked program out aside
 DoneTexts told asked (verilog program) out aside = Translates PrintsProgram told asked program out aside
+DoneTexts told asked (report program) out aside = Translates WritesReport told asked program out aside
 DoneTexts told asked (seq program setup) out aside = RunsProgram told asked program setup out aside
 DoneTexts told asked (simulate listing setup) out aside = Simulates Prints told asked listing setup out aside
 DoneTexts told asked (waves listing setup) out aside = Simulates Dumps told asked listing setup out aside
@@ -26,6 +27,7 @@ MayRefuse told failed asked (check program) status = CheckRefuses told failed as
 MayRefuse told failed asked (format program) status = CheckRefuses told failed asked program status
 MayRefuse told failed asked (compile program) status = CompileRefuses told failed asked program status
 MayRefuse told failed asked (verilog program) status = CompileRefuses told failed asked program status
+MayRefuse told failed asked (report program) status = CheckRefuses told failed asked program status
 MayRefuse told failed asked (seq program setup) status = SeqRefuses told failed asked program setup status
 MayRefuse told failed asked (simulate listing setup) status = SimulateRefuses RunEnds told failed asked listing setup status
 MayRefuse told failed asked (waves listing setup) status = SimulateRefuses DumpEnds told failed asked listing setup status
@@ -49,3 +51,7 @@ NotRefused done = Unit {0}
 NotRefused memory = Unit {0}
 NotRefused (write_fault which) = Unit {0}
 NotRefused status = ⊥
+
+-- the words are a command that reads a program of the whole language, and nothing else
+abbrev pub IsReading : List (List ℕ) → (program : List ℕ) → Type 0
+IsReading said program = IsCommand said (check program) ⊎ (IsCommand said (format program) ⊎ IsCommand said (report program))

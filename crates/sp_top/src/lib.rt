@@ -7,6 +7,7 @@ mod format;
 mod laws;
 mod lines;
 mod reads;
+mod report;
 mod result_text;
 mod seq;
 mod simulate;

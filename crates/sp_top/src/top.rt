@@ -4,7 +4,7 @@ ghost use Rattle.sp_edges.specs.Counts.{Rose};
 ghost use Rattle.sp_top.specs.Status.{plain_status};
 ghost use Rattle.sp_edges.specs.Standing.{Holds};
 ghost use Rattle.sp_top.specs.Form.{Line, IsStraight};
-ghost use Rattle.sp_top.specs.Commands.{IsCommand, DoneTexts, MayRefuse, MayEnd, NotRefused};
+ghost use Rattle.sp_top.specs.Commands.{IsCommand, IsReading, DoneTexts, MayRefuse, MayEnd, NotRefused};
 ghost use Rattle.sp_netlist.specs.Cells.{PlainCell};
 ghost use Rattle.sp_setup.specs.Setup.{PlainSetup};
 ghost use Rattle.sp_source.specs.Texts.{Spells};
@@ -18,6 +18,7 @@ ghost use Rattle.sp_top.specs.Record.{Records};
 use crate::check::check;
 use crate::compile::{compile, print_verilog};
 use crate::format::print_canonical;
+use crate::report::print_report;
 use crate::seq::run_sequentially;
 use crate::simulate::{View, simulate};
 use crate::sinks::{Texts, deliver, refuse};
@@ -41,6 +42,7 @@ fn texts_of<I: Inputs>(alloc: Global, command: Command<'_>, inputs: &mut I) -> R
         Command::Format { program } => print_canonical(alloc, program, inputs),
         Command::Compile { program } => compile(alloc, program, inputs),
         Command::Verilog { program } => print_verilog(alloc, program, inputs),
+        Command::Report { program } => print_report(alloc, program, inputs),
         Command::Seq { program, setup } => run_sequentially(alloc, program, setup, inputs),
         Command::Simulate { listing, setup } => {
             simulate(alloc, View::Outcome, listing, setup, inputs)
@@ -107,8 +109,8 @@ pub fn spatialc<I: Inputs, K: Sink, A: Sink>(
     // A program of the form under a sure name isn't refused.
     ensures complete { (program bytes : List ℕ) (lines : List Line) → IsCommand (map string_bytes words.now) (commands.compile program) ⊎ IsCommand (map string_bytes words.now) (commands.verilog program) → I.sure inputs.old program
         → I.told inputs.old program ≡ Holds bytes → length bytes ≤ longest_program → IsStraight bytes lines → NotRefused (plain_status result) }
-    // Nor is a text that spells a program by `check` or `format`.
-    ensures checks { (program bytes : List ℕ) (plain : PlainProgram) → IsCommand (map string_bytes words.now) (commands.check program) ⊎ IsCommand (map string_bytes words.now) (commands.format program) → I.sure inputs.old program
+    // Nor is a text that spells a program by `check`, `format` or `report`.
+    ensures checks { (program bytes : List ℕ) (plain : PlainProgram) → IsReading (map string_bytes words.now) program → I.sure inputs.old program
         → I.told inputs.old program ≡ Holds bytes → length bytes ≤ longest_program → Spells bytes plain → NotRefused (plain_status result) }
     // The run of a program tells how the program ends: it isn't refused but for want of memory.
     ensures runs { (program setup : List ℕ) (plain : PlainProgram) (plan : PlainSetup) → IsCommand (map string_bytes words.now) (commands.seq program setup)
