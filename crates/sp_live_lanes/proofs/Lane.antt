@@ -19,12 +19,13 @@ use Rattle.sp_core.specs.Scope.{Scope, is_some_up_to}
 use Rattle.sp_core.specs.Step.{Went, went, stopped, more, pure, ◌>>=◌}
 use Rattle.sp_core.specs.Store.{Store}
 use Rattle.sp_core.specs.Typed.{Given, given_type, taken_types, gives, give_all}
+use Rattle.sp_fitting.specs.Fitting.{MasksAreBits}
 use Rattle.sp_lanes.specs.Bodies.{computes, live_op, under, masked, in_mask, at_places, nowhere, Body, lane_from}
 use Rattle.sp_lanes.specs.Unrolled.{unrolled}
 use Rattle.sp_lanes.specs.Within.{Within, op_in}
 use Rattle.sp_unrolled_rules.specs.Places.{GoTogether}
 use Rattle.sp_live_lanes.specs.Laws.{LiveLanesGoAlong}
-use Rattle.sp_live_lanes.specs.Stores.{AreCopies, HaveRoom, HoldAlike, LeavesOthers, ScopesAgree, IsPlainKind, ArePlain, MasksAreBits}
+use Rattle.sp_live_lanes.specs.Stores.{AreCopies, HaveRoom, HoldAlike, LeavesOthers, ScopesAgree, IsPlainKind, ArePlain}
 use Rattle.sp_live_lanes.proofs.Along.{did_go, answer_of, store_of}
 use Rattle.sp_live_lanes.proofs.Operations.{operation_goes, named_right}
 

@@ -11,13 +11,14 @@ use Rattle.sp_core.specs.Scope.{plainly, loops_of, Scope, in_group}
 use Rattle.sp_core.specs.Scope as scope
 use Rattle.sp_core.specs.Step.{went}
 use Rattle.sp_core.specs.Store.{Store}
+use Rattle.sp_fitting.specs.Fitting.{MasksAreBits}
 use Rattle.sp_lanes.specs.Bodies.{Body, nowhere, lane_body}
 use Rattle.sp_lanes.specs.Order.{memory_order}
 use Rattle.sp_lanes.specs.Unrolled.{unrolled}
 use Rattle.sp_lanes.specs.Within.{Within, outside, owning, in_lane, ops_in}
 use Rattle.sp_copies.specs.Copies.{occurrences}
 use Rattle.sp_unrolled_rules.specs.Places.{GoTogether}
-use Rattle.sp_live_lanes.specs.Stores.{AreCopies, HaveRoom, HoldAlike, LeavesOthers, ScopesAgree, lane_values, ArePlain, MasksAreBits}
+use Rattle.sp_live_lanes.specs.Stores.{AreCopies, HaveRoom, HoldAlike, LeavesOthers, ScopesAgree, lane_values, ArePlain}
 
 -- outside of all controllers, in each lane of one, and inside of an FSM, what may be used stands for a copy of it
 abbrev pub CopiesStand : PlainCore → Type 0

@@ -1,10 +1,9 @@
 -- What the memories of a core hold, and what those of the same core in lanes do, where a part of it stands.
-use Rattle.std.specs.Prelude.{◌≡◌, ◌<◌, ℕ, true, List, [], ◌∷◌, Some, ◌*◌, ℤ, pos, ◌+ℤ◌}
+use Rattle.std.specs.Prelude.{◌≡◌, ◌<◌, ℕ, true, List, [], ◌∷◌, ◌*◌, ℤ, pos, ◌+ℤ◌}
 use Rattle.sp_core.specs.declared.operation.OpKind.{OpKind}
 use Rattle.sp_core.specs.declared.operation.OpKind.TheVariants.{Count, Live}
 use Rattle.sp_core.specs.Around.{Around, is_usable}
 use Rattle.sp_core.specs.Declarations.{room}
-use Rattle.sp_core.specs.History.{Entry, word_at}
 use Rattle.sp_core.specs.PlainCore.{PlainOp, PlainCounter, PlainCore}
 use Rattle.sp_core.specs.Scope.{Scope, count_word}
 use Rattle.sp_core.specs.Store.{Store}
@@ -52,8 +51,3 @@ IsPlainKind kind = Unit {0}
 abbrev pub ArePlain : List PlainOp → Type 0
 ArePlain [] = Unit {0}
 ArePlain (op ∷ ops) = IsPlainKind op.kind × ArePlain ops
-
--- the words of masks are 0 or 1, in a run that gave these entries
-abbrev pub MasksAreBits : List PlainOp → List Entry → Type 0
-MasksAreBits [] es = Unit {0}
-MasksAreBits (op ∷ ops) es = ((k : ℕ) → op.mask ≡ Some k → word_at es k < 2) × MasksAreBits ops es
