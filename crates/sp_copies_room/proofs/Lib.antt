@@ -1,0 +1,3 @@
+mod Picked
+mod Room
+mod Streamed
