@@ -1,5 +1,5 @@
 -- Laws of what is done in a lane, as statements.
-use Rattle.std.specs.Prelude.{◌≡◌, ◌<◌, ◌+◌, ◌*◌, ℕ, true, List, [], ◌∷◌, ◌++◌, length, slice_index, ℤ}
+use Rattle.std.specs.Prelude.{◌≡◌, ◌<◌, ◌+◌, ◌*◌, ℕ, true, List, [], ◌∷◌, ◌++◌, length, Option, slice_index, ℤ}
 use Rattle.sp_core.specs.declared.operation.OpKind.{OpKind}
 use Rattle.sp_core.specs.Around.{Around, nothing, within, lanes_of, is_usable}
 use Rattle.sp_core.specs.Declarations.{is_among}
@@ -18,7 +18,7 @@ use Rattle.sp_lanes.specs.Unrolled.{unrolled}
 use Rattle.sp_lanes.specs.Within.{Within, outside, owning, in_lane, ops_in}
 use Rattle.sp_copies.specs.Copies.{occurrences}
 use Rattle.sp_unrolled_rules.specs.Places.{GoTogether}
-use Rattle.sp_live_lanes.specs.Stores.{AreCopies, HaveRoom, HoldAlike, LeavesOthers, ScopesAgree, lane_values, ArePlain}
+use Rattle.sp_live_lanes.specs.Stores.{AreCopies, HaveRoom, HoldAlike, LeavesOthers, ScopesAgree, lane_values, ArePlain, AreStanding}
 
 -- outside of all controllers, in each lane of one, and inside of an FSM, what may be used stands for a copy of it
 abbrev pub CopiesStand : PlainCore → Type 0
@@ -55,15 +55,21 @@ ListsGoAlong core =
     → ArePlain ops → are_operations_right core around ops ≡ true → HoldAlike core around w s t → operations core plain ops s ≡ went es after
     → (ended : Store) × (operations (unrolled core) in_lanes (ops_in w ops) t ≡ went es ended) × HoldAlike core around w after ended × LeavesOthers core around w t ended
 
--- the body of a lane that has an iteration, no read of which stands already, does what the body does in the core: at the place of each operation stands
--- the same word
+-- the body of a lane that has an iteration does what the body does in the core: at the place of each operation stands the same
+-- word, where reads that stand already do so with the words that they give here
 abbrev pub LiveLanesGoAlong : PlainCore → Type 0
 LiveLanesGoAlong core =
     (around inside : Around) (in_lane : ℕ → Within) (l : ℕ) → GoTogether core (unrolled core) around inside (in_lane l) → AreCopies core around (in_lane l) → HaveRoom core around (in_lane l) (unrolled core)
     → (plain in_lanes : Scope) → ScopesAgree (in_lane l) plain in_lanes → (counter : ℕ) → (in_lanes counter).live l ≡ true
-    → (body : List PlainOp) (s after t : Store) (es done : List Entry)
+    → (body : List PlainOp) (others : List (Option ℕ)) (s after t : Store) (es done : List Entry)
     → ArePlain body → are_operations_right core around body ≡ true → HoldAlike core around (in_lane l) s t → operations core plain body s ≡ went es after → MasksAreBits body es
-    → let b : Body = lane_body counter in_lane body l (length done) (nowhere body) in
+    → AreStanding done es 0 body others
+    → let b : Body = lane_body counter in_lane body l (length done) others in
     (new : List Entry) × (ended : Store) × (operations_after (unrolled core) in_lanes done b.ops t ≡ went (done ++ new) ended)
     × HoldAlike core around (in_lane l) after ended × LeavesOthers core around (in_lane l) t ended
-    × ((k : ℕ) → k < length es → word_at (done ++ new) (slice_index b.places k) ≡ word_at es k)
+    × ((k : ℕ) → k < length es → (slice_index b.places k < length (done ++ new)) × (word_at (done ++ new) (slice_index b.places k) ≡ word_at es k))
+    × (length b.places ≡ length es)
+
+-- in lane 0 none stands already
+abbrev pub NoneStands : Type 0
+NoneStands = (done es : List Entry) (body : List PlainOp) → AreStanding done es 0 body (nowhere body)

@@ -1,13 +1,15 @@
 -- What the memories of a core hold, and what those of the same core in lanes do, where a part of it stands.
-use Rattle.std.specs.Prelude.{◌≡◌, ◌<◌, ℕ, true, List, [], ◌∷◌, ◌*◌, ℤ, pos, ◌+ℤ◌}
+use Rattle.std.specs.Prelude.{◌≡◌, ◌<◌, ℕ, suc, true, List, [], ◌∷◌, length, Option, None, Some, ◌*◌, ℤ, pos, ◌+ℤ◌}
 use Rattle.sp_core.specs.declared.operation.OpKind.{OpKind}
 use Rattle.sp_core.specs.declared.operation.OpKind.TheVariants.{Count, Live}
 use Rattle.sp_core.specs.Around.{Around, is_usable}
 use Rattle.sp_core.specs.Declarations.{room}
+use Rattle.sp_core.specs.History.{Entry, word_at}
 use Rattle.sp_core.specs.PlainCore.{PlainOp, PlainCounter, PlainCore}
 use Rattle.sp_core.specs.Scope.{Scope, count_word}
 use Rattle.sp_core.specs.Store.{Store}
 use Rattle.sp_lanes.specs.Order.{memory_order, occurrence}
+use Rattle.sp_lanes.specs.Shared.{is_read}
 use Rattle.sp_lanes.specs.Within.{Within}
 use Rattle.sp_copies.specs.Copies.{occurrences}
 
@@ -51,3 +53,11 @@ IsPlainKind kind = Unit {0}
 abbrev pub ArePlain : List PlainOp → Type 0
 ArePlain [] = Unit {0}
 ArePlain (op ∷ ops) = IsPlainKind op.kind × ArePlain ops
+
+-- operations of a list, from a place on, that stand already: each is a read, and where it stands is the word that it gives in a
+-- run of the whole list
+abbrev pub AreStanding : (done es : List Entry) → (place : ℕ) → List PlainOp → List (Option ℕ) → Type 0
+AreStanding done es k [] [] = Unit {0}
+AreStanding done es k (op ∷ ops) (None ∷ others) = AreStanding done es (suc k) ops others
+AreStanding done es k (op ∷ ops) (Some p ∷ others) = (is_read op.kind ≡ true) × (p < length done) × (word_at done p ≡ word_at es k) × AreStanding done es (suc k) ops others
+AreStanding done es k _ _ = ⊥

@@ -1,0 +1,3 @@
+mod Agree
+mod Keeping
+mod Standing
