@@ -1,3 +1,3 @@
-mod Agree
-mod Keeping
-mod Standing
+pub mod Agree
+pub mod Keeping
+pub mod Standing

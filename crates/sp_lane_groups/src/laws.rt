@@ -1,0 +1,24 @@
+//! Laws of groups of lanes. Each function does nothing: what it ensures is the law.
+
+ghost use Rattle.sp_core.specs.PlainCore.{PlainCore};
+ghost use Rattle.sp_lane_groups.specs.Laws.{GroupsGoAlong, GroupsHaveScopes, InnersGoAlong, ResetsComeFirst};
+
+/// What a memory holds that is reset before it is used makes no difference to a list of operations.
+pub fn resets_come_first()
+    ensures { (core : PlainCore) → ResetsComeFirst core }
+{}
+
+/// The lanes of a group of an inner body, one after the other, do what the core does in the iterations of the group.
+pub fn groups_go_along()
+    ensures { (core : PlainCore) → GroupsGoAlong core }
+{}
+
+/// So does the body of a controller in lanes, whether it has one lane or several.
+pub fn inners_go_along()
+    ensures { (core : PlainCore) → InnersGoAlong core }
+{}
+
+/// In a group of lanes only the last counter differs from lane to lane, and it tells which lanes have an iteration.
+pub fn groups_have_scopes()
+    ensures { GroupsHaveScopes }
+{}

@@ -1,0 +1,6 @@
+//! The lanes of a group of iterations, one after the other.
+#![tactic(auto)]
+
+mod laws;
+
+pub use laws::{groups_go_along, groups_have_scopes, inners_go_along, resets_come_first};
