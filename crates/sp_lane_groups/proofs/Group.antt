@@ -53,16 +53,16 @@ module _ (core : PlainCore) (around inside : Around) (w : Within) (counters : Li
       (es : List Entry) × (ended : Store) × (iteration (unrolled core) in_lanes all_owned (ops_in_lanes (memory_order core) w counters owned ops None) t ≡ went es ended)
       × HoldAlike core around w after ended × LeavesOutside core around w counters owned t ended
 
-  from_first : (k : ℕ) → suc k ≡ count → (s t u after : Store) (es : List Entry) (groups : List (List Entry)) → HoldAlike core around w s t → iteration core (plain 0) owned ops s ≡ went es u
+  from_first : (several : (lanes_of counters == 1) ≡ false) (k : ℕ) → suc k ≡ count → (s t u after : Store) (es : List Entry) (groups : List (List Entry)) → HoldAlike core around w s t → iteration core (plain 0) owned ops s ≡ went es u
       → in_order (λ l. iteration core (plain l) owned ops) (lanes_from 1 k) u ≡ went groups after → EachMasked ops (es ∷ groups) → Went t after
-  from_first k sum s t u after es groups alike ran others bits =
+  from_first several k sum s t u after es groups alike ran others bits =
       let r : Renewed (unrolled core) all_owned t = renew_all (unrolled core) all_owned t in
       let most : suc k ≤ lanes_of counters = (let le = g.most in omega (arith, le, sum)) in
       let x : Done core around inside w counters owned plain in_lanes count g t ops p right resets 0 (nowhere ops) [] es r.after u =
-      lane_done core around inside w counters owned plain in_lanes count g t ops p right resets 0 (nowhere ops) [] es s r.after u (omega (arith, sum)) (begins s t alike r) ran bits.0 (none_stands [] es 0 ops) in
+      lane_done core around inside w counters owned plain in_lanes count g t ops p right resets several 0 (nowhere ops) [] es s r.after u (omega (arith, sum)) (begins s t alike r) ran bits.0 (none_stands [] es 0 ops) in
       let b : Body = lane_body (last_number counters) (in_lane (memory_order core) counters owned w) ops 0 0 (nowhere ops) in
       let y =
-      later_lanes core around inside w counters owned plain in_lanes count g t ops p right resets s u es ran b.places x.long (name_memories core (within around counters owned) [] ops right)
+      later_lanes core around inside w counters owned plain in_lanes count g t ops p right resets s u es ran b.places x.long several (name_memories core (within around counters owned) [] ops right)
       (lanes_of counters - 1) k 1 (length b.ops) x.new u x.ended after groups (omega (arith, most)) (inl (omega (arith, sum))) (omega (arith, most))
       (let n = run_long (unrolled core) in_lanes b.ops [] r.after x.new x.ended x.ran in omega (arith, n)) x.reached
       (leaves_kept core around inside w counters owned plain in_lanes count g t ops p right resets s u es ran b.places x.long 0 s u es ran (λ m o c. refl)) x.words others bits.1 in (
@@ -75,11 +75,11 @@ module _ (core : PlainCore) (around inside : Around) (w : Within) (counters : Li
         y.3.rest,
       )
 
-  whole : (n : ℕ) → n ≡ count → (s t after : Store) (groups : List (List Entry)) → HoldAlike core around w s t → in_order (λ l. iteration core (plain l) owned ops) (lanes_from 0 n) s ≡ went groups after → EachMasked ops groups → Went t after
-  whole zero e s t after groups alike ran bits = absurd (let some = g.some in omega (arith, some, e))
-  whole (suc k) e s t after groups alike ran bits =
+  whole : (several : (lanes_of counters == 1) ≡ false) (n : ℕ) → n ≡ count → (s t after : Store) (groups : List (List Entry)) → HoldAlike core around w s t → in_order (λ l. iteration core (plain l) owned ops) (lanes_from 0 n) s ≡ went groups after → EachMasked ops groups → Went t after
+  whole several zero e s t after groups alike ran bits = absurd (let some = g.some in omega (arith, some, e))
+  whole several (suc k) e s t after groups alike ran bits =
       let r = order_split (λ l. iteration core (plain l) owned ops) 0 (lanes_from 1 k) s after groups ran in
-      from_first k e s t r.1 after r.0 r.2 alike r.3 r.4 (subst (EachMasked ops) (sym r.5) bits)
+      from_first several k e s t r.1 after r.0 r.2 alike r.3 r.4 (subst (EachMasked ops) (sym r.5) bits)
 
   -- with one lane or several
   abbrev InnerWent : List PlainOp → (t after : Store) → Type 0
@@ -113,12 +113,12 @@ module _ (core : PlainCore) (around inside : Around) (w : Within) (counters : Li
     where
       by : (b : Bool) → (lanes_of counters == 1) ≡ b → InnerWent (cond b (ops_in (in_lane (memory_order core) counters owned w 0) ops) (ops_in_lanes (memory_order core) w counters owned ops None)) t after
       by true e = single count refl (eqb-true (lanes_of counters) 1 e) s t after groups alike ran
-      by false e = whole count refl s t after groups alike ran bits
+      by false e = whole e count refl s t after groups alike ran bits
 
 pub inners_go : (core : PlainCore) → InnersGoAlong core
 inners_go core around inside w counters owned plain in_lanes count g ops s t after groups p right resets alike ran bits =
     either core around inside w counters owned plain in_lanes count g ops p right resets s t after groups alike ran bits
 
 pub groups_go : (core : PlainCore) → GroupsGoAlong core
-groups_go core around inside w counters owned plain in_lanes count g ops s t after groups p right resets alike ran bits =
-    whole core around inside w counters owned plain in_lanes count g ops p right resets count refl s t after groups alike ran bits
+groups_go core around inside w counters owned plain in_lanes count g several ops s t after groups p right resets alike ran bits =
+    whole core around inside w counters owned plain in_lanes count g ops p right resets several count refl s t after groups alike ran bits

@@ -1,5 +1,5 @@
 -- The lanes of a group, one after the other.
-use Rattle.std.proofs.Common.{◌≡◌, ℕ, zero, suc, ◌+◌, ◌<◌, ◌≤◌, Bool, true, false, cond, ◌&&◌, List, [], ◌∷◌, ◌++◌, length, Option, Some, refl, sym, ◌∙◌, ap, subst, arith, ◌⊎◌, inl, inr}
+use Rattle.std.proofs.Common.{◌≡◌, ℕ, zero, suc, ◌+◌, ◌<◌, ◌≤◌, Bool, true, false, cond, ◌&&◌, List, [], ◌∷◌, ◌++◌, length, Option, Some, refl, sym, ◌∙◌, ap, subst, arith, ◌⊎◌, inl, inr, ◌==◌}
 use Rattle.std.proofs.lemmas.List.{length-append}
 use Rattle.std.specs.Prelude.{slice_index}
 use Rattle.sp_core.specs.Around.{Around, within, lanes_of, is_usable}
@@ -84,15 +84,15 @@ module _ (core : PlainCore) (around inside : Around) (w : Within) (counters : Li
         by true a = own x l a below i
         by false a = outer x (in_usable core around inside w counters owned plain in_lanes count g x u a) (sym (out_number core around inside w counters owned plain in_lanes count g l x a) ∙ i)
 
-    pub lane_done : (l : ℕ) (stand : List (Option ℕ)) (done es : List Entry) (s t after : Store) → l < count → Reached first l s t → iteration core (plain l) owned ops s ≡ went es after → MasksAreBits ops es → AreStanding done es 0 ops stand → Done l stand done es t after
-    lane_done l stand done es s t after lt h ran bits stands =
+    pub lane_done : (several : (lanes_of counters == 1) ≡ false) (l : ℕ) (stand : List (Option ℕ)) (done es : List Entry) (s t after : Store) → l < count → Reached first l s t → iteration core (plain l) owned ops s ≡ went es after → MasksAreBits ops es → AreStanding done es 0 ops stand → Done l stand done es t after
+    lane_done several l stand done es s t after lt h ran bits stands =
         let below : l < lanes_of counters = (let most = g.most in omega (arith, lt, most)) in
         let r : Renewed core owned s = renew_all core owned s in
         let same : HoldSameBut (waits_in core owned) r.after (met l t r.after) = λ m e. ap (λ b. cond b (t ((at_lane l).number m)) (r.after m)) e in
         let y = come_first core (plain l) ops (waits_in core owned) r.after (met l t r.after) after es resets same (body_run (plain l) s after es r ran) in
         let z =
         lane_goes core (within around counters owned) inside at_lane l (g.together l below) (lane_copies core around inside w counters owned plain in_lanes count g l below) (g.rooms l below) (plain l) in_lanes (g.scopes l below)
-        (last_number counters) (g.live l lt) ops stand (met l t r.after) y.0 t es done p right (met_alike l s t below h r) y.1 bits stands in
+        (last_number counters) (g.live several l lt) ops stand (met l t r.after) y.0 t es done p right (met_alike l s t below h r) y.1 bits stands in
         record {
           new = z.0;
           ended = z.1;
@@ -180,30 +180,30 @@ module _ (core : PlainCore) (around inside : Around) (w : Within) (counters : Li
           × (operations_after (unrolled core) in_lanes done (all_ops (more_bodies (last_number counters) at_lane ops l more at (standing (shared (last_number counters) owned ops ops) places))) t ≡ went last ended)
           × Reached first (lanes_of counters) after ended
 
-      pub later_lanes : (named : AreNamed ops) (more k l at : ℕ) (done : List Entry) (s t after : Store) (groups : List (List Entry)) → l + more ≡ lanes_of counters → (l + k ≡ count) ⊎ ((k ≡ 0) × (count ≤ l)) → k ≤ more → at ≡ length done → Reached first l s t
+      pub later_lanes : (several : (lanes_of counters == 1) ≡ false) (named : AreNamed ops) (more k l at : ℕ) (done : List Entry) (s t after : Store) (groups : List (List Entry)) → l + more ≡ lanes_of counters → (l + k ≡ count) ⊎ ((k ≡ 0) × (count ≤ l)) → k ≤ more → at ≡ length done → Reached first l s t
           → ((m : ℕ) → is_among m owned ≡ false → does_change ops m ≡ false → s m ≡ first_plain m) → Stood done
           → in_order (λ l. iteration core (plain l) owned ops) (lanes_from l k) s ≡ went groups after → EachMasked ops groups → Ended l more at done t after
-      later_lanes named zero zero l at done s t after groups all either le same h kept stood ran bits =
+      later_lanes several named zero zero l at done s t after groups all either le same h kept stood ran bits =
           let r = order_none (λ l. iteration core (plain l) owned ops) s after groups ran in
           (done, t, nothing_on (unrolled core) in_lanes done t, subst (λ n. Reached first n after t) {x = l} (omega (arith, all)) (subst (λ (u : Store). Reached first l u t) r.0 h))
-      later_lanes named zero (suc k) l at done s t after groups all either le same h kept stood ran bits = absurd (omega (arith, le))
-      later_lanes named (suc more) zero l at done s t after groups all either le same h kept stood ran bits =
+      later_lanes several named zero (suc k) l at done s t after groups all either le same h kept stood ran bits = absurd (omega (arith, le))
+      later_lanes several named (suc more) zero l at done s t after groups all either le same h kept stood ran bits =
           let others = standing (shared (last_number counters) owned ops ops) places in
           let b : Body = lane_body (last_number counters) at_lane ops l at others in
           let off : count ≤ l = elim either [ inl e ↦ omega (arith, e) | inr e ↦ e.1 ] in
-          let x = lane_rests (unrolled core) in_lanes (last_number counters) l at at_lane ops others done t named same (g.masked l off (omega (arith, all))) in
-          let y = later_lanes named more zero (suc l) (at + length b.ops) (done ++ x.0) s t after groups (omega (arith, all)) (inr (refl, omega (arith, off))) (omega arith)
+          let x = lane_rests (unrolled core) in_lanes (last_number counters) l at at_lane ops others done t named same (g.masked several l off (omega (arith, all))) in
+          let y = later_lanes several named more zero (suc l) (at + length b.ops) (done ++ x.0) s t after groups (omega (arith, all)) (inr (refl, omega (arith, off))) (omega arith)
           (let n = run_long (unrolled core) in_lanes b.ops done t (done ++ x.0) t x.1 in omega (arith, same, n)) (weaker l s t h) kept (stood_more done x.0 stood) ran bits in
           (y.0, y.1, runs_append (unrolled core) in_lanes b.ops (all_ops (more_bodies (last_number counters) at_lane ops (suc l) more (at + length b.ops) others)) done (done ++ x.0) t t x.1 ∙ y.2, y.3)
-      later_lanes named (suc more) (suc k) l at done s t after groups all either le same h kept stood ran bits =
+      later_lanes several named (suc more) (suc k) l at done s t after groups all either le same h kept stood ran bits =
           let others = standing (shared (last_number counters) owned ops ops) places in
           let b : Body = lane_body (last_number counters) at_lane ops l at others in
           let r = order_split (λ l. iteration core (plain l) owned ops) l (lanes_from (suc l) k) s after groups ran in
           let sum : l + suc k ≡ count = elim either [ inl e ↦ e | inr e ↦ absurd (let z = e.0 in omega (arith, z)) ] in
           let masked : EachMasked ops (r.0 ∷ r.2) = subst (EachMasked ops) (sym r.5) bits in
-          let x : Done l others done r.0 t r.1 = lane_done l others done r.0 s t r.1 (omega (arith, sum)) h r.3 masked.0 (later_stand l s r.1 r.0 done r.3 kept stood) in
+          let x : Done l others done r.0 t r.1 = lane_done several l others done r.0 s t r.1 (omega (arith, sum)) h r.3 masked.0 (later_stand l s r.1 r.0 done r.3 kept stood) in
           let there : operations_after (unrolled core) in_lanes done b.ops t ≡ went (done ++ x.new) x.ended =
           subst (λ a. operations_after (unrolled core) in_lanes done (lane_body (last_number counters) at_lane ops l a others).ops t ≡ went (done ++ x.new) x.ended) (sym same) x.ran in
-          let y = later_lanes named more k (suc l) (at + length b.ops) (done ++ x.new) r.1 x.ended after r.2 (omega (arith, all)) (inl (omega (arith, sum))) (omega (arith, le))
+          let y = later_lanes several named more k (suc l) (at + length b.ops) (done ++ x.new) r.1 x.ended after r.2 (omega (arith, all)) (inl (omega (arith, sum))) (omega (arith, le))
           (let n = run_long (unrolled core) in_lanes b.ops done t (done ++ x.new) x.ended there in omega (arith, same, n)) x.reached (leaves_kept l s r.1 r.0 r.3 kept) (stood_more done x.new stood) r.4 masked.1 in
           (y.0, y.1, runs_append (unrolled core) in_lanes b.ops (all_ops (more_bodies (last_number counters) at_lane ops (suc l) more (at + length b.ops) others)) done (done ++ x.new) t x.ended there ∙ y.2, y.3)

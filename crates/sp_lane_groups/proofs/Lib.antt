@@ -2,6 +2,7 @@ pub mod Among
 pub mod Apart
 pub mod Group
 pub mod Lanes
+pub mod Masked
 pub mod Renewed
 pub mod Resets
 pub mod Runs

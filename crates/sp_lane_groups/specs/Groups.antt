@@ -1,5 +1,5 @@
 -- A group of iterations of an inner body: one after the other in a core, and one lane after the other in the same core in lanes.
-use Rattle.std.specs.Prelude.{◌≡◌, ◌<◌, ◌≤◌, ◌+◌, ◌*◌, ℕ, zero, suc, true, false, List, [], ◌∷◌}
+use Rattle.std.specs.Prelude.{◌≡◌, ◌<◌, ◌≤◌, ◌+◌, ◌*◌, ◌==◌, ℕ, zero, suc, true, false, List, [], ◌∷◌}
 use Rattle.sp_core.specs.Around.{Around, within, lanes_of, is_usable}
 use Rattle.sp_core.specs.Declarations.{is_among}
 use Rattle.sp_core.specs.History.{Entry}
@@ -34,7 +34,8 @@ EachMasked ops (es ∷ rest) = MasksAreBits ops es × EachMasked ops rest
 
 -- a controller at a place of a core and in lanes, in a group of which the first lanes, so many, have an iteration. The memories
 -- that it owns have a copy for each lane, and none of them is used outside; what may be used inside is at each lane's place
--- what it is in the core; counters have the words of the lane's iteration, and only the last one differs from lane to lane
+-- what it is in the core; counters have the words of the lane's iteration, and only the last one differs from lane to lane, which
+-- tells where there are several lanes which of them have an iteration
 pub record IsGroup (core : PlainCore) (around inside : Around) (w : Within) (counters : List PlainCounter) (owned : List ℕ) (plain : ℕ → Scope) (in_lanes : Scope) (count : ℕ) : Type 0 where
   pub copies : AreCopies core around w
   pub bound : (m l : ℕ) → is_among m owned ≡ true → l < lanes_of counters → w.copy * lanes_of counters + l < occurrences m (memory_order core)
@@ -44,8 +45,8 @@ pub record IsGroup (core : PlainCore) (around inside : Around) (w : Within) (cou
   pub rooms : (l : ℕ) → l < lanes_of counters → HaveRoom core (within around counters owned) (in_lane (memory_order core) counters owned w l) (unrolled core)
   pub scopes : (l : ℕ) → l < lanes_of counters → ScopesAgree (in_lane (memory_order core) counters owned w l) (plain l) in_lanes
   pub others : (c l : ℕ) → (c ≡ last_number counters → ⊥) → count_word (plain l c) 0 ≡ count_word (plain 0 c) 0
-  pub live : (l : ℕ) → l < count → (in_lanes (last_number counters)).live l ≡ true
-  pub masked : (l : ℕ) → count ≤ l → l < lanes_of counters → (in_lanes (last_number counters)).live l ≡ false
+  pub live : (lanes_of counters == 1) ≡ false → (l : ℕ) → l < count → (in_lanes (last_number counters)).live l ≡ true
+  pub masked : (lanes_of counters == 1) ≡ false → (l : ℕ) → count ≤ l → l < lanes_of counters → (in_lanes (last_number counters)).live l ≡ false
   pub some : 1 ≤ count
   pub most : count ≤ lanes_of counters
 

@@ -1,13 +1,15 @@
 -- Laws of groups of lanes, as statements.
-use Rattle.std.specs.Prelude.{◌≡◌, ◌≤◌, ℕ, ℤ, Bool, true, false, List, length, None}
-use Rattle.sp_core.specs.Around.{Around, within}
+use Rattle.std.specs.Prelude.{◌≡◌, ◌≤◌, ◌==◌, ℕ, ℤ, Bool, true, false, List, length, None}
+use Rattle.sp_core.specs.Around.{Around, within, lanes_of}
 use Rattle.sp_core.specs.History.{Bounds, Entry}
+use Rattle.sp_core.specs.MemoryRules.{are_memories_right}
 use Rattle.sp_core.specs.OperationRules.{are_operations_right}
 use Rattle.sp_core.specs.Operations.{operations}
 use Rattle.sp_core.specs.PlainCore.{PlainOp, PlainCounter, PlainCore}
 use Rattle.sp_core.specs.Scope.{plainly, in_lanes, loops_of, is_live, Scope, in_group, count_word}
 use Rattle.sp_core.specs.Step.{went, in_order}
 use Rattle.sp_core.specs.Store.{Store}
+use Rattle.sp_fitting.specs.Fitting.{StoreFits}
 use Rattle.sp_lanes.specs.Order.{memory_order}
 use Rattle.sp_lanes.specs.Unrolled.{unrolled, last_number, owned_in_lanes, ops_in_lanes, inner_ops}
 use Rattle.sp_lanes.specs.Within.{Within}
@@ -25,12 +27,12 @@ ResetsComeFirst core =
     (scope : Scope) (ops : List PlainOp) (waits : ℕ → Bool) (s t after : Store) (es : List Entry) → ResetsFirst waits ops → HoldSameBut waits s t → operations core scope ops s ≡ went es after
     → (ended : Store) × (operations core scope ops t ≡ went es ended) × HoldSameBut waits after ended
 
--- the lanes of a group, one after the other, do what the core does in the iterations of the group: what may be used at the
+-- several lanes of a group, one after the other, do what the core does in the iterations of the group: what may be used at the
 -- controller holds the same after it. So it is for a body without a combination whose memories with a reset operation are reset
 -- before they are used, in whose iterations masks are bits
 abbrev pub GroupsGoAlong : PlainCore → Type 0
 GroupsGoAlong core =
-    (around inside : Around) (w : Within) (counters : List PlainCounter) (owned : List ℕ) (plain : ℕ → Scope) (lanes : Scope) (count : ℕ) → IsGroup core around inside w counters owned plain lanes count
+    (around inside : Around) (w : Within) (counters : List PlainCounter) (owned : List ℕ) (plain : ℕ → Scope) (lanes : Scope) (count : ℕ) → IsGroup core around inside w counters owned plain lanes count → (lanes_of counters == 1) ≡ false
     → (ops : List PlainOp) (s t after : Store) (groups : List (List Entry)) → ArePlain ops → are_operations_right core (within around counters owned) ops ≡ true → ResetsFirst (waits_in core owned) ops
     → HoldAlike core around w s t → in_order (λ l. iteration core (plain l) owned ops) (lanes_from 0 count) s ≡ went groups after → EachMasked ops groups
     → (es : List Entry) × (ended : Store)
@@ -46,6 +48,12 @@ InnersGoAlong core =
     → (es : List Entry) × (ended : Store)
     × (iteration (unrolled core) lanes (owned_in_lanes (memory_order core) counters owned w) (inner_ops (memory_order core) w counters owned ops None) t ≡ went es ended)
     × HoldAlike core around w after ended × LeavesOutside core around w counters owned t ended
+
+-- from a store whose words fit, masks are bits in the iterations of a group, and words fit in the store after them
+abbrev pub GroupsAreMasked : PlainCore → Type 0
+GroupsAreMasked core =
+    (around : Around) (plain : ℕ → Scope) (owned : List ℕ) (ops : List PlainOp) (count : ℕ) (s after : Store) (groups : List (List Entry)) → are_memories_right core ≡ true → are_operations_right core around ops ≡ true
+    → StoreFits core s → in_order (λ l. iteration core (plain l) owned ops) (lanes_from 0 count) s ≡ went groups after → EachMasked ops groups × StoreFits core after
 
 -- in a group of lanes, by the values of the counters in its first one, each counter but the last has the same word in each lane's
 -- iteration, and the last one tells which lanes have one

@@ -1,7 +1,9 @@
 //! Laws of groups of lanes. Each function does nothing: what it ensures is the law.
 
 ghost use Rattle.sp_core.specs.PlainCore.{PlainCore};
-ghost use Rattle.sp_lane_groups.specs.Laws.{GroupsGoAlong, GroupsHaveScopes, InnersGoAlong, ResetsComeFirst};
+ghost use Rattle.sp_lane_groups.specs.Laws.{GroupsAreMasked, GroupsGoAlong, GroupsHaveScopes, InnersGoAlong, ResetsComeFirst};
+
+use sp_fitting::lists_fit;
 
 /// What a memory holds that is reset before it is used makes no difference to a list of operations.
 pub fn resets_come_first()
@@ -17,6 +19,13 @@ pub fn groups_go_along()
 pub fn inners_go_along()
     ensures { (core : PlainCore) → InnersGoAlong core }
 {}
+
+/// From a store whose words fit masks are bits in the iterations of a group.
+pub fn groups_are_masked()
+    ensures { (core : PlainCore) → GroupsAreMasked core }
+{
+    lists_fit();
+}
 
 /// In a group of lanes only the last counter differs from lane to lane, and it tells which lanes have an iteration.
 pub fn groups_have_scopes()

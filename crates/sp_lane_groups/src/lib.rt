@@ -3,4 +3,6 @@
 
 mod laws;
 
-pub use laws::{groups_go_along, groups_have_scopes, inners_go_along, resets_come_first};
+pub use laws::{
+    groups_are_masked, groups_go_along, groups_have_scopes, inners_go_along, resets_come_first,
+};
