@@ -3,6 +3,7 @@ pub mod Apart
 pub mod Group
 pub mod Lanes
 pub mod Masked
+pub mod Places
 pub mod Renewed
 pub mod Resets
 pub mod Runs

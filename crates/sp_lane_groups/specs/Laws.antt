@@ -1,7 +1,9 @@
 -- Laws of groups of lanes, as statements.
-use Rattle.std.specs.Prelude.{◌≡◌, ◌≤◌, ◌==◌, ℕ, ℤ, Bool, true, false, List, length, None}
-use Rattle.sp_core.specs.Around.{Around, within, lanes_of}
+use Rattle.std.specs.Prelude.{◌≡◌, ◌<◌, ◌≤◌, ◌+◌, ◌*◌, ◌==◌, ℕ, ℤ, Bool, true, false, List, length, None}
+use Rattle.sp_core.specs.Around.{Around, within, lanes_of, is_usable}
+use Rattle.sp_core.specs.Declarations.{is_among}
 use Rattle.sp_core.specs.History.{Bounds, Entry}
+use Rattle.sp_core.specs.Invariant.{IsCore}
 use Rattle.sp_core.specs.MemoryRules.{are_memories_right}
 use Rattle.sp_core.specs.OperationRules.{are_operations_right}
 use Rattle.sp_core.specs.Operations.{operations}
@@ -12,8 +14,10 @@ use Rattle.sp_core.specs.Store.{Store}
 use Rattle.sp_fitting.specs.Fitting.{StoreFits}
 use Rattle.sp_lanes.specs.Order.{memory_order}
 use Rattle.sp_lanes.specs.Unrolled.{unrolled, last_number, owned_in_lanes, ops_in_lanes, inner_ops}
-use Rattle.sp_lanes.specs.Within.{Within}
-use Rattle.sp_live_lanes.specs.Stores.{HoldAlike, lane_values, ArePlain}
+use Rattle.sp_lanes.specs.Within.{Within, counters_in}
+use Rattle.sp_copies.specs.Copies.{occurrences, OwnsInLanes}
+use Rattle.sp_unrolled_rules.specs.Places.{GoTogether}
+use Rattle.sp_live_lanes.specs.Stores.{AreCopies, HoldAlike, ScopesAgree, lane_values, ArePlain}
 use Rattle.sp_lane_groups.specs.Groups.{iteration, lanes_from, EachMasked, IsGroup, LeavesOutside}
 use Rattle.sp_lane_groups.specs.Waiting.{ResetsFirst, waits_in}
 
@@ -63,3 +67,18 @@ GroupsHaveScopes =
     → ((c l : ℕ) → (c ≡ last_number counters → ⊥)
     → count_word (in_group plain (loops_of plainly counters bounds) (lane_values counters l values) c) 0 ≡ count_word (in_group plain (loops_of plainly counters bounds) (lane_values counters 0 values) c) 0)
     × (1 ≤ length counters → (l : ℕ) → (in_group lanes (loops_of in_lanes counters bounds) values (last_number counters)).live l ≡ is_live (loops_of in_lanes counters bounds) values l)
+
+-- at a place of a core that goes together with one in lanes a controller is a group in each of its groups of iterations, by the
+-- values of its counters in the first one and how many of its lanes have one. Its memories have a copy for each lane, are declared,
+-- and aren't used outside
+abbrev pub GroupsStand : PlainCore → Type 0
+GroupsStand core =
+    IsCore core → OwnsInLanes core.root
+    → (around inside : Around) (w : Within) → GoTogether core (unrolled core) around inside w → AreCopies core around w → (counters : List PlainCounter) (owned : List ℕ)
+    → ((m l : ℕ) → is_among m owned ≡ true → l < lanes_of counters → w.copy * lanes_of counters + l < occurrences m (memory_order core))
+    → ((m : ℕ) → is_among m owned ≡ true → is_usable core (within around counters owned) m ≡ true) → ((m : ℕ) → is_usable core around m ≡ true → is_among m owned ≡ false)
+    → (plain lanes : Scope) → ScopesAgree w plain lanes → (bounds : List Bounds) (values : List ℤ) → length bounds ≡ length counters → length values ≡ length counters
+    → (count : ℕ) → 1 ≤ count → count ≤ lanes_of counters → ((l : ℕ) → l < count → is_live (loops_of in_lanes counters bounds) values l ≡ true)
+    → ((l : ℕ) → count ≤ l → l < lanes_of counters → is_live (loops_of in_lanes counters bounds) values l ≡ false)
+    → IsGroup core around (within inside (counters_in w counters) (owned_in_lanes (memory_order core) counters owned w)) w counters owned
+    (λ l. in_group plain (loops_of plainly counters bounds) (lane_values counters l values)) (in_group lanes (loops_of in_lanes counters bounds) values) count

@@ -1,8 +1,9 @@
 //! Laws of groups of lanes. Each function does nothing: what it ensures is the law.
 
 ghost use Rattle.sp_core.specs.PlainCore.{PlainCore};
-ghost use Rattle.sp_lane_groups.specs.Laws.{GroupsAreMasked, GroupsGoAlong, GroupsHaveScopes, InnersGoAlong, ResetsComeFirst};
+ghost use Rattle.sp_lane_groups.specs.Laws.{GroupsAreMasked, GroupsGoAlong, GroupsHaveScopes, GroupsStand, InnersGoAlong, ResetsComeFirst};
 
+use sp_copies_room::places_have_room;
 use sp_fitting::lists_fit;
 
 /// What a memory holds that is reset before it is used makes no difference to a list of operations.
@@ -31,3 +32,10 @@ pub fn groups_are_masked()
 pub fn groups_have_scopes()
     ensures { GroupsHaveScopes }
 {}
+
+/// At a place of a core a controller is a group in each of its groups of iterations.
+pub fn groups_stand()
+    ensures { (core : PlainCore) → GroupsStand core }
+{
+    places_have_room();
+}

@@ -4,5 +4,6 @@
 mod laws;
 
 pub use laws::{
-    groups_are_masked, groups_go_along, groups_have_scopes, inners_go_along, resets_come_first,
+    groups_are_masked, groups_go_along, groups_have_scopes, groups_stand, inners_go_along,
+    resets_come_first,
 };
