@@ -1,0 +1,9 @@
+pub mod Bounds
+pub mod Counts
+pub mod Drams
+pub mod Early
+pub mod Holding
+pub mod Lists
+pub mod Nodes
+pub mod Slices
+pub mod Transfers

@@ -1,0 +1,2 @@
+pub mod AtForms
+pub mod Laws
