@@ -1,0 +1,4 @@
+pub mod GroupOrder
+pub mod Stand
+pub mod Together
+pub mod Traces

@@ -1,0 +1,94 @@
+-- Two places at one loop.
+use Rattle.std.proofs.Common.{◌≡◌, ℕ, ◌<◌, Bool, true, false, ◌&&◌, not, ℤ, List, [], ◌∷◌, ◌++◌, length, get_or, append_assoc, inl, inr, refl, sym, ap, ◌∙◌, subst}
+use Rattle.std.proofs.lemmas.Bool.{and_parts, eqb-true, false≢true}
+use Rattle.std.specs.Prelude.{◌⊎◌, ◌==◌, if◌then◌else◌}
+use Rattle.sp_core.specs.Events.{At, When, before, in_group_of, in_turn}
+use Rattle.sp_core.specs.Meeting.{Together, in_loop, in_one_turn, nowhere, is_group, together_at, go_on, is_in_stream, together}
+use Rattle.sp_core.specs.PlainCore.{PlainCore}
+use Rattle.sp_core.specs.Scope.{Loop, group_values}
+use Rattle.sp_met.specs.Traces.{HasGroup, IsTraced, AreAtLoop}
+
+choose : (c d e : Bool) (x y : Together) (node g i : ℕ) (one : Bool) → (if c then (if d then (if e then x else nowhere) else y) else nowhere) ≡ in_loop node g i one →
+    (c ≡ true) × (((e ≡ true) × (x ≡ in_loop node g i one)) ⊎ (y ≡ in_loop node g i one))
+choose true true true x y node g i one h = (refl, inl (refl, h))
+choose true true false x y node g i one h = absurd (cc)
+choose true false e x y node g i one h = (refl, inr h)
+choose false d e x y node g i one h = absurd (cc)
+
+no_turns : (b : Bool) (node g i : ℕ) (one : Bool) → (if b then in_one_turn else nowhere) ≡ in_loop node g i one → ⊥
+no_turns true node g i one h = cc
+no_turns false node g i one h = cc
+
+same_when : (w x : When) → is_group w x ≡ true → w ≡ x
+same_when before x h = absurd (false≢true h)
+same_when (in_group_of g s) before h = absurd (false≢true h)
+same_when (in_group_of g s) (in_group_of i r) h =
+    let parts = and_parts (g == i) (s == r) h in
+    let group : g ≡ i = eqb-true g i parts.0 in
+    let stage : s ≡ r = eqb-true s r parts.1 in
+    cc
+same_when (in_group_of g s) (in_turn t) h = absurd (false≢true h)
+same_when (in_turn t) before h = absurd (false≢true h)
+same_when (in_turn t) (in_group_of g s) h = absurd (false≢true h)
+same_when (in_turn t) (in_turn u) h = ap in_turn (eqb-true t u h)
+
+same_at : (a b : At) → a.node ≡ b.node → a.when ≡ b.when → a ≡ b
+same_at a b e f = ap (λ x. record { node = x; when = a.when }) e ∙ ap (λ x. record { node = b.node; when = x }) f
+
+same_values : (loops : List Loop) (w : When) (v u : List ℤ) → HasGroup loops w v → HasGroup loops w u → v ≡ u
+same_values loops before v u h k = h ∙ sym k
+same_values loops (in_group_of g s) v u h k = sym h.1 ∙ k.1
+same_values loops (in_turn t) v u h k = h ∙ sym k
+
+-- a controller more around both
+one_more : (loops : List At → List Loop) (a : At) (values rest others cs ds : List ℤ) (g i : ℕ) → cs ≡ values ++ rest → ds ≡ values ++ others →
+    AreAtLoop (λ p. loops (a ∷ p)) rest others g i → AreAtLoop loops cs ds g i
+one_more loops a values rest others cs ds g i e f at = record {
+  around = a ∷ at.around;
+  outer = values ++ at.outer;
+  first_own = at.first_own;
+  second_own = at.second_own;
+  first_group = at.first_group;
+  second_group = at.second_group;
+  first = e ∙ ap (λ x. values ++ x) at.first ∙ sym (append_assoc values at.outer (get_or (group_values (loops (a ∷ at.around))) g [] ++ at.first_own));
+  second = f ∙ ap (λ x. values ++ x) at.second ∙ sym (append_assoc values at.outer (get_or (group_values (loops (a ∷ at.around))) i [] ++ at.second_own));
+}
+
+-- the controller itself
+at_it : (loops : List At → List Loop) (a b : At) (w x : When) (vs us rest others cs ds : List ℤ) (node g i : ℕ) (one : Bool) → HasGroup (loops []) w vs → HasGroup (loops []) x us → cs ≡ vs ++ rest → ds ≡ us ++ others →
+    together_at a.node w x ≡ in_loop node g i one → AreAtLoop loops cs ds g i
+at_it loops a b (in_group_of u s) (in_group_of v r) vs us rest others cs ds node g i one h k e f is =
+    let first : u ≡ g = cc in
+    let second : v ≡ i = cc in
+    record {
+      around = [];
+      outer = [];
+      first_own = rest;
+      second_own = others;
+      first_group = subst (λ n. n < length (group_values (loops []))) first h.0;
+      second_group = subst (λ n. n < length (group_values (loops []))) second k.0;
+      first = e ∙ ap (λ x. x ++ rest) (sym h.1) ∙ ap (λ n. get_or (group_values (loops [])) n [] ++ rest) first;
+      second = f ∙ ap (λ x. x ++ others) (sym k.1) ∙ ap (λ n. get_or (group_values (loops [])) n [] ++ others) second;
+    }
+at_it loops a b (in_turn t) (in_turn u) vs us rest others cs ds node g i one h k e f is = absurd (no_turns (t == u) node g i one is)
+at_it loops a b before x vs us rest others cs ds node g i one h k e f is = absurd (cc)
+at_it loops a b (in_group_of u s) before vs us rest others cs ds node g i one h k e f is = absurd (cc)
+at_it loops a b (in_group_of u s) (in_turn t) vs us rest others cs ds node g i one h k e f is = absurd (cc)
+at_it loops a b (in_turn t) before vs us rest others cs ds node g i one h k e f is = absurd (cc)
+at_it loops a b (in_turn t) (in_group_of u s) vs us rest others cs ds node g i one h k e f is = absurd (cc)
+
+pub together_at_loop : (core : PlainCore) (loops : List At → List Loop) (p q : List At) (cs ds : List ℤ) (node g i : ℕ) (one_stage : Bool) → IsTraced loops p cs → IsTraced loops q ds →
+    together core p q ≡ in_loop node g i one_stage → AreAtLoop loops cs ds g i
+together_at_loop core loops [] q cs ds node g i one h k e = absurd (cc)
+together_at_loop core loops (a ∷ p) [] cs ds node g i one h k e = absurd (cc)
+together_at_loop core loops (a ∷ p) (b ∷ q) cs ds node g i one h k e =
+    let chosen = choose ((a.node == b.node) && not (is_in_stream core a.node)) (go_on p q) (is_group a.when b.when) (together core p q) (together_at a.node a.when b.when) node g i one e in
+    let node_is : a.node ≡ b.node = eqb-true a.node b.node (and_parts (a.node == b.node) (not (is_in_stream core a.node)) chosen.0).0 in
+    elim chosen.1 [
+      | inl (group, rest) ↦
+          let same : a ≡ b = same_at a b node_is (same_when a.when b.when group) in
+          let second : IsTraced (λ r. loops (a ∷ r)) q k.1 = subst (λ z. IsTraced (λ r. loops (z ∷ r)) q k.1) (sym same) k.4 in
+          let values : k.0 ≡ h.0 = same_values (loops []) a.when k.0 h.0 (subst (λ w. HasGroup (loops []) w k.0) (sym (same_when a.when b.when group)) k.2) h.2 in
+          one_more loops a h.0 h.1 k.1 cs ds g i h.3 (k.3 ∙ ap (λ v. v ++ k.1) values) (together_at_loop core (λ r. loops (a ∷ r)) p q h.1 k.1 node g i one h.4 second rest)
+      | inr here ↦ at_it loops a b a.when b.when h.0 k.0 h.1 k.1 cs ds node g i one h.2 k.2 h.3 k.3 here
+    ]

@@ -1,0 +1,4 @@
+pub mod Plans
+pub mod Schemes
+pub mod Slots
+pub mod Times
