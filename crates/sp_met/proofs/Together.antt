@@ -8,18 +8,18 @@ use Rattle.sp_core.specs.PlainCore.{PlainCore}
 use Rattle.sp_core.specs.Scope.{Loop, group_values}
 use Rattle.sp_met.specs.Traces.{HasGroup, IsTraced, AreAtLoop}
 
-choose : (c d e : Bool) (x y : Together) (node g i : ℕ) (one : Bool) → (if c then (if d then (if e then x else nowhere) else y) else nowhere) ≡ in_loop node g i one →
+pub choose : (c d e : Bool) (x y : Together) (node g i : ℕ) (one : Bool) → (if c then (if d then (if e then x else nowhere) else y) else nowhere) ≡ in_loop node g i one →
     (c ≡ true) × (((e ≡ true) × (x ≡ in_loop node g i one)) ⊎ (y ≡ in_loop node g i one))
 choose true true true x y node g i one h = (refl, inl (refl, h))
 choose true true false x y node g i one h = absurd (cc)
 choose true false e x y node g i one h = (refl, inr h)
 choose false d e x y node g i one h = absurd (cc)
 
-no_turns : (b : Bool) (node g i : ℕ) (one : Bool) → (if b then in_one_turn else nowhere) ≡ in_loop node g i one → ⊥
+pub no_turns : (b : Bool) (node g i : ℕ) (one : Bool) → (if b then in_one_turn else nowhere) ≡ in_loop node g i one → ⊥
 no_turns true node g i one h = cc
 no_turns false node g i one h = cc
 
-same_when : (w x : When) → is_group w x ≡ true → w ≡ x
+pub same_when : (w x : When) → is_group w x ≡ true → w ≡ x
 same_when before x h = absurd (false≢true h)
 same_when (in_group_of g s) before h = absurd (false≢true h)
 same_when (in_group_of g s) (in_group_of i r) h =
@@ -32,7 +32,7 @@ same_when (in_turn t) before h = absurd (false≢true h)
 same_when (in_turn t) (in_group_of g s) h = absurd (false≢true h)
 same_when (in_turn t) (in_turn u) h = ap in_turn (eqb-true t u h)
 
-same_at : (a b : At) → a.node ≡ b.node → a.when ≡ b.when → a ≡ b
+pub same_at : (a b : At) → a.node ≡ b.node → a.when ≡ b.when → a ≡ b
 same_at a b e f = ap (λ x. record { node = x; when = a.when }) e ∙ ap (λ x. record { node = b.node; when = x }) f
 
 same_values : (loops : List Loop) (w : When) (v u : List ℤ) → HasGroup loops w v → HasGroup loops w u → v ≡ u

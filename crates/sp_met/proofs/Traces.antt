@@ -20,19 +20,19 @@ use Rattle.sp_met.specs.Traces.{loops_in, group_loops, stage_loops, turn_loops, 
 
 -- moments that all stand so
 module _ (P : Standing → Type 0) where
-  abbrev AllStand : List Moment → Type 0
+  abbrev pub AllStand : List Moment → Type 0
   AllStand ms = All (Stands P) ms
 
-  none : AllStand []
+  pub none : AllStand []
   none = All-nil (Stands P)
 
-  more : (m : Moment) (ms : List Moment) → Stands P m → AllStand ms → AllStand (m ∷ ms)
+  pub more : (m : Moment) (ms : List Moment) → Stands P m → AllStand ms → AllStand (m ∷ ms)
   more m ms p h = All-cons (Stands P) m ms p h
 
   single_one : (m : Moment) → Stands P m → AllStand (m ∷ [])
   single_one m p = more m [] p none
 
-  both_stand : (ms ns : List Moment) → AllStand ms → AllStand ns → AllStand (ms ++ ns)
+  pub both_stand : (ms ns : List Moment) → AllStand ms → AllStand ns → AllStand (ms ++ ns)
   both_stand ms ns h k = All-append (Stands P) ms ns h k
 
   -- what is done at one standing
@@ -48,18 +48,18 @@ module _ (P : Standing → Type 0) where
     entry_stands n kind m (gave w) = none
     entry_stands n kind m (touched is w) = event_stands n m is (act_of kind w)
 
-    list_stands : (n : ℕ) (ops : List PlainOp) (es : List Entry) → AllStand (list_moments n st ops es)
+    pub list_stands : (n : ℕ) (ops : List PlainOp) (es : List Entry) → AllStand (list_moments n st ops es)
     list_stands n [] es = none
     list_stands n (op ∷ ops) [] = none
     list_stands n (op ∷ ops) (x ∷ es) = both_stand _ _ (entry_stands n op.kind op.mem x) (list_stands (suc n) ops es)
 
-    bounds_stand : (n : ℕ) (counters : List PlainCounter) (bs : List Bounds) → AllStand (bounds_moments n st counters bs)
+    pub bounds_stand : (n : ℕ) (counters : List PlainCounter) (bs : List Bounds) → AllStand (bounds_moments n st counters bs)
     bounds_stand n [] bs = none
     bounds_stand n (c ∷ counters) [] = none
     bounds_stand n (c ∷ counters) (b ∷ bs) =
         both_stand _ _ (both_stand _ _ (list_stands n c.from b.from) (list_stands (n + length c.from) c.until b.until)) (bounds_stand (n + (length c.from + length c.until)) counters bs)
 
-    spans_stand : (n : ℕ) (spans : List PlainSpan) (ts : List Taken) → AllStand (spans_moments n st spans ts)
+    pub spans_stand : (n : ℕ) (spans : List PlainSpan) (ts : List Taken) → AllStand (spans_moments n st spans ts)
     spans_stand n [] ts = none
     spans_stand n (single ops ∷ spans) [] = none
     spans_stand n (range a b ∷ spans) [] = none
@@ -103,14 +103,14 @@ module _ (P : Standing → Type 0) where
             more (mem_event core n st m o (reads w)) (put ∷ store_moments core n st r m parts offsets ws) here
             (more put (store_moments core n st r m parts offsets ws) here (stores_stand parts offsets ws))
 
-        loaded_stands : (parts : List Part) (ws : List ℕ) → AllStand (loaded core n st r m parts ws)
+        pub loaded_stands : (parts : List Part) (ws : List ℕ) → AllStand (loaded core n st r m parts ws)
         loaded_stands parts ws = slice_stands parts _ (both_stand (rows_turn core n st (kind_of core m) m) _ (rows_stand (kind_of core m) m) (loads_stand parts (all_offsets parts) ws))
 
-        stored_stands : (parts : List Part) (ws : List ℕ) → AllStand (stored core n st r m parts ws)
+        pub stored_stands : (parts : List Part) (ws : List ℕ) → AllStand (stored core n st r m parts ws)
         stored_stands parts ws = slice_stands parts _ (stores_stand parts (all_offsets parts) ws)
 
         module _ (p : ℕ) where
-          gathers_stand : (k : ℕ) (ws : List (ℕ × ℕ)) → AllStand (gather_moments core n st r m p k ws)
+          pub gathers_stand : (k : ℕ) (ws : List (ℕ × ℕ)) → AllStand (gather_moments core n st r m p k ws)
           gathers_stand k [] = none
           gathers_stand k ((i, w) ∷ ws) =
               let found : Moment = dram_event core n st r (natural (index_value i) ∷ []) (reads w) in
@@ -118,7 +118,7 @@ module _ (P : Standing → Type 0) where
               let rest : List Moment = gather_moments core n st r m p (suc k) ws in
               more (mem_event core n st p (k ∷ []) (reads i)) (found ∷ put ∷ rest) here (more found (put ∷ rest) here (more put rest here (gathers_stand (suc k) ws)))
 
-          scatters_stand : (k : ℕ) (ws : List (ℕ × ℕ)) → AllStand (scatter_moments core n st r m p k ws)
+          pub scatters_stand : (k : ℕ) (ws : List (ℕ × ℕ)) → AllStand (scatter_moments core n st r m p k ws)
           scatters_stand k [] = none
           scatters_stand k ((i, w) ∷ ws) =
               let found : Moment = mem_event core n st m (k ∷ []) (reads w) in
@@ -126,11 +126,11 @@ module _ (P : Standing → Type 0) where
               let rest : List Moment = scatter_moments core n st r m p (suc k) ws in
               more (mem_event core n st p (k ∷ []) (reads i)) (found ∷ put ∷ rest) here (more found (put ∷ rest) here (more put rest here (scatters_stand (suc k) ws)))
 
-          picked_stands : (ws : List (ℕ × ℕ)) (ms : List Moment) → AllStand ms → AllStand (picked_moments core n st ws ms)
+          pub picked_stands : (ws : List (ℕ × ℕ)) (ms : List Moment) → AllStand ms → AllStand (picked_moments core n st ws ms)
           picked_stands [] ms h = none
           picked_stands (w ∷ ws) ms h = more (slices (record { number = n; standing = st; firsts = []; lengths = length (w ∷ ws) ∷ [] })) ms here h
 
-  renew_stand : (owned : List ℕ) → AllStand (map renews owned)
+  pub renew_stand : (owned : List ℕ) → AllStand (map renews owned)
   renew_stand [] = none
   renew_stand (m ∷ owned) = more (renews m) (map renews owned) tt (renew_stand owned)
 
@@ -141,7 +141,7 @@ module _ (P : Standing → Type 0) where
       go true = none
       go false = single_one (renews m) tt
 
-  renewals_stand : (core : PlainCore) (owned : List ℕ) → AllStand (flat_map (renewal_in_body core) owned)
+  pub renewals_stand : (core : PlainCore) (owned : List ℕ) → AllStand (flat_map (renewal_in_body core) owned)
   renewals_stand core [] = none
   renewals_stand core (m ∷ owned) = both_stand (renewal_in_body core m) _ (renewal_stands core m) (renewals_stand core owned)
 
@@ -151,17 +151,17 @@ stands_more P Q f (slices s) h = f s.standing h
 stands_more P Q f (renews m) h = tt
 stands_more P Q f (keeps m w) h = tt
 
-all_more : (P Q : Standing → Type 0) → ((s : Standing) → P s → Q s) → (ms : List Moment) → AllStand P ms → AllStand Q ms
+pub all_more : (P Q : Standing → Type 0) → ((s : Standing) → P s → Q s) → (ms : List Moment) → AllStand P ms → AllStand Q ms
 all_more P Q f [] h = none Q
 all_more P Q f (m ∷ ms) h = more Q m ms (stands_more P Q f m (All-head (Stands P) m ms h)) (all_more P Q f ms (All-tail (Stands P) m ms h))
 
 -- a place from another one on
-record IsWithin (loops : List At → List Loop) (st s : Standing) : Type 0 where
-  path : List At
-  counters : List ℤ
-  path_is : s.path ≡ st.path ++ path
-  counters_are : s.counters ≡ st.counters ++ counters
-  traced : IsTraced loops path counters
+pub record IsWithin (loops : List At → List Loop) (st s : Standing) : Type 0 where
+  pub path : List At
+  pub counters : List ℤ
+  pub path_is : s.path ≡ st.path ++ path
+  pub counters_are : s.counters ≡ st.counters ++ counters
+  pub traced : IsTraced loops path counters
 
 append_nil : {A : Type 0} (xs : List A) → xs ≡ xs ++ []
 append_nil [] = refl
@@ -249,13 +249,13 @@ module _ (core : PlainCore) (reading : Reading) where
       (both_stand P _ _ (renewals_stand P core owned) (list_stands P (inside_at st k (in_group_of g 0) v) (at_within loops st k (in_group_of g 0) v (first_value (loops []) g 0 v values h)) n ops es))
       (body_traced loops k n (suc g) st owned ops values groups (next_values (group_values (loops [])) g v values h))
 
-  keeps_stand : (P : Standing → Type 0) (m w : ℕ) → AllStand P (keeps m w ∷ [])
+  pub keeps_stand : (P : Standing → Type 0) (m w : ℕ) → AllStand P (keeps m w ∷ [])
   keeps_stand P m w = single_one P (keeps m w) tt
 
   mutual
     unfolding moments group_moments stage_moments turn_moments
 
-    node_traced : (node : PlainNode) (h : History) (k n : ℕ) (st : Standing) → AllStand (IsWithin (loops_in reading node h) st) (moments core reading node k n st h)
+    pub node_traced : (node : PlainNode) (h : History) (k n : ℕ) (st : Standing) → AllStand (IsWithin (loops_in reading node h) st) (moments core reading node k n st h)
     node_traced (inner counters owned ops comb) (inner_ran bs counts groups) k n st =
         let L : List At → List Loop = loops_in reading (inner counters owned ops comb) (inner_ran bs counts groups) in
         let P = IsWithin L st in

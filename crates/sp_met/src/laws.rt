@@ -1,7 +1,9 @@
 //! Laws of meets.
 
+ghost use Rattle.sp_met.specs.Apart.{RunsAreApart};
 ghost use Rattle.sp_met.specs.Groups.{CountersHaveSteps, GroupsGoOn};
 ghost use Rattle.sp_core.specs.PlainCore.{PlainCore};
+ghost use Rattle.sp_met.specs.Order.{LaterGroupsFollow, RunsAreInOrder};
 ghost use Rattle.sp_met.specs.Touching.{MetAccessesStand};
 ghost use Rattle.sp_met.specs.Traces.{RunsAreTraced, TogetherAtLoop};
 
@@ -31,4 +33,20 @@ pub fn runs_are_traced()
 /// those of the loop the values of these groups.
 pub fn places_are_at_one_loop()
     ensures { (core : PlainCore) → TogetherAtLoop core }
+{}
+
+/// In a run of a core the groups of each loop come one after the other.
+pub fn runs_are_in_order()
+    ensures { (core : PlainCore) → RunsAreInOrder core }
+{}
+
+/// Of two places of a run that are together at a loop the second stands in no earlier group.
+pub fn later_groups_follow()
+    ensures { (core : PlainCore) → LaterGroupsFollow core }
+{}
+
+/// Of each two events of a run that are together at a loop, in two of its groups, the second has the loop's counters as many
+/// groups on, and both have one value for each counter outside.
+pub fn runs_are_apart()
+    ensures { (core : PlainCore) → RunsAreApart core }
 {}
