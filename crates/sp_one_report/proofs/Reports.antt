@@ -8,10 +8,11 @@ use Rattle.sp_meets.specs.Meets.{IsMeetsOf}
 use Rattle.sp_meets.specs.Sites.{sites}
 use Rattle.sp_one_plan.specs.Laws.{CoresHaveOnePlan}
 use Rattle.sp_one_report.proofs.Meets.{one_among}
-use Rattle.sp_one_report.specs.Laws.{IsReportOf}
+use Rattle.sp_one_report.specs.Laws.{IsReportOf, IsReportOfText}
 use Rattle.sp_plan.specs.PlainPlan.{PlainPlan}
 use Rattle.sp_plans.specs.Planned.{IsPlanned}
 use Rattle.sp_report.specs.Report.{report_text}
+use Rattle.sp_source.specs.Texts.{Spells}
 use Rattle.sp_tree.specs.PlainProgram.{PlainProgram}
 
 pub one_list : (core : PlainCore) (forms : PlainForms) (a b : List Meet) → IsMeetsOf core forms a → IsMeetsOf core forms b → a ≡ b
@@ -25,3 +26,6 @@ module _ (law : CoresHaveOnePlan) where
 
   pub one_report_of : (program : PlainProgram) (s t : List ℕ) → IsReportOf program s → IsReportOf program t → s ≡ t
   one_report_of program s t h k = h.2 ∙ ap (report_text (lanes_of program)) (one_plan_of program h.0 k.0 h.1 k.1) ∙ sym k.2
+
+  pub one_report_of_text : ((text : List ℕ) (p q : PlainProgram) → Spells text p → Spells text q → p ≡ q) → (bytes s t : List ℕ) → IsReportOfText bytes s → IsReportOfText bytes t → s ≡ t
+  one_report_of_text one bytes s t h k = one_report_of h.0 s t h.2 (subst (λ p. IsReportOf p t) (sym (one bytes h.0 k.0 h.1 k.1)) k.2)

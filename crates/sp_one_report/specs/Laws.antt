@@ -7,6 +7,7 @@ use Rattle.sp_core.specs.PlainCore.{PlainCore}
 use Rattle.sp_meets.specs.Meets.{IsMeetsOf}
 use Rattle.sp_plan.specs.PlainPlan.{PlainPlan}
 use Rattle.sp_report.specs.Report.{report_text}
+use Rattle.sp_source.specs.Texts.{Spells}
 use Rattle.sp_tree.specs.PlainProgram.{PlainProgram}
 
 -- the meets of a core are one list for these forms
@@ -24,3 +25,11 @@ IsReportOf program text = (plan : PlainPlan) × IsPlanOf program plan × (text �
 -- a program has one report
 abbrev pub ProgramsHaveOneReport : Type 0
 ProgramsHaveOneReport = (program : PlainProgram) (s t : List ℕ) → IsReportOf program s → IsReportOf program t → s ≡ t
+
+-- the bytes spell a program, and the text is its report
+abbrev pub IsReportOfText : (bytes text : List ℕ) → Type 0
+IsReportOfText bytes text = (program : PlainProgram) × Spells bytes program × IsReportOf program text
+
+-- the text of a program has one report
+abbrev pub TextsHaveOneReport : Type 0
+TextsHaveOneReport = (bytes s t : List ℕ) → IsReportOfText bytes s → IsReportOfText bytes t → s ≡ t

@@ -4,4 +4,7 @@
 
 mod laws;
 
-pub use laws::{cores_have_one_list_of_meets, programs_have_one_plan, programs_have_one_report};
+pub use laws::{
+    cores_have_one_list_of_meets, programs_have_one_plan, programs_have_one_report,
+    texts_have_one_report,
+};
