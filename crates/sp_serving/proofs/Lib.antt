@@ -1,0 +1,4 @@
+mod ApartTests
+mod BodyTests
+mod Counting
+mod TreeTests

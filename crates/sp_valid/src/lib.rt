@@ -1,0 +1,10 @@
+//! Whether a plan of a core is valid: a test that takes no memory.
+#![tactic(auto)]
+
+mod mems;
+mod nodes;
+#[cfg(test)]
+mod tests;
+mod validity;
+
+pub use validity::valid;
