@@ -36,14 +36,14 @@ each_so P R S f (m ∷ ms) h k = (first m (All-head (Stands P) m ms h) k.0, each
     first (keeps x w) p a = tt
 
 pub runs_apart : (core : PlainCore) (reading : Reading) (h : History) →
-    EachTwo (λ s t. (node g i : ℕ) (one_stage : Bool) → together core s.path t.path ≡ in_loop node g i one_stage → AreApart (loops_in reading core.root h) s.counters t.counters g i) (core_moments core reading h)
+    EachTwo (λ s t. (node g i : ℕ) (one_stage : Bool) → together core s.path t.path ≡ in_loop node g i one_stage → AreApart (loops_in reading core.root h) s.path t.path s.counters t.counters node g i one_stage) (core_moments core reading h)
 runs_apart core reading h =
     each_so (λ s. IsTraced (loops_in reading core.root h) s.path s.counters) (λ s t. AreInOrder s.path t.path)
-    (λ s t. (node g i : ℕ) (one_stage : Bool) → together core s.path t.path ≡ in_loop node g i one_stage → AreApart (loops_in reading core.root h) s.counters t.counters g i)
+    (λ s t. (node g i : ℕ) (one_stage : Bool) → together core s.path t.path ≡ in_loop node g i one_stage → AreApart (loops_in reading core.root h) s.path t.path s.counters t.counters node g i one_stage)
     (λ s t p q r node g i one e. two s t p q r node g i one e) _ (runs_traced core reading h) (runs_ordered core reading h)
   where
     two : (s t : Standing) → IsTraced (loops_in reading core.root h) s.path s.counters → IsTraced (loops_in reading core.root h) t.path t.counters → AreInOrder s.path t.path →
-        (node g i : ℕ) (one : Bool) → together core s.path t.path ≡ in_loop node g i one → AreApart (loops_in reading core.root h) s.counters t.counters g i
+        (node g i : ℕ) (one : Bool) → together core s.path t.path ≡ in_loop node g i one → AreApart (loops_in reading core.root h) s.path t.path s.counters t.counters node g i one
     two s t p q r node g i one e =
         let at = together_at_loop core (loops_in reading core.root h) s.path t.path s.counters t.counters node g i one p q e in
         let order : g ≤ i = groups_follow core s.path t.path node g i one r e in

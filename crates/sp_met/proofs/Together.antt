@@ -41,44 +41,66 @@ same_values loops (in_group_of g s) v u h k = sym h.1 ∙ k.1
 same_values loops (in_turn t) v u h k = h ∙ sym k
 
 -- a controller more around both
-one_more : (loops : List At → List Loop) (a : At) (values rest others cs ds : List ℤ) (g i : ℕ) → cs ≡ values ++ rest → ds ≡ values ++ others →
-    AreAtLoop (λ p. loops (a ∷ p)) rest others g i → AreAtLoop loops cs ds g i
-one_more loops a values rest others cs ds g i e f at = record {
+one_more : (loops : List At → List Loop) (a b : At) (p q : List At) (values rest others cs ds : List ℤ) (node g i : ℕ) (one : Bool) → a ≡ b → HasGroup (loops []) a.when values → cs ≡ values ++ rest → ds ≡ values ++ others →
+    AreAtLoop (λ r. loops (a ∷ r)) p q rest others node g i one → AreAtLoop loops (a ∷ p) (b ∷ q) cs ds node g i one
+one_more loops a b p q values rest others cs ds node g i one same h e f at = record {
   around = a ∷ at.around;
+  first_inside = at.first_inside;
+  second_inside = at.second_inside;
+  first_stage = at.first_stage;
+  second_stage = at.second_stage;
+  first_path = ap (λ r. a ∷ r) at.first_path;
+  second_path = ap (λ z. z ∷ q) (sym same) ∙ ap (λ r. a ∷ r) at.second_path;
+  stages = at.stages;
   outer = values ++ at.outer;
   first_own = at.first_own;
   second_own = at.second_own;
+  outside = (values, at.outer, h, refl, at.outside);
   first_group = at.first_group;
   second_group = at.second_group;
   first = e ∙ ap (λ x. values ++ x) at.first ∙ sym (append_assoc values at.outer (get_or (group_values (loops (a ∷ at.around))) g [] ++ at.first_own));
   second = f ∙ ap (λ x. values ++ x) at.second ∙ sym (append_assoc values at.outer (get_or (group_values (loops (a ∷ at.around))) i [] ++ at.second_own));
 }
 
+-- a place in a loop's group
+placed : (a : At) (k n g s : ℕ) → a.node ≡ k → a.when ≡ in_group_of n s → n ≡ g → a ≡ record { node = k; when = in_group_of g s }
+placed a k n g s e f h = same_at a (record { node = k; when = in_group_of g s }) e (f ∙ ap (λ x. in_group_of x s) h)
+
 -- the controller itself
-at_it : (loops : List At → List Loop) (a b : At) (w x : When) (vs us rest others cs ds : List ℤ) (node g i : ℕ) (one : Bool) → HasGroup (loops []) w vs → HasGroup (loops []) x us → cs ≡ vs ++ rest → ds ≡ us ++ others →
-    together_at a.node w x ≡ in_loop node g i one → AreAtLoop loops cs ds g i
-at_it loops a b (in_group_of u s) (in_group_of v r) vs us rest others cs ds node g i one h k e f is =
+at_it : (loops : List At → List Loop) (a b : At) (p q : List At) (w x : When) (vs us rest others cs ds : List ℤ) (node g i : ℕ) (one : Bool) → a.when ≡ w → b.when ≡ x → a.node ≡ b.node → HasGroup (loops []) w vs → HasGroup (loops []) x us → cs ≡ vs ++ rest → ds ≡ us ++ others →
+    together_at a.node w x ≡ in_loop node g i one → AreAtLoop loops (a ∷ p) (b ∷ q) cs ds node g i one
+at_it loops a b p q (in_group_of u s) (in_group_of v r) vs us rest others cs ds node g i one wa wb nodes h k e f is =
+    let here : a.node ≡ node = cc in
     let first : u ≡ g = cc in
     let second : v ≡ i = cc in
+    let stages : one ≡ (s == r) = cc in
     record {
       around = [];
+      first_inside = p;
+      second_inside = q;
+      first_stage = s;
+      second_stage = r;
+      first_path = ap (λ z. z ∷ p) (placed a node u g s here wa first);
+      second_path = ap (λ z. z ∷ q) (placed b node v i r (sym nodes ∙ here) wb second);
+      stages = stages;
       outer = [];
       first_own = rest;
       second_own = others;
+      outside = refl;
       first_group = subst (λ n. n < length (group_values (loops []))) first h.0;
       second_group = subst (λ n. n < length (group_values (loops []))) second k.0;
       first = e ∙ ap (λ x. x ++ rest) (sym h.1) ∙ ap (λ n. get_or (group_values (loops [])) n [] ++ rest) first;
       second = f ∙ ap (λ x. x ++ others) (sym k.1) ∙ ap (λ n. get_or (group_values (loops [])) n [] ++ others) second;
     }
-at_it loops a b (in_turn t) (in_turn u) vs us rest others cs ds node g i one h k e f is = absurd (no_turns (t == u) node g i one is)
-at_it loops a b before x vs us rest others cs ds node g i one h k e f is = absurd (cc)
-at_it loops a b (in_group_of u s) before vs us rest others cs ds node g i one h k e f is = absurd (cc)
-at_it loops a b (in_group_of u s) (in_turn t) vs us rest others cs ds node g i one h k e f is = absurd (cc)
-at_it loops a b (in_turn t) before vs us rest others cs ds node g i one h k e f is = absurd (cc)
-at_it loops a b (in_turn t) (in_group_of u s) vs us rest others cs ds node g i one h k e f is = absurd (cc)
+at_it loops a b p q (in_turn t) (in_turn u) vs us rest others cs ds node g i one wa wb nodes h k e f is = absurd (no_turns (t == u) node g i one is)
+at_it loops a b p q before x vs us rest others cs ds node g i one wa wb nodes h k e f is = absurd (cc)
+at_it loops a b p q (in_group_of u s) before vs us rest others cs ds node g i one wa wb nodes h k e f is = absurd (cc)
+at_it loops a b p q (in_group_of u s) (in_turn t) vs us rest others cs ds node g i one wa wb nodes h k e f is = absurd (cc)
+at_it loops a b p q (in_turn t) before vs us rest others cs ds node g i one wa wb nodes h k e f is = absurd (cc)
+at_it loops a b p q (in_turn t) (in_group_of u s) vs us rest others cs ds node g i one wa wb nodes h k e f is = absurd (cc)
 
 pub together_at_loop : (core : PlainCore) (loops : List At → List Loop) (p q : List At) (cs ds : List ℤ) (node g i : ℕ) (one_stage : Bool) → IsTraced loops p cs → IsTraced loops q ds →
-    together core p q ≡ in_loop node g i one_stage → AreAtLoop loops cs ds g i
+    together core p q ≡ in_loop node g i one_stage → AreAtLoop loops p q cs ds node g i one_stage
 together_at_loop core loops [] q cs ds node g i one h k e = absurd (cc)
 together_at_loop core loops (a ∷ p) [] cs ds node g i one h k e = absurd (cc)
 together_at_loop core loops (a ∷ p) (b ∷ q) cs ds node g i one h k e =
@@ -89,6 +111,6 @@ together_at_loop core loops (a ∷ p) (b ∷ q) cs ds node g i one h k e =
           let same : a ≡ b = same_at a b node_is (same_when a.when b.when group) in
           let second : IsTraced (λ r. loops (a ∷ r)) q k.1 = subst (λ z. IsTraced (λ r. loops (z ∷ r)) q k.1) (sym same) k.4 in
           let values : k.0 ≡ h.0 = same_values (loops []) a.when k.0 h.0 (subst (λ w. HasGroup (loops []) w k.0) (sym (same_when a.when b.when group)) k.2) h.2 in
-          one_more loops a h.0 h.1 k.1 cs ds g i h.3 (k.3 ∙ ap (λ v. v ++ k.1) values) (together_at_loop core (λ r. loops (a ∷ r)) p q h.1 k.1 node g i one h.4 second rest)
-      | inr here ↦ at_it loops a b a.when b.when h.0 k.0 h.1 k.1 cs ds node g i one h.2 k.2 h.3 k.3 here
+          one_more loops a b p q h.0 h.1 k.1 cs ds node g i one same h.2 h.3 (k.3 ∙ ap (λ v. v ++ k.1) values) (together_at_loop core (λ r. loops (a ∷ r)) p q h.1 k.1 node g i one h.4 second rest)
+      | inr here ↦ at_it loops a b p q a.when b.when h.0 k.0 h.1 k.1 cs ds node g i one refl refl node_is h.2 k.2 h.3 k.3 here
     ]

@@ -1,5 +1,5 @@
 -- Where the events of a run stand: in groups of the controllers around them, whose counters have the groups' values.
-use Rattle.std.specs.Prelude.{◌≡◌, ℕ, zero, suc, ◌<◌, Bool, true, false, ℤ, List, [], ◌∷◌, ◌++◌, length, slice_index_or}
+use Rattle.std.specs.Prelude.{◌≡◌, ℕ, zero, suc, ◌<◌, ◌==◌, Bool, true, false, ℤ, List, [], ◌∷◌, ◌++◌, length, slice_index_or}
 use Rattle.std.specs.List.{All}
 use Rattle.sp_core.specs.Events.{At, When, in_group_of, in_turn, Standing, Moment, touches, slices, renews, keeps, core_moments}
 use Rattle.sp_core.specs.History.{History, Groups, Runs, Turns, inner_ran, outer_ran, fsm_ran, branch_ran, no_group, more_group, masked_run, more_run, no_turn, more_turn}
@@ -70,13 +70,21 @@ abbrev pub RunsAreTraced : PlainCore → Type 0
 RunsAreTraced core =
     (reading : Reading) (h : History) → All (Stands (λ s. IsTraced (loops_in reading core.root h) s.path s.counters)) (core_moments core reading h)
 
--- two places in a run at one loop, in two of its groups: the counters outside have one value each, and those of the loop have
--- the values of the groups
-pub record AreAtLoop (loops : List At → List Loop) (cs ds : List ℤ) (g i : ℕ) : Type 0 where
+-- two places in a run at one loop, in two of its groups, with one path around it: the counters outside have one value each,
+-- and those of the loop have the values of the groups
+pub record AreAtLoop (loops : List At → List Loop) (p q : List At) (cs ds : List ℤ) (node g i : ℕ) (one_stage : Bool) : Type 0 where
   pub around : List At
+  pub first_inside : List At
+  pub second_inside : List At
+  pub first_stage : ℕ
+  pub second_stage : ℕ
+  pub first_path : p ≡ around ++ (record { node = node; when = in_group_of g first_stage } ∷ first_inside)
+  pub second_path : q ≡ around ++ (record { node = node; when = in_group_of i second_stage } ∷ second_inside)
+  pub stages : one_stage ≡ (first_stage == second_stage)
   pub outer : List ℤ
   pub first_own : List ℤ
   pub second_own : List ℤ
+  pub outside : IsTraced loops around outer
   pub first_group : g < length (group_values (loops around))
   pub second_group : i < length (group_values (loops around))
   pub first : cs ≡ outer ++ (slice_index_or (group_values (loops around)) g [] ++ first_own)
@@ -85,4 +93,4 @@ pub record AreAtLoop (loops : List At → List Loop) (cs ds : List ℤ) (g i : �
 abbrev pub TogetherAtLoop : PlainCore → Type 0
 TogetherAtLoop core =
     (loops : List At → List Loop) (p q : List At) (cs ds : List ℤ) (node g i : ℕ) (one_stage : Bool) → IsTraced loops p cs → IsTraced loops q ds →
-    together core p q ≡ in_loop node g i one_stage → AreAtLoop loops cs ds g i
+    together core p q ≡ in_loop node g i one_stage → AreAtLoop loops p q cs ds node g i one_stage
