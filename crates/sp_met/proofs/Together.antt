@@ -6,7 +6,7 @@ use Rattle.sp_core.specs.Events.{At, When, before, in_group_of, in_turn}
 use Rattle.sp_core.specs.Meeting.{Together, in_loop, in_one_turn, nowhere, is_group, together_at, go_on, is_in_stream, together}
 use Rattle.sp_core.specs.PlainCore.{PlainCore}
 use Rattle.sp_core.specs.Scope.{Loop, group_values}
-use Rattle.sp_met.specs.Traces.{HasGroup, IsTraced, AreAtLoop}
+use Rattle.sp_met.specs.Traces.{HasGroup, IsTraced, AreAtLoop, AreInOneTurn}
 
 pub choose : (c d e : Bool) (x y : Together) (node g i : ℕ) (one : Bool) → (if c then (if d then (if e then x else nowhere) else y) else nowhere) ≡ in_loop node g i one →
     (c ≡ true) × (((e ≡ true) × (x ≡ in_loop node g i one)) ⊎ (y ≡ in_loop node g i one))
@@ -113,4 +113,74 @@ together_at_loop core loops (a ∷ p) (b ∷ q) cs ds node g i one h k e =
           let values : k.0 ≡ h.0 = same_values (loops []) a.when k.0 h.0 (subst (λ w. HasGroup (loops []) w k.0) (sym (same_when a.when b.when group)) k.2) h.2 in
           one_more loops a b p q h.0 h.1 k.1 cs ds node g i one same h.2 h.3 (k.3 ∙ ap (λ v. v ++ k.1) values) (together_at_loop core (λ r. loops (a ∷ r)) p q h.1 k.1 node g i one h.4 second rest)
       | inr here ↦ at_it loops a b p q a.when b.when h.0 k.0 h.1 k.1 cs ds node g i one refl refl node_is h.2 k.2 h.3 k.3 here
+    ]
+
+choose_turn : (c d e : Bool) (x y : Together) → (if c then (if d then (if e then x else nowhere) else y) else nowhere) ≡ in_one_turn →
+    (c ≡ true) × (((e ≡ true) × (x ≡ in_one_turn)) ⊎ (y ≡ in_one_turn))
+choose_turn true true true x y h = (refl, inl (refl, h))
+choose_turn true true false x y h = absurd (cc)
+choose_turn true false e x y h = (refl, inr h)
+choose_turn false d e x y h = absurd (cc)
+
+one_turn : (b : Bool) → (if b then in_one_turn else nowhere) ≡ in_one_turn → b ≡ true
+one_turn true h = refl
+one_turn false h = absurd (cc)
+
+-- the turn itself
+in_it : (loops : List At → List Loop) (a b : At) (p q : List At) (w x : When) (vs us rest others cs ds : List ℤ) → a.when ≡ w → b.when ≡ x → a.node ≡ b.node → HasGroup (loops []) w vs → HasGroup (loops []) x us → cs ≡ vs ++ rest → ds ≡ us ++ others →
+    together_at a.node w x ≡ in_one_turn → AreInOneTurn loops (a ∷ p) (b ∷ q) cs ds
+in_it loops a b p q (in_turn t) (in_turn u) vs us rest others cs ds wa wb nodes h k e f is =
+    let turns : t ≡ u = eqb-true t u (one_turn (t == u) is) in
+    let same : a ≡ b = same_at a b nodes (wa ∙ ap in_turn turns ∙ sym wb) in
+    record {
+      around = [];
+      here = a;
+      first_inside = p;
+      second_inside = q;
+      first_path = refl;
+      second_path = ap (λ z. z ∷ q) (sym same);
+      outer = [];
+      first_own = rest;
+      second_own = others;
+      outside = refl;
+      first = e ∙ ap (λ v. v ++ rest) h;
+      second = f ∙ ap (λ v. v ++ others) k;
+    }
+in_it loops a b p q (in_group_of u s) (in_group_of v r) vs us rest others cs ds wa wb nodes h k e f is = absurd (cc)
+in_it loops a b p q before x vs us rest others cs ds wa wb nodes h k e f is = absurd (cc)
+in_it loops a b p q (in_group_of u s) before vs us rest others cs ds wa wb nodes h k e f is = absurd (cc)
+in_it loops a b p q (in_group_of u s) (in_turn t) vs us rest others cs ds wa wb nodes h k e f is = absurd (cc)
+in_it loops a b p q (in_turn t) before vs us rest others cs ds wa wb nodes h k e f is = absurd (cc)
+in_it loops a b p q (in_turn t) (in_group_of u s) vs us rest others cs ds wa wb nodes h k e f is = absurd (cc)
+
+further_in : (loops : List At → List Loop) (a b : At) (p q : List At) (values rest others cs ds : List ℤ) → a ≡ b → HasGroup (loops []) a.when values → cs ≡ values ++ rest → ds ≡ values ++ others →
+    AreInOneTurn (λ r. loops (a ∷ r)) p q rest others → AreInOneTurn loops (a ∷ p) (b ∷ q) cs ds
+further_in loops a b p q values rest others cs ds same h e f at = record {
+  around = a ∷ at.around;
+  here = at.here;
+  first_inside = at.first_inside;
+  second_inside = at.second_inside;
+  first_path = ap (λ r. a ∷ r) at.first_path;
+  second_path = ap (λ z. z ∷ q) (sym same) ∙ ap (λ r. a ∷ r) at.second_path;
+  outer = values ++ at.outer;
+  first_own = at.first_own;
+  second_own = at.second_own;
+  outside = (values, at.outer, h, refl, at.outside);
+  first = e ∙ ap (λ x. values ++ x) at.first ∙ sym (append_assoc values at.outer at.first_own);
+  second = f ∙ ap (λ x. values ++ x) at.second ∙ sym (append_assoc values at.outer at.second_own);
+}
+
+pub together_in_turn : (core : PlainCore) (loops : List At → List Loop) (p q : List At) (cs ds : List ℤ) → IsTraced loops p cs → IsTraced loops q ds → together core p q ≡ in_one_turn → AreInOneTurn loops p q cs ds
+together_in_turn core loops [] q cs ds h k e = absurd (cc)
+together_in_turn core loops (a ∷ p) [] cs ds h k e = absurd (cc)
+together_in_turn core loops (a ∷ p) (b ∷ q) cs ds h k e =
+    let chosen = choose_turn ((a.node == b.node) && not (is_in_stream core a.node)) (go_on p q) (is_group a.when b.when) (together core p q) (together_at a.node a.when b.when) e in
+    let node_is : a.node ≡ b.node = eqb-true a.node b.node (and_parts (a.node == b.node) (not (is_in_stream core a.node)) chosen.0).0 in
+    elim chosen.1 [
+      | inl (group, rest) ↦
+          let same : a ≡ b = same_at a b node_is (same_when a.when b.when group) in
+          let second : IsTraced (λ r. loops (a ∷ r)) q k.1 = subst (λ z. IsTraced (λ r. loops (z ∷ r)) q k.1) (sym same) k.4 in
+          let values : k.0 ≡ h.0 = same_values (loops []) a.when k.0 h.0 (subst (λ w. HasGroup (loops []) w k.0) (sym (same_when a.when b.when group)) k.2) h.2 in
+          further_in loops a b p q h.0 h.1 k.1 cs ds same h.2 h.3 (k.3 ∙ ap (λ v. v ++ k.1) values) (together_in_turn core (λ r. loops (a ∷ r)) p q h.1 k.1 h.4 second rest)
+      | inr here ↦ in_it loops a b p q a.when b.when h.0 k.0 h.1 k.1 cs ds refl refl node_is h.2 k.2 h.3 k.3 here
     ]

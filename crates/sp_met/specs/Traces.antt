@@ -3,7 +3,7 @@ use Rattle.std.specs.Prelude.{◌≡◌, ℕ, zero, suc, ◌<◌, ◌==◌, Bool
 use Rattle.std.specs.List.{All}
 use Rattle.sp_core.specs.Events.{At, When, in_group_of, in_turn, Standing, Moment, touches, slices, renews, keeps, core_moments}
 use Rattle.sp_core.specs.History.{History, Groups, Runs, Turns, inner_ran, outer_ran, fsm_ran, branch_ran, no_group, more_group, masked_run, more_run, no_turn, more_turn}
-use Rattle.sp_core.specs.Meeting.{in_loop, together}
+use Rattle.sp_core.specs.Meeting.{in_loop, in_one_turn, together}
 use Rattle.sp_core.specs.PlainCore.{PlainNode, PlainStages, inner, outer, fsm, branch, more_stage, PlainCore}
 use Rattle.sp_core.specs.Scope.{Reading, Loop, loops_of, group_values}
 
@@ -94,3 +94,22 @@ abbrev pub TogetherAtLoop : PlainCore → Type 0
 TogetherAtLoop core =
     (loops : List At → List Loop) (p q : List At) (cs ds : List ℤ) (node g i : ℕ) (one_stage : Bool) → IsTraced loops p cs → IsTraced loops q ds →
     together core p q ≡ in_loop node g i one_stage → AreAtLoop loops p q cs ds node g i one_stage
+
+-- two places in one turn of an FSM, or in one branch, with one path up to it: the counters outside have one value each
+pub record AreInOneTurn (loops : List At → List Loop) (p q : List At) (cs ds : List ℤ) : Type 0 where
+  pub around : List At
+  pub here : At
+  pub first_inside : List At
+  pub second_inside : List At
+  pub first_path : p ≡ around ++ (here ∷ first_inside)
+  pub second_path : q ≡ around ++ (here ∷ second_inside)
+  pub outer : List ℤ
+  pub first_own : List ℤ
+  pub second_own : List ℤ
+  pub outside : IsTraced loops around outer
+  pub first : cs ≡ outer ++ first_own
+  pub second : ds ≡ outer ++ second_own
+
+abbrev pub TogetherInOneTurn : PlainCore → Type 0
+TogetherInOneTurn core =
+    (loops : List At → List Loop) (p q : List At) (cs ds : List ℤ) → IsTraced loops p cs → IsTraced loops q ds → together core p q ≡ in_one_turn → AreInOneTurn loops p q cs ds

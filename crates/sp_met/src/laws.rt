@@ -5,7 +5,7 @@ ghost use Rattle.sp_met.specs.Groups.{CountersHaveSteps, GroupsGoOn};
 ghost use Rattle.sp_core.specs.PlainCore.{PlainCore};
 ghost use Rattle.sp_met.specs.Order.{LaterGroupsFollow, RunsAreInOrder};
 ghost use Rattle.sp_met.specs.Touching.{MetAccessesStand};
-ghost use Rattle.sp_met.specs.Traces.{RunsAreTraced, TogetherAtLoop};
+ghost use Rattle.sp_met.specs.Traces.{RunsAreTraced, TogetherAtLoop, TogetherInOneTurn};
 
 /// The counters of a controller go on, in lanes, by the steps of their ranges.
 pub fn counters_have_steps()
@@ -49,4 +49,9 @@ pub fn later_groups_follow()
 /// groups on, and both have one value for each counter outside.
 pub fn runs_are_apart()
     ensures { (core : PlainCore) → RunsAreApart core }
+{}
+
+/// Two places in a run that are together in one turn of an FSM, or in one branch, have one value for each counter outside.
+pub fn places_are_in_one_turn()
+    ensures { (core : PlainCore) → TogetherInOneTurn core }
 {}

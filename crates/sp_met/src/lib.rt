@@ -6,5 +6,6 @@ mod laws;
 
 pub use laws::{
     counters_have_steps, groups_go_on, later_groups_follow, met_accesses_stand,
-    places_are_at_one_loop, runs_are_apart, runs_are_in_order, runs_are_traced,
+    places_are_at_one_loop, places_are_in_one_turn, runs_are_apart, runs_are_in_order,
+    runs_are_traced,
 };
