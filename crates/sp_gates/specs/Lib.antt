@@ -3,3 +3,4 @@ pub mod Runs
 pub mod Grows
 pub mod Bits
 pub mod Laws
+pub mod Tested

@@ -6,9 +6,11 @@
 mod bits;
 mod gates;
 mod laws;
+mod tested;
 #[cfg(test)]
 mod tests;
 
 pub use bits::{both, either, equals, negate, one, register};
 pub use gates::{cast, choose, constant, delay, drive, hold, invert, operate, reserve, shift};
 pub use laws::gate_laws;
+pub use tested::{drive_after, on_both, on_either, on_not};

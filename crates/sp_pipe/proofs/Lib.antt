@@ -1,0 +1,9 @@
+mod BitLemmas
+mod Kept
+mod Cycles
+mod WordLemmas
+mod Acting
+mod InTime
+mod Computing
+mod Pushing
+mod Waiting

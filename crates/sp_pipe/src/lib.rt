@@ -1,0 +1,19 @@
+//! Inner bodies as circuits: each operation at its time after the issue of its group, a group at each interval.
+#![tactic(auto)]
+
+mod access;
+mod body;
+mod emitting;
+mod issue;
+mod kinds;
+mod laws;
+mod operands;
+mod operators;
+mod part;
+#[cfg(test)]
+mod tests;
+mod words;
+
+pub use emitting::emit;
+pub use laws::bodies_run_in_time;
+pub use part::{Act, Groups, Part, PipeOp};

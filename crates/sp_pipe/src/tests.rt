@@ -1,0 +1,24 @@
+use crate::{Part, emit};
+use sp_gates::one;
+use sp_netlist::Builder;
+use std::test::Fail;
+
+// Its nets are the one that is always 1, the issue one cycle after the start, and two registers up to its end.
+#[test]
+fn a_body_without_operations_is_an_issue_and_an_end(rt: HostRuntime) -> Result<(), Fail> {
+    let alloc = rt.alloc();
+    let mut builder = Builder::new(alloc);
+    let start = one(&mut builder)?;
+    let part = Part {
+        start,
+        groups: None,
+        ops: Vec::new(alloc),
+        ii: 1,
+        latency: 2,
+    };
+    let ends = emit(alloc, &mut builder, &part)?;
+    assert_eq!(rt; ends.start.number(), 0);
+    assert_eq!(rt; ends.done.number(), 4);
+    assert_eq!(rt; ends.nets.len(), 0);
+    Ok(())
+}
