@@ -7,3 +7,4 @@ mod InTime
 mod Computing
 mod Pushing
 mod Waiting
+mod Worked

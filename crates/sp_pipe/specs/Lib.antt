@@ -4,3 +4,4 @@ pub mod Acts
 pub mod Issues
 pub mod Emitted
 pub mod Laws
+pub mod Examples

@@ -4,6 +4,7 @@
 mod access;
 mod body;
 mod emitting;
+mod examples;
 mod issue;
 mod kinds;
 mod laws;
@@ -15,5 +16,6 @@ mod tests;
 mod words;
 
 pub use emitting::emit;
+pub use examples::worked_body;
 pub use laws::bodies_run_in_time;
 pub use part::{Act, Groups, Part, PipeOp};
