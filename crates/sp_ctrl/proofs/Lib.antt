@@ -1,0 +1,3 @@
+mod Waiting
+mod Causes
+mod Worked
