@@ -1,0 +1,4 @@
+pub mod Named
+pub mod Placed
+pub mod Rounds
+pub mod Ups

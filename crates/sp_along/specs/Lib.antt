@@ -1,0 +1,4 @@
+pub mod Along
+pub mod Controllers
+pub mod Symbols
+pub mod TextOrder

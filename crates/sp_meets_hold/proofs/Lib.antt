@@ -1,0 +1,11 @@
+pub mod Levels
+pub mod Meeting
+pub mod Rising
+pub mod Outers
+pub mod Sites
+pub mod Elements
+pub mod Values
+pub mod Ones
+pub mod Pairs
+pub mod Judged
+pub mod Whole

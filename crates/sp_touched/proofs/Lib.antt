@@ -1,0 +1,13 @@
+pub mod Lengths
+pub mod OfSymbols
+pub mod Lists
+pub mod Slots
+pub mod SliceForms
+pub mod Words
+pub mod Moved
+pub mod Picked
+pub mod Doing
+pub mod Steps
+pub mod Transferring
+pub mod Arounds
+pub mod Runs
