@@ -1,0 +1,5 @@
+pub mod Bodies
+pub mod Lists
+pub mod Root
+pub mod Waiting
+pub mod Whole

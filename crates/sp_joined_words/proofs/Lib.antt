@@ -1,0 +1,5 @@
+pub mod Balanced
+pub mod Live
+pub mod Rounds
+pub mod Turns
+pub mod Whole

@@ -1,0 +1,9 @@
+pub mod Chain
+pub mod Combining
+pub mod Copies
+pub mod Frames
+pub mod Group
+pub mod Inner
+pub mod Moved
+pub mod Registers
+pub mod Rights

@@ -1,0 +1,5 @@
+pub mod Bounds
+pub mod Follows
+pub mod Inner
+pub mod Owners
+pub mod Steps

@@ -1,0 +1,6 @@
+//! Inner bodies of a core, and the same in lanes.
+#![tactic(auto)]
+
+mod laws;
+
+pub use laws::inners_go;

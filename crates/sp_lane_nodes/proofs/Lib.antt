@@ -1,0 +1,5 @@
+pub mod Branch
+pub mod Fsm
+pub mod Nodes
+pub mod Stand
+pub mod Turns

@@ -1,0 +1,6 @@
+//! The words of lanes.
+#![tactic(auto)]
+
+mod laws;
+
+pub use laws::words_stand;
