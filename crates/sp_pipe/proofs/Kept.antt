@@ -1,5 +1,5 @@
 -- What stands in a draft still stands when more is added.
-use Rattle.std.proofs.Common.{ℕ, List, [], ◌∷◌, take}
+use Rattle.std.proofs.Common.{◌≡◌, ℕ, ◌+◌, IsTrue, List, [], ◌∷◌, map, take, subst}
 use Rattle.sp_words.specs.declared.types.Ty.{Ty}
 use Rattle.sp_words.specs.Types.{width_of}
 use Rattle.sp_netlist.specs.Draft.{Draft}
@@ -10,7 +10,8 @@ use Rattle.sp_pipe.specs.declared.part.Act.{Act}
 use Rattle.sp_pipe.specs.declared.part.Act.TheVariants.{Given, Word, One, Two, Shift, Mux, Cast, Read, Deq, Write, Enq, Reset}
 use Rattle.sp_pipe.specs.declared.part.PipeOp.{PipeOp}
 use Rattle.sp_pipe.specs.declared.words.Stage.{Stage}
-use Rattle.sp_pipe.specs.Acts.{HasWord, AreStages, AreOperandsTo, ActsAt, AreActs, none, passed, acted}
+use Rattle.sp_pipe.specs.Values.{gives_word, word_time, act_word}
+use Rattle.sp_pipe.specs.Acts.{HasWord, AreStages, AreOperandsTo, IsComputed, ActsAt, AreActs, none, passed, acted}
 use Rattle.sp_pipe.specs.Right.{ActFits, OpFits, OpsFit}
 
 module _ (a b : Draft) (g : Grows a b) where
@@ -23,6 +24,9 @@ module _ (a b : Draft) (g : Grows a b) where
     when = was.when;
     gives = λ s r. was.gives s (runs_earlier a b s g r);
   }
+
+  pub computed_kept : (net : ℕ) (op : PipeOp) (xs ys : List ℕ) → xs ≡ ys → (IsTrue (gives_word op.act) → IsComputed a net op xs) → IsTrue (gives_word op.act) → IsComputed b net op ys
+  computed_kept net op xs ys e h = λ gives s r u. subst (λ zs. s.net (u + word_time op.act op.time) net ≡ act_word s u op.ty op.time op.act (map (s.net (u + op.time)) zs)) e (h gives s (runs_earlier a b s g r) u)
 
   pub operands_kept : (ops : List PipeOp) (op : PipeOp) (operands : List ℕ) (n : ℕ) → AreOperandsTo a ops op operands n → AreOperandsTo b ops op operands n
   operands_kept ops op operands n h = record {

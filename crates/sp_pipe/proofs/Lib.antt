@@ -1,10 +1,11 @@
 mod BitLemmas
 mod Kept
 mod Cycles
-mod WordLemmas
+pub mod WordLemmas
 mod Acting
 mod InTime
 mod Computing
+mod MaskLemmas
 mod Pushing
 mod Waiting
 mod Worked

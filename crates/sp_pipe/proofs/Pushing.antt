@@ -1,5 +1,5 @@
 -- The words that an operation takes, one more at a time.
-use Rattle.std.proofs.Common.{◌≡◌, ℕ, ◌+◌, ◌<◌, ◌⊎◌, inl, inr, List, [], ◌∷◌, ◌++◌, length, slice_index, slice_index_or, sym, ap, subst, ◌∙◌, arith}
+use Rattle.std.proofs.Common.{◌≡◌, ℕ, ◌+◌, ◌<◌, ◌⊎◌, inl, inr, List, [], ◌∷◌, ◌++◌, length, slice_index, slice_index_or, take, refl, sym, ap, subst, ◌∙◌, arith}
 use Rattle.std.proofs.lemmas.List.{length_push, get_or_append_left, get_or_push, get_or_default}
 use Rattle.sp_netlist.specs.Draft.{Draft}
 use Rattle.sp_gates.specs.Nets.{HasNet}
@@ -56,3 +56,11 @@ stage_pushed d stages ops stage h here = λ k other l. go k other (split k (let 
     go : (k : ℕ) (other : Stage) → (k < length stages) ⊎ (k ≡ length stages) → StageAt d (slice_index_or (stages ++ stage ∷ []) k other) ops k
     go k other (inl below) = subst (λ x. StageAt d x ops k) (sym (get_or_append_left stages (stage ∷ []) other k below)) (h k other below)
     go k other (inr same) = subst (λ x. StageAt d x ops k) (sym (get_or_push stages stage other k (sym same))) (subst (StageAt d stage ops) (sym same) here)
+
+-- an operation is taken from a list of which all are done
+pub taken_of_all : (ops : List PipeOp) (n k width time : ℕ) → n ≡ length ops → IsTaken ops k width time → IsTaken (take n ops) k width time
+taken_of_all ops n k width time e h = subst (λ os. IsTaken os k width time) (sym (ap (λ m. take m ops) e ∙ take_whole ops)) h
+  where
+    take_whole : (xs : List PipeOp) → take (length xs) xs ≡ xs
+    take_whole [] = refl
+    take_whole (x ∷ xs) = ap (λ ys. x ∷ ys) (take_whole xs)

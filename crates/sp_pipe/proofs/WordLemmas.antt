@@ -1,5 +1,5 @@
 -- The words of operations, one by one.
-use Rattle.std.proofs.Common.{◌≡◌, ℕ, zero, suc, ◌+◌, ◌-◌, ◌<◌, ◌≤◌, IsTrue, List, [], ◌∷◌, ◌++◌, map, length, take, drop, slice_index, slice_index_or, refl, sym, ap, ap₂, subst, ◌∙◌, arith, length-append, length-take, take-append-drop, drop-cons, get_or-take}
+use Rattle.std.proofs.Common.{◌≡◌, ℕ, zero, suc, ◌+◌, ◌-◌, ◌==◌, ◌<◌, ◌≤◌, if◌then◌else◌, IsTrue, IfSome, Option, Some, None, List, [], ◌∷◌, ◌++◌, map, length, take, drop, slice_index, slice_index_or, refl, sym, ap, ap₂, subst, ◌∙◌, arith, length-append, length-take, take-append-drop, drop-cons, get_or-take}
 use Rattle.std.proofs.lemmas.List.{get_or_append_left, get_or_push}
 use Rattle.sp_netlist.specs.Signals.{Signals}
 use Rattle.sp_netlist.specs.Draft.{Draft}
@@ -9,9 +9,9 @@ use Rattle.sp_gates.specs.Runs.{RunsOn}
 use Rattle.sp_gates.proofs.Running.{runs_earlier}
 use Rattle.sp_pipe.specs.declared.part.PipeOp.{PipeOp}
 use Rattle.sp_pipe.specs.declared.words.Stage.{Stage}
-use Rattle.sp_pipe.specs.Acts.{HasWord, IsStage, StageAt, AreStages, AreOperands, IsComputed}
+use Rattle.sp_pipe.specs.Acts.{HasWord, IsStage, StageAt, AreStages, AreOperands, IsComputed, IsMasked}
 use Rattle.sp_pipe.specs.Right.{IsAt, IsTaken, OpFits}
-use Rattle.sp_pipe.specs.Values.{gives_word, given_width, word_time, act_word, op_word, words_after, words_of}
+use Rattle.sp_pipe.specs.Values.{gives_word, given_width, word_time, time_of, act_word, is_wanted, op_word, words_after, words_of}
 
 -- two lists that are alike place by place under two functions
 pub map_same : (f g : ℕ → ℕ) (xs ys : List ℕ) → length xs ≡ length ys → ((i : ℕ) → i < length xs → f (slice_index xs i) ≡ g (slice_index ys i)) → map f xs ≡ map g ys
@@ -70,20 +70,31 @@ module _ (s : Signals) (u : ℕ) where
 
 -- an operation's stage, from the nets of the words that it takes
 module _ (d first : Draft) (ops : List PipeOp) (k : ℕ) (op : PipeOp) (at : IsAt ops k op) (operands : List ℕ) where
-  pub stage_at : OpFits first (take k ops) op → AreOperands d ops op operands → (net time : ℕ) → time ≡ word_time op.act op.time
-      → (IsTrue (gives_word op.act) → HasNet d net (given_width op.act op.ty)) → (IsTrue (gives_word op.act) → IsComputed d net op operands) → StageAt d (record { net = net; time = time }) ops k
-  stage_at fits taken net time e stands computes = λ other there.
-      subst (λ o. IsTrue (gives_word o.act) → IsStage d (record { net = net; time = time }) (given_width o.act o.ty) (word_time o.act o.time) ops k) (sym (at.is op) ∙ there.is op) (λ gives. record {
+  wanted_before : (s : Signals) (u : ℕ) (mask : Option ℕ) → IfSome mask (λ m. IsTaken (take k ops) m 1 op.time) → is_wanted (words_of s u ops) mask ≡ is_wanted (words_of s u (take k ops)) mask
+  wanted_before s u None h = refl
+  wanted_before s u (Some m) h =
+      let below = h.at.within in
+      let n = length-take k ops in
+      let l = at.within in
+      ap (λ w. w == 1) (earlier_word s u ops k m (omega (arith, l)) (omega (arith, below, n, l)))
+
+  pub stage_at : OpFits first (take k ops) op → AreOperands d ops op operands → (given net time : ℕ) → time ≡ time_of op.act op.mask op.time
+      → (IsTrue (gives_word op.act) → HasNet d net (given_width op.act op.ty)) → (IsTrue (gives_word op.act) → IsComputed d given op operands) → (IsTrue (gives_word op.act) → IsMasked d net given ops op)
+      → StageAt d (record { net = net; time = time }) ops k
+  stage_at fits taken given net time e stands computes masks = λ other there.
+      subst (λ o. IsTrue (gives_word o.act) → IsStage d (record { net = net; time = time }) (given_width o.act o.ty) (time_of o.act o.mask o.time) ops k) (sym (at.is op) ∙ there.is op) (λ gives. record {
         net = stands gives;
         when = e;
         gives = λ s r u.
-            computes gives s r u
+            masks gives s r u
+            ∙ ap (λ w. if is_wanted (words_of s u ops) op.mask then w else 0) (computes gives s r u
             ∙ ap (act_word s u op.ty op.time op.act) (map_same (s.net (u + op.time)) (slice_index (words_of s u (take k ops))) operands op.args.items taken.each (λ i l.
             let within : i < length op.args.items = (let n = taken.each in omega (arith, n, l)) in
             let below = (fits.args i within).at.within in
             let n = length-take k ops in
             let m = at.within in
-            taken.words i within s r u ∙ earlier_word s u ops k (slice_index op.args.items i) (omega (arith, m)) (omega (arith, below, n, m))))
+            taken.words i within s r u ∙ earlier_word s u ops k (slice_index op.args.items i) (omega (arith, m)) (omega (arith, below, n, m)))))
+            ∙ ap (λ b. if b then act_word s u op.ty op.time op.act (map (slice_index (words_of s u (take k ops))) op.args.items) else 0) (wanted_before s u op.mask fits.mask)
             ∙ sym (word_at s u ops k op at);
       })
 
@@ -96,9 +107,9 @@ module _ (d : Draft) (stages : List Stage) (ops : List PipeOp) (k width time : �
   same_op : IsAt ops k is.op
   same_op = let l = taken_within in record { within = omega (arith, l, fits); is = λ other. sym (get_or-take (length stages) ops k other l) ∙ is.at.is other }
 
-  the_stage : IsStage d stage width (word_time is.op.act is.op.time) ops k
-  the_stage = subst (λ x. IsStage d x width (word_time is.op.act is.op.time) ops k) (sym stage_is)
-      (subst (λ w. IsStage d (slice_index_or stages k stage) w (word_time is.op.act is.op.time) ops k) is.wide (h k stage taken_within is.op same_op is.gives))
+  the_stage : IsStage d stage width (time_of is.op.act is.op.mask is.op.time) ops k
+  the_stage = subst (λ x. IsStage d x width (time_of is.op.act is.op.mask is.op.time) ops k) (sym stage_is)
+      (subst (λ w. IsStage d (slice_index_or stages k stage) w (time_of is.op.act is.op.mask is.op.time) ops k) is.wide (h k stage taken_within is.op same_op is.gives))
 
   pub taken_net : HasNet d stage.net width
   taken_net = the_stage.net
@@ -110,5 +121,5 @@ module _ (d : Draft) (stages : List Stage) (ops : List PipeOp) (k width time : �
   taken_late new late g later = λ s r u.
       let l = taken_in_time in
       let e : u + time ≡ (u + stage.time) + (time - stage.time) = omega (arith, l) in
-      let w : u + stage.time ≡ u + word_time is.op.act is.op.time = ap (λ n. u + n) the_stage.when in
+      let w : u + stage.time ≡ u + time_of is.op.act is.op.mask is.op.time = ap (λ n. u + n) the_stage.when in
       ap (λ x. s.net x late) e ∙ later s r (u + stage.time) ∙ ap (λ x. s.net x stage.net) w ∙ the_stage.gives s (runs_earlier d new s g r) u

@@ -1,5 +1,5 @@
 -- What the emitted operations of a body promise.
-use Rattle.std.specs.Prelude.{◌≡◌, ℕ, ◌+◌, ◌<◌, true, false, ◌&&◌, IsTrue, List, [], ◌∷◌, ◌++◌, map, length, slice_index, slice_index_or}
+use Rattle.std.specs.Prelude.{◌≡◌, ℕ, ◌+◌, ◌<◌, true, false, ◌&&◌, if◌then◌else◌, IsTrue, List, [], ◌∷◌, ◌++◌, map, length, slice_index, slice_index_or}
 use Rattle.sp_netlist.specs.Draft.{Draft}
 use Rattle.sp_netlist.specs.Signals.{Signals}
 use Rattle.sp_gates.specs.Nets.{HasNet}
@@ -8,7 +8,7 @@ use Rattle.sp_gates.specs.Tested.{is_on}
 use Rattle.sp_pipe.specs.declared.part.PipeOp.{PipeOp}
 use Rattle.sp_pipe.specs.declared.words.Stage.{Stage}
 use Rattle.sp_pipe.specs.Right.{IsAt}
-use Rattle.sp_pipe.specs.Values.{gives_word, is_access, given_width, taken_width, word_time, act_word, words_of, is_wanted}
+use Rattle.sp_pipe.specs.Values.{gives_word, is_access, given_width, taken_width, word_time, time_of, act_word, words_of, is_wanted}
 
 -- so many cycles after the issue the net has the word of the operation at this place
 abbrev pub HasWord : Draft → (net time : ℕ) → List PipeOp → (place : ℕ) → Type 0
@@ -20,13 +20,17 @@ pub record IsStage (d : Draft) (stage : Stage) (width time : ℕ) (ops : List Pi
   pub when : stage.time ≡ time
   pub gives : HasWord d stage.net time ops k
 
--- the net has the word of an operation, by the nets of the words that it takes
+-- the net has what an operation gives where it is done, by the nets of the words that it takes
 abbrev pub IsComputed : Draft → (net : ℕ) → PipeOp → (operands : List ℕ) → Type 0
 IsComputed d net op operands = (s : Signals) → RunsOn s d.cells → (u : ℕ) → s.net (u + word_time op.act op.time) net ≡ act_word s u op.ty op.time op.act (map (s.net (u + op.time)) operands)
 
+-- the net has the word of an operation, by one with what it gives where it is done
+abbrev pub IsMasked : Draft → (word net : ℕ) → List PipeOp → PipeOp → Type 0
+IsMasked d word net ops op = (s : Signals) → RunsOn s d.cells → (u : ℕ) → s.net (u + time_of op.act op.mask op.time) word ≡ (if is_wanted (words_of s u ops) op.mask then s.net (u + word_time op.act op.time) net else 0)
+
 -- of the operation at a place, where it gives a word
 abbrev pub StageAt : Draft → Stage → List PipeOp → (place : ℕ) → Type 0
-StageAt d stage ops k = (op : PipeOp) → IsAt ops k op → IsTrue (gives_word op.act) → IsStage d stage (given_width op.act op.ty) (word_time op.act op.time) ops k
+StageAt d stage ops k = (op : PipeOp) → IsAt ops k op → IsTrue (gives_word op.act) → IsStage d stage (given_width op.act op.ty) (time_of op.act op.mask op.time) ops k
 
 -- and of all so far
 abbrev pub AreStages : Draft → List Stage → List PipeOp → Type 0

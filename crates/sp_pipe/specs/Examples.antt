@@ -32,3 +32,7 @@ pub record PutsSeven (d : Draft) (start : ℕ) (nets : List ℕ) : Type 0 where
   pub puts : (s : Signals) → RunsOn s d.cells → (t : ℕ) → is_on s enable (suc (suc t)) ≡ is_on s start t
   pub early : (s : Signals) → RunsOn s d.cells → (t : ℕ) → t < 2 → is_on s enable t ≡ false
   pub seven : (s : Signals) → RunsOn s d.cells → (t : ℕ) → s.net (suc t) word ≡ 7
+
+-- the net has 7 in each cycle
+abbrev pub GivesSeven : Draft → (net : ℕ) → Type 0
+GivesSeven d net = (s : Signals) → RunsOn s d.cells → (t : ℕ) → s.net t net ≡ 7

@@ -7,7 +7,7 @@ use Rattle.sp_gates.specs.Nets.{HasNet}
 use Rattle.sp_pipe.specs.declared.part.Act.{Act}
 use Rattle.sp_pipe.specs.declared.part.Act.TheVariants.{Given, Word, Shift, Read, Deq}
 use Rattle.sp_pipe.specs.declared.part.PipeOp.{PipeOp}
-use Rattle.sp_pipe.specs.Values.{gives_word, word_time, given_width, taken_width, takes}
+use Rattle.sp_pipe.specs.Values.{gives_word, time_of, given_width, taken_width, takes}
 
 -- the operation at this place
 pub record IsAt (ops : List PipeOp) (k : ℕ) (op : PipeOp) : Type 0 where
@@ -20,7 +20,7 @@ pub record IsTaken (earlier : List PipeOp) (k width time : ℕ) : Type 0 where
   pub at : IsAt earlier k op
   pub gives : IsTrue (gives_word op.act)
   pub wide : given_width op.act op.ty ≡ width
-  pub in_time : word_time op.act op.time ≤ time
+  pub in_time : time_of op.act op.mask op.time ≤ time
 
 -- nets stand that are named, words are of their type
 abbrev pub ActFits : Draft → Ty → Act → Type 0
@@ -36,7 +36,7 @@ pub record OpFits (d : Draft) (earlier : List PipeOp) (op : PipeOp) : Type 0 whe
   pub count : takes op.act (length op.args.items) ≡ true
   pub args : (i : ℕ) → i < length op.args.items → IsTaken earlier (slice_index op.args.items i) (taken_width op.act op.ty (length op.args.items) i) op.time
   pub mask : IfSome op.mask (λ m. IsTaken earlier m 1 op.time)
-  pub time : word_time op.act op.time < 2 ^ 32
+  pub time : time_of op.act op.mask op.time < 2 ^ 32
 
 -- each operation fits behind those before it
 abbrev pub OpsFit : Draft → List PipeOp → Type 0

@@ -33,6 +33,16 @@ word_time (Read net after) time = time + after
 word_time (Deq net after) time = time + after
 word_time act time = time
 
+-- where it has a mask it stands no earlier than that, at the operation's time
+abbrev pub masked_time : Act → (time : ℕ) → ℕ
+masked_time (Read net after) time = time + after
+masked_time (Deq net after) time = time + after
+masked_time act time = time
+
+abbrev pub time_of : Act → Option ℕ → (time : ℕ) → ℕ
+time_of act None time = word_time act time
+time_of act (Some mask) time = masked_time act time
+
 -- how wide the word is that an operation gives, and a word that it takes: indices have 32 bits
 abbrev pub given_width : Act → Ty → ℕ
 given_width (Two op) ty = if is_comparison op then 1 else width_of ty
@@ -73,9 +83,14 @@ act_word s u ty time (Read net after) ws = s.net (u + (time + after)) net
 act_word s u ty time (Deq net after) ws = s.net (u + (time + after)) net
 act_word s u ty time _ ws = 0
 
--- of an operation after others, whose words are these
+-- whether an operation is done, where its group is issued: its mask is 1, or it has none
+abbrev pub is_wanted : (words : List ℕ) → Option ℕ → Bool
+is_wanted words None = true
+is_wanted words (Some m) = slice_index words m == 1
+
+-- of an operation after others, whose words are these; 0 of one that isn't done
 abbrev pub op_word : Signals → (issued : ℕ) → (earlier : List ℕ) → PipeOp → ℕ
-op_word s u earlier op = act_word s u op.ty op.time op.act (map (slice_index earlier) op.args.items)
+op_word s u earlier op = if is_wanted earlier op.mask then act_word s u op.ty op.time op.act (map (slice_index earlier) op.args.items) else 0
 
 unfoldable pub words_after : Signals → (issued : ℕ) → (earlier : List ℕ) → List PipeOp → List ℕ
 words_after s u earlier [] = earlier
@@ -84,8 +99,3 @@ words_after s u earlier (op ∷ ops) = words_after s u (earlier ++ op_word s u e
 -- the words of all operations of a body
 abbrev pub words_of : Signals → (issued : ℕ) → List PipeOp → List ℕ
 words_of s u ops = words_after s u [] ops
-
--- whether an operation of a group is done: the group is issued, and the mask is 1 where there is one
-abbrev pub is_wanted : (words : List ℕ) → Option ℕ → Bool
-is_wanted words None = true
-is_wanted words (Some m) = slice_index words m == 1

@@ -7,7 +7,8 @@ ghost use Rattle.sp_pipe.specs.Acts.{AreActs, AreOperands, AreStages, StageAt};
 ghost use Rattle.sp_pipe.specs.Right.{IsAt, OpFits, OpsFit};
 
 use crate::access::enable_of;
-use crate::kinds::{is_access, word_time};
+use crate::kinds::{is_access, time_of};
+use crate::masks::under_mask;
 use crate::operands::operands_of;
 use crate::part::PipeOp;
 use crate::words::{Stage, computed};
@@ -68,25 +69,34 @@ fn emit_one(
 {
     let operands = operands_of(alloc, builder, stages, ops, op, one)?;
     add_access(builder, stages, ops, op, &operands, issue, one, nets)?;
-    let net = computed(builder, op, &operands, one)?;
-    let time = word_time(op);
+    let given = computed(builder, op, &operands, one)?;
+    let net = under_mask(builder, stages, ops, op, given, one)?;
+    let time = time_of(op);
     Ok(Stage { net, time })
 }
 
-/// Emits the operations of a body whose groups are issued where `issue` is 1. The nets are, for each access in order, its
-/// enable and then its operands. `one` is always 1.
+/// What emitted operations give: for each access in order its enable and then its operands, and for each operation its stage.
+#[derive(Debug, Drop)]
+pub struct Operations {
+    pub nets: Vec<NetId>,
+    pub stages: Vec<Stage>,
+}
+
+/// Emits the operations of a body whose groups are issued where `issue` is 1. `one` is always 1.
 pub(crate) fn emit_ops(
     alloc: Global,
     builder: &mut Builder,
     issue: NetId,
     ops: &[PipeOp],
     one: NetId,
-) -> Result<Vec<NetId>, NoMemory>
+) -> Result<Operations, NoMemory>
     requires fits { OpsFit builder.old ops.now }
     requires issue { HasNet builder.old issue 1 }
     requires one { IsOne builder.old one }
     ensures fills { OnOk result (Fills builder.old builder.new []) }
-    ensures acts { IfOk result (λ nets. AreActs builder.new issue ops.now ops.now nets.items) }
+    ensures acts { IfOk result (λ r. AreActs builder.new issue ops.now ops.now r.nets.items) }
+    ensures each { IfOk result (λ r. length r.stages.items ≡ length ops.now) }
+    ensures stages { IfOk result (λ r. AreStages builder.new r.stages.items ops.now) }
 {
     let mut stages = Vec::new(alloc);
     let mut nets = Vec::new(alloc);
@@ -94,5 +104,5 @@ pub(crate) fn emit_ops(
         let stage = emit_one(alloc, builder, &stages, ops, op, issue, one, &mut nets)?;
         stages.push(stage)?;
     }
-    Ok(nets)
+    Ok(Operations { nets, stages })
 }

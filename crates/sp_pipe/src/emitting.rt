@@ -28,10 +28,10 @@ pub fn emit(alloc: Global, builder: &mut Builder, part: &Part) -> Result<Ends, N
         part.latency,
         always,
     )?;
-    let nets = emit_ops(alloc, builder, issue.issue, &part.ops, always)?;
+    let operations = emit_ops(alloc, builder, issue.issue, &part.ops, always)?;
     Ok(Ends {
         start: part.start,
         done: issue.done,
-        nets,
+        nets: operations.nets,
     })
 }

@@ -2,9 +2,10 @@
 ghost use Rattle.std.specs.Prelude.{[], IfOk, OnOk};
 ghost use Rattle.sp_gates.specs.Grows.{Fills};
 ghost use Rattle.sp_gates.specs.Nets.{HasNet};
-ghost use Rattle.sp_pipe.specs.Examples.{PutsSeven, IsPut, IsSeven};
+ghost use Rattle.sp_pipe.specs.Examples.{GivesSeven, PutsSeven, IsPut, IsSeven};
 
 use crate::emitting::emit;
+use crate::listed::emit_list;
 use crate::part::{Act, Part, PipeOp};
 use sp_netlist::{Builder, Ends, NetId, NoMemory};
 use sp_words::Ty;
@@ -55,4 +56,16 @@ pub fn worked_body(alloc: Global, builder: &mut Builder, start: NetId) -> Result
     };
     let ends = emit(alloc, builder, &part)?;
     Ok(ends)
+}
+
+/// A list of one operation, whose word is 7 in each cycle.
+pub fn worked_list(alloc: Global, builder: &mut Builder, issue: NetId) -> Result<NetId, NoMemory>
+    requires { HasNet builder.old issue 1 }
+    ensures fills { OnOk result (Fills builder.old builder.new []) }
+    ensures seven { IfOk result (λ net. GivesSeven builder.new net) }
+{
+    let first = seven(alloc);
+    let ops = vec![in alloc; first]?;
+    let list = emit_list(alloc, builder, issue, &ops, 0, 32, 0)?;
+    Ok(list.word)
 }

@@ -8,6 +8,8 @@ mod examples;
 mod issue;
 mod kinds;
 mod laws;
+mod listed;
+mod masks;
 mod operands;
 mod operators;
 mod part;
@@ -16,6 +18,7 @@ mod tests;
 mod words;
 
 pub use emitting::emit;
-pub use examples::worked_body;
+pub use examples::{worked_body, worked_list};
 pub use laws::bodies_run_in_time;
+pub use listed::{Listed, emit_list};
 pub use part::{Act, Groups, Part, PipeOp};

@@ -1,4 +1,4 @@
-use crate::{Part, emit, worked_body};
+use crate::{Part, emit, worked_body, worked_list};
 use sp_gates::one;
 use sp_netlist::Builder;
 use std::test::Fail;
@@ -35,5 +35,16 @@ fn an_access_is_its_enable_and_its_operands(rt: HostRuntime) -> Result<(), Fail>
     assert_eq!(rt; ends.nets.len(), 2);
     assert_eq!(rt; ends.nets[0].number(), 7);
     assert_eq!(rt; ends.nets[1].number(), 6);
+    Ok(())
+}
+
+// The ones that are always 1 are 0 and 1, and the word is 2: it stands at once, so no register comes after it.
+#[test]
+fn a_list_gives_its_word(rt: HostRuntime) -> Result<(), Fail> {
+    let alloc = rt.alloc();
+    let mut builder = Builder::new(alloc);
+    let issue = one(&mut builder)?;
+    let word = worked_list(alloc, &mut builder, issue)?;
+    assert_eq!(rt; word.number(), 2);
     Ok(())
 }

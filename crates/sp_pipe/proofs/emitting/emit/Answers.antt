@@ -24,15 +24,15 @@ emit_ops-requires-clause-one c = IsOne-stays _ _ _ c.in_ok-issue.ensures.fills.g
 pub returns-clause-fills : goal.returns-clause-fills
 returns-clause-fills c =
     subst (λ ns. Fills c.args.builder.now c.emit_ops.new.builder ns) (append-nil (driven_of c.args.part.now.groups))
-    (Fills-join _ _ _ [] _ c.in_ok-always.ensures.fills (Fills-join _ _ _ (driven_of c.args.part.now.groups) [] c.in_ok-issue.ensures.fills c.in_ok-nets.ensures.fills))
+    (Fills-join _ _ _ [] _ c.in_ok-always.ensures.fills (Fills-join _ _ _ (driven_of c.args.part.now.groups) [] c.in_ok-issue.ensures.fills c.in_ok-operations.ensures.fills))
 
 pub returns-clause-emitted : goal.returns-clause-emitted
 returns-clause-emitted c =
-    let e = c.in_ok-nets.ensures.fills.grows in
+    let e = c.in_ok-operations.ensures.fills.grows in
     record {
       issue = c.in_ok-issue.issue.issue;
       issue_net = HasNet-stays _ _ _ _ e c.in_ok-issue.ensures.issue;
       done_net = HasNet-stays _ _ _ _ e c.in_ok-issue.ensures.done;
       issues = λ s r. c.in_ok-issue.ensures.issues s (runs_earlier _ _ s e r);
-      acts = subst (λ os. AreActs c.emit_ops.new.builder c.in_ok-issue.issue.issue os os c.in_ok-nets.nets.items) c.deref.ensures.value c.in_ok-nets.ensures.acts;
+      acts = subst (λ os. AreActs c.emit_ops.new.builder c.in_ok-issue.issue.issue os os c.in_ok-operations.operations.nets.items) c.deref.ensures.value c.in_ok-operations.ensures.acts;
     }

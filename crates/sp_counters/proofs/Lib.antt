@@ -1,0 +1,10 @@
+pub mod Values
+pub mod Odometer
+pub mod Held
+pub mod Through
+pub mod WideLemmas
+pub mod Keeping
+pub mod Waiting
+pub mod Going
+pub mod MaskLemmas
+pub mod CounterLemmas

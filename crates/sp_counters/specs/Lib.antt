@@ -1,0 +1,4 @@
+pub mod Counting
+pub mod Fits
+pub mod Pieces
+pub mod Laws

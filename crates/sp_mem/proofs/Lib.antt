@@ -1,0 +1,5 @@
+pub mod CopyLemmas
+pub mod Holding
+pub mod Kept
+pub mod Reading
+pub mod Waiting

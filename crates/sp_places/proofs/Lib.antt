@@ -1,0 +1,5 @@
+pub mod Unsigned
+pub mod Nets
+pub mod SumLemmas
+pub mod Leading
+pub mod PlaceLemmas

@@ -1,0 +1,3 @@
+pub mod Waiting
+pub mod Cycles
+pub mod SlotLemmas

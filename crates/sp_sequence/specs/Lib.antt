@@ -1,0 +1,4 @@
+pub mod Members
+pub mod Joins
+pub mod Slots
+pub mod Fits
