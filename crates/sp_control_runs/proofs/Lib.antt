@@ -1,0 +1,3 @@
+mod Branching
+mod Steps
+mod Turning

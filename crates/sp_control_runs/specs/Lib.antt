@@ -1,0 +1,4 @@
+pub mod Branches
+pub mod Laws
+pub mod Machines
+pub mod Parts
