@@ -1,0 +1,12 @@
+mod Rules
+mod Words
+mod Types
+mod Operators
+mod Exprs
+mod Loops
+mod Again
+mod AgainExprs
+mod AgainLoops
+mod Simple
+mod Statements
+mod Programs
