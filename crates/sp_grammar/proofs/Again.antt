@@ -1,17 +1,15 @@
 -- What is spelled is read again: single tokens, names, numbers and types.
-use Rattle.std.specs.Option.{option_map_or}
-use Rattle.std.proofs.Common.{◌≡◌, ◌∙◌, ℕ, suc, ◌<◌, ◌≤◌, Bool, true, false, not, ◌&&◌, ◌||◌, nat_le, List, [], ◌∷◌, length, Option, Some, None, Ok, Err, refl, sym, ap, subst, arith, if◌then◌else◌}
+use Rattle.std.proofs.Common.{◌≡◌, ◌∙◌, ℕ, ◌<◌, Bool, true, false, nat_le, List, [], ◌∷◌, length, Some, None, Ok, refl, sym, ap, subst, arith}
 use denote.Enum.Bare.{true_same}
 use Rattle.sp_reader.specs.contracts.token.TokenKind.{the_type}
 use Rattle.sp_reader.specs.declared.token.Token.{Token}
 use Rattle.sp_reader.specs.declared.token.TokenKind.{TokenKind}
 use Rattle.sp_reader.specs.declared.token.TokenKind.TheVariants as k
 use Rattle.sp_reader.specs.declared.syntax.expression.SynTy.{SynTy}
-use Rattle.sp_reader.specs.Names.{ident, name, digits, number, between, whole, count}
-use Rattle.sp_reader.specs.Numbers.{has_point, whole as whole_part, width as width_of}
+use Rattle.sp_reader.specs.Names.{name, number, whole, count}
 use Rattle.sp_reader.specs.PlainTree.{PlainIdent, PlainDigits, PlainLit, number_lit}
-use Rattle.sp_reader.specs.Steps.{Text, Rule, Outcome, and_then, ◌>>=◌, pure, kind_of, tail_of, place_of, same_kind, sees, skip, semicolons, is_name, spelling, spelling_of}
-use Rattle.sp_reader.specs.TypeRules.{width, has_sign, fixed, ty, bracketed, target, number_literal, literal, ends, dims}
+use Rattle.sp_reader.specs.Steps.{Text, kind_of, tail_of, same_kind, sees, skip, semicolons, is_name, spelling}
+use Rattle.sp_reader.specs.TypeRules.{width, has_sign, fixed, ty, bracketed, target, number_literal, literal, dims}
 use Rattle.sp_grammar.specs.Tokens.{Takes, IsBreak, MayBreak, IsName, IsNumber, IsWhole, IsCount, IsWidth}
 use Rattle.sp_grammar.specs.Expressions.{IsSigned, IsType, IsBracketed, IsTarget, IsDims, IsSignedNumber, IsLiteral}
 
@@ -77,6 +75,10 @@ module _ (source : Text) where
   unfolding kind_of
   name_kind ts h = ap (λ xs. is_name (kind_of xs)) h.is ∙ h.named
 
+  pub name_tail : (ts : List Token) {us : List Token} {i : PlainIdent} → IsName source ts us i → tail_of ts ≡ us
+  unfolding tail_of
+  name_tail ts h = ap tail_of h.is
+
   pub name_shorter : (ts : List Token) {us : List Token} {i : PlainIdent} → IsName source ts us i → length us < length ts
   name_shorter ts h = let same = ap (λ (xs : List Token). length xs) h.is in omega (arith, same)
 
@@ -115,8 +117,19 @@ module _ (source : Text) where
   type_again {ts} (IsType.an_int takes) = rw (sees_it ts takes, tail_at ts takes) refl
   type_again {ts} (IsType.a_bit takes) = rw (sees_other k.Bit k.Int ts (kind_at ts takes) refl, sees_it ts takes, tail_at ts takes) refl
   type_again {ts} (IsType.a_fixed {b = b} {d = d} {f = f} takes opened sign right first w second frac close) =
-      rw (sees_other k.FixPt k.Int ts (kind_at ts takes) refl, sees_other k.FixPt k.Bit ts (kind_at ts takes) refl, sees_it ts takes, tail_at ts takes,
-        skip_it opened, sign_again sign right, skip_it first, width_again d w, skip_it second, width_again f frac, skip_it close) refl
+      rw (
+        sees_other k.FixPt k.Int ts (kind_at ts takes) refl,
+        sees_other k.FixPt k.Bit ts (kind_at ts takes) refl,
+        sees_it ts takes,
+        tail_at ts takes,
+        skip_it opened,
+        sign_again sign right,
+        skip_it first,
+        width_again d w,
+        skip_it second,
+        width_again f frac,
+        skip_it close,
+      ) refl
 
   pub bracketed_again : {ts us : List Token} {t : SynTy} → IsBracketed source ts us t → bracketed source ts ≡ Ok (t, us)
   unfolding bracketed
@@ -132,7 +145,7 @@ module _ (source : Text) where
   width_shorter : (ts : List Token) {us : List Token} {n : ℕ} → IsWidth source ts us n → length us < length ts
   width_shorter ts h = shorter ts h.takes
 
-  type_shorter : {ts us : List Token} {t : SynTy} → IsType source ts us t → length us < length ts
+  pub type_shorter : {ts us : List Token} {t : SynTy} → IsType source ts us t → length us < length ts
   type_shorter {ts} (IsType.an_int takes) = shorter ts takes
   type_shorter {ts} (IsType.a_bit takes) = shorter ts takes
   type_shorter {ts} (IsType.a_fixed {a = a} {b = b} {c = c} {d = d} {e = e} {f = f} {g = g} takes opened sign right first w second frac close) =
@@ -150,3 +163,38 @@ module _ (source : Text) where
       let word = kind_at us to in
       let tail = tail_at ts dot in
       (sees_other k.Dot k.OpenRound ts (kind_at ts dot) refl, subst (λ xs. sees k.Value xs ≡ false) (sym tail) (sees_other k.To k.Value us word refl), subst (λ xs. sees k.Deq xs ≡ false) (sym tail) (sees_other k.To k.Deq us word refl))
+
+  -- ---- dimensions and literals
+
+  pub dims_again : {ts us : List Token} {ds : List ℕ} → IsDims source ts us ds → dims source ts ≡ Ok (ds, us)
+  unfolding dims same_kind
+  dims_again (IsDims.line {a = a} {b = b} opened x close) = rw (skip_it opened, count_again a x, sees_other k.CloseRound k.Comma b (kind_at b close) refl, skip_it close) refl
+  dims_again (IsDims.plane {a = a} {b = b} {c = c} {d = d} opened x comma y close) =
+      rw (skip_it opened, count_again a x, sees_it b comma, tail_at b comma, count_again c y, sees_other k.CloseRound k.Comma d (kind_at d close) refl, skip_it close) refl
+  dims_again (IsDims.block {a = a} {b = b} {c = c} {d = d} {e = e} opened x first y second z close) =
+      rw (skip_it opened, count_again a x, sees_it b first, tail_at b first, count_again c y, sees_it d second, tail_at d second, count_again e z, skip_it close) refl
+
+  signed_again : {at : ℕ} {negative : Bool} (ts : List Token) {us : List Token} {d : PlainDigits} → IsNumber source at negative ts us d → sees k.Dot us ≡ false → number_literal source at negative ts ≡ Ok (number_lit d None, us)
+  unfolding number_literal
+  signed_again ts p off = rw (number_again ts p, off) refl
+
+  typed_again : {at : ℕ} {negative : Bool} (ts : List Token) {us vs : List Token} {d : PlainDigits} {t : SynTy} → IsNumber source at negative ts us d → IsTarget source us vs t → number_literal source at negative ts ≡ Ok (number_lit d (Some t), vs)
+  unfolding number_literal
+  typed_again ts {us = us} p is = let target = target_again is in rw (number_again ts p, sees_it us target.1, tail_at us target.1, target.2) refl
+
+  pub literal_again : {ts us : List Token} {l : PlainLit} → IsLiteral source ts us l → sees k.Dot us ≡ false → literal source ts ≡ Ok (l, us)
+  unfolding literal same_kind
+  literal_again {ts} (IsLiteral.yes p) off = rw (sees_it ts p, tail_at ts p) refl
+  literal_again {ts} (IsLiteral.no p) off = rw (sees_other k.False k.True ts (kind_at ts p) refl, sees_it ts p, tail_at ts p) refl
+  literal_again {ts} {us} (IsLiteral.untyped (IsSignedNumber.plain p)) off =
+      let at = kind_at ts p.takes in
+      rw (sees_other k.Number k.True ts at refl, sees_other k.Number k.False ts at refl, sees_other k.Number k.Minus ts at refl) (signed_again ts p off)
+  literal_again {ts} {us} (IsLiteral.untyped (IsSignedNumber.negative {us = vs} word p)) off =
+      let at = kind_at ts word in
+      rw (sees_other k.Minus k.True ts at refl, sees_other k.Minus k.False ts at refl, sees_it ts word, tail_at ts word) (signed_again vs p off)
+  literal_again {ts} (IsLiteral.typed (IsSignedNumber.plain p) is) off =
+      let at = kind_at ts p.takes in
+      rw (sees_other k.Number k.True ts at refl, sees_other k.Number k.False ts at refl, sees_other k.Number k.Minus ts at refl) (typed_again ts p is)
+  literal_again {ts} (IsLiteral.typed (IsSignedNumber.negative {us = vs} word p) is) off =
+      let at = kind_at ts word in
+      rw (sees_other k.Minus k.True ts at refl, sees_other k.Minus k.False ts at refl, sees_it ts word, tail_at ts word) (typed_again vs p is)

@@ -1,6 +1,6 @@
 -- What is spelled is read again: expressions, where nothing follows that would belong to them.
 use Rattle.std.specs.Option.{option_map_or}
-use Rattle.std.proofs.Common.{◌≡◌, ◌∙◌, ℕ, zero, suc, ◌+◌, ◌-◌, ◌<◌, ◌≤◌, Bool, true, false, ◌&&◌, nat_le, List, [], ◌∷◌, ◌++◌, length, option_and_then, Option, Some, None, Ok, Err, refl, sym, ap, subst, arith, if◌then◌else◌}
+use Rattle.std.proofs.Common.{◌≡◌, ◌∙◌, ℕ, zero, suc, ◌+◌, ◌-◌, ◌<◌, ◌≤◌, Bool, true, false, ◌&&◌, nat_le, List, [], ◌∷◌, ◌++◌, length, Option, Some, None, Ok, refl, sym, ap, subst, arith, if◌then◌else◌}
 use Rattle.std.proofs.lemmas.List.{append_assoc}
 use Rattle.sp_words.specs.declared.kind.BinOp.{BinOp}
 use Rattle.sp_reader.specs.declared.token.Token.{Token}
@@ -10,17 +10,15 @@ use Rattle.sp_reader.specs.declared.grammar.expression.Infix.{Infix}
 use Rattle.sp_reader.specs.declared.grammar.expression.Infix.TheVariants.{Operation, Shift}
 use Rattle.sp_reader.specs.declared.grammar.expression.Sign.{Sign}
 use Rattle.sp_reader.specs.declared.syntax.expression.SynUn.{SynUn}
-use Rattle.sp_reader.specs.declared.syntax.expression.SynUn.TheVariants.{Minus}
-use Rattle.sp_reader.specs.ExpressionRules.{infix_of, level_of, level_of_op, prefix, is_minus, make_two, make_shift, make_name, binds_tighter, sign_at, signs_from, signs, apply, operation, chain_from, casts_from, casts, exprs_from, exprs, pair, choice, no_operand, member, indexed, named, enclosed, primary_by, primary, unsigned, prefixed, chain, expr}
-use Rattle.sp_reader.specs.Names.{name, number, whole}
-use Rattle.sp_reader.specs.PlainTree.{PlainIdent, PlainDigits, PlainExpr, expr as node, number as a_number, name as a_name, truth, deq, access, mux, min, max, cast, one, row, place_of_expr}
+use Rattle.sp_reader.specs.ExpressionRules.{infix_of, level_of, level_of_op, prefix, is_minus, make_name, binds_tighter, sign_at, signs_from, signs, apply, operation, chain_from, casts_from, exprs_from, exprs, pair, choice, no_operand, member, indexed, named, enclosed, primary_by, primary, unsigned, prefixed, chain, expr}
+use Rattle.sp_reader.specs.PlainTree.{PlainIdent, PlainExpr, expr as node, name as a_name, truth, deq, access, mux, cast, one, row}
 use Rattle.sp_reader.specs.SpanRules.{whole_expr}
-use Rattle.sp_reader.specs.Steps.{Text, Rule, Outcome, and_then, ◌>>=◌, pure, refuse, kind_of, tail_of, place_of, same_kind, sees, skip, is_name}
+use Rattle.sp_reader.specs.Steps.{Text, Rule, Outcome, and_then, kind_of, tail_of, place_of, same_kind, sees, is_name}
 use Rattle.sp_reader.specs.TypeRules.{target}
-use Rattle.sp_grammar.specs.Tokens.{Takes, IsName, IsNumber, IsWhole, IsOperator, IsSign, IsShift, times, divided, remainder, plus, less, less_than, at_most, above, at_least, equal, unequal, both, both_twice, either_one, either, either_twice, minus, bang, tilde, to_left, to_right}
+use Rattle.sp_grammar.specs.Tokens.{Takes, IsName, IsOperator, IsSign, IsShift, times, divided, remainder, plus, less, less_than, at_most, above, at_least, equal, unequal, both, both_twice, either_one, either, either_twice, minus, bang, tilde, to_left, to_right}
 use Rattle.sp_grammar.specs.Expressions.{IsExpr, IsPrefixed, IsPostfix, IsPrimary, AreExprs, IsTarget}
-use Rattle.sp_grammar.proofs.Again.{kind_at, tail_at, shorter, kind_same, sees_it, sees_other, skip_it, name_kind, name_shorter, name_again, number_again, whole_again, target_again, target_shorter, target_word}
-use Rattle.sp_grammar.proofs.Operators.{Stops, stops_at, stops_at_none, positive}
+use Rattle.sp_grammar.proofs.Again.{kind_at, tail_at, shorter, sees_it, sees_other, skip_it, name_kind, name_shorter, name_again, number_again, whole_again, target_again, target_shorter, target_word}
+use Rattle.sp_grammar.proofs.Operators.{Stops, stops_at, stops_at_none}
 use Rattle.sp_grammar.proofs.Rules.{kind_is}
 
 -- ---- operators
@@ -179,10 +177,9 @@ module _ (source : Text) where
         let h = shorter ts p in let i = shorter a opened in let j = expr_shorter x in let l = shorter c comma in let m = expr_shorter y in let n = shorter e close in omega (arith, h, i, j, l, m, n)
     primary_shorter {ts} (IsPrimary.in_parentheses {vs = vs} p x close) = let a = shorter ts p in let b = expr_shorter x in let c = shorter vs close in omega (arith, a, b, c)
 
-    exprs_shorter : {ts us : List Token} {all : List PlainExpr} → AreExprs source ts us all → length us < length ts
+    pub exprs_shorter : {ts us : List Token} {all : List PlainExpr} → AreExprs source ts us all → length us < length ts
     exprs_shorter (AreExprs.last p) = expr_shorter p
     exprs_shorter (AreExprs.next {us = us} p comma rest) = let a = expr_shorter p in let b = shorter us comma in let c = exprs_shorter rest in omega (arith, a, b, c)
-
 
   -- ---- casts and signs
 
@@ -318,8 +315,17 @@ module _ (source : Text) where
         → named source inner ts ≡ Ok (node i.place (deq i), e)
     unfolding named member no_operand same_kind
     name_deq {ts = ts} {a = a} {b = b} is dot by opened close =
-        rw (name_again source ts is, sees_other k.Dot k.OpenRound a (kind_at a dot) refl, sees_it a dot, tail_at a dot, sees_other k.Deq k.Value b (kind_at b by) refl, sees_it b by, tail_at b by,
-          skip_it opened, skip_it close) refl
+        rw (
+          name_again source ts is,
+          sees_other k.Dot k.OpenRound a (kind_at a dot) refl,
+          sees_it a dot,
+          tail_at a dot,
+          sees_other k.Deq k.Value b (kind_at b by) refl,
+          sees_it b by,
+          tail_at b by,
+          skip_it opened,
+          skip_it close,
+        ) refl
 
     name_access : {ts a b c d : List Token} {i : PlainIdent} {all : List PlainExpr} → IsName source ts a i → Takes k.OpenRound a b → exprs inner b ≡ Ok (all, c) → Takes k.CloseRound c d
         → named source inner ts ≡ Ok (node i.place (access i (row all)), d)
@@ -387,7 +393,12 @@ module _ (source : Text) where
     prefixed_again {ts} {us} {e} (IsPrefixed.bare p) depth few closed =
         let casts = postfix_again p depth few (closed_follows us closed) in
         record {
-          count = 0; signs = []; left = ts; operand = e; is = refl; few = omega arith;
+          count = 0;
+          signs = [];
+          left = ts;
+          operand = e;
+          is = refl;
+          few = omega arith;
           taken = λ more found. let none : 0 + more ≡ more = omega arith in ap (λ n. signs_from n found ts) none ∙ ap (λ ss. signs_from more ss ts) (sym (append_nil found));
           none = unsigned_first p;
           read = casts.read ∙ casts_end casts.count (place_of ts) e us closed.0;
@@ -398,7 +409,12 @@ module _ (source : Text) where
         let s : Sign = record { at = place_of ts; op = op } in
         let short = h.few in
         record {
-          count = suc h.count; signs = s ∷ h.signs; left = h.left; operand = h.operand; is = ap (λ y. node (place_of ts) (one op y)) h.is; few = omega (arith, less, short);
+          count = suc h.count;
+          signs = s ∷ h.signs;
+          left = h.left;
+          operand = h.operand;
+          is = ap (λ y. node (place_of ts) (one op y)) h.is;
+          few = omega (arith, less, short);
           taken = λ more found.
               let on : suc h.count + more ≡ suc (h.count + more) = omega arith in
               let first : signs_from (suc (h.count + more)) found ts ≡ signs_from (h.count + more) (found ++ s ∷ []) vs = rw (sign_again is takes alone, tail_at ts takes) refl in
@@ -441,14 +457,20 @@ module _ (source : Text) where
         (expr_of depth 7 (expr_shorter z) (omega (arith, h, i, j, l, m, n, few)) (λ dd enough. chain_again z dd 7 (omega arith) enough (weaker_stop 7 8 _ (omega arith) (after_close close).0) (after_close close).1) (after_close close).0) close))
     primary_again {ts} (IsPrimary.a_least {a = a} {b = b} {c = c} {d = d} {e = e} p opened x comma y close) depth few follows =
         let h = shorter ts p in let i = shorter a opened in let j = expr_shorter x in let l = shorter c comma in
-        by_kind (expr source depth) k.Min ts (kind_at ts p) (rw (tail_at ts p, pair_again (expr source depth) opened
-        (expr_of depth 7 (expr_shorter x) (omega (arith, h, i, few)) (λ dd enough. chain_again x dd 7 (omega arith) enough (weaker_stop 7 8 c (omega arith) (after_comma comma).0) (after_comma comma).1) (after_comma comma).0) comma
-        (expr_of depth 7 (expr_shorter y) (omega (arith, h, i, j, l, few)) (λ dd enough. chain_again y dd 7 (omega arith) enough (weaker_stop 7 8 e (omega arith) (after_close close).0) (after_close close).1) (after_close close).0) close) refl)
+        by_kind (expr source depth) k.Min ts (kind_at ts p) (rw (
+          tail_at ts p,
+          pair_again (expr source depth) opened
+              (expr_of depth 7 (expr_shorter x) (omega (arith, h, i, few)) (λ dd enough. chain_again x dd 7 (omega arith) enough (weaker_stop 7 8 c (omega arith) (after_comma comma).0) (after_comma comma).1) (after_comma comma).0) comma
+              (expr_of depth 7 (expr_shorter y) (omega (arith, h, i, j, l, few)) (λ dd enough. chain_again y dd 7 (omega arith) enough (weaker_stop 7 8 e (omega arith) (after_close close).0) (after_close close).1) (after_close close).0) close,
+        ) refl)
     primary_again {ts} (IsPrimary.a_greatest {a = a} {b = b} {c = c} {d = d} {e = e} p opened x comma y close) depth few follows =
         let h = shorter ts p in let i = shorter a opened in let j = expr_shorter x in let l = shorter c comma in
-        by_kind (expr source depth) k.Max ts (kind_at ts p) (rw (tail_at ts p, pair_again (expr source depth) opened
-        (expr_of depth 7 (expr_shorter x) (omega (arith, h, i, few)) (λ dd enough. chain_again x dd 7 (omega arith) enough (weaker_stop 7 8 c (omega arith) (after_comma comma).0) (after_comma comma).1) (after_comma comma).0) comma
-        (expr_of depth 7 (expr_shorter y) (omega (arith, h, i, j, l, few)) (λ dd enough. chain_again y dd 7 (omega arith) enough (weaker_stop 7 8 e (omega arith) (after_close close).0) (after_close close).1) (after_close close).0) close) refl)
+        by_kind (expr source depth) k.Max ts (kind_at ts p) (rw (
+          tail_at ts p,
+          pair_again (expr source depth) opened
+              (expr_of depth 7 (expr_shorter x) (omega (arith, h, i, few)) (λ dd enough. chain_again x dd 7 (omega arith) enough (weaker_stop 7 8 c (omega arith) (after_comma comma).0) (after_comma comma).1) (after_comma comma).0) comma
+              (expr_of depth 7 (expr_shorter y) (omega (arith, h, i, j, l, few)) (λ dd enough. chain_again y dd 7 (omega arith) enough (weaker_stop 7 8 e (omega arith) (after_close close).0) (after_close close).1) (after_close close).0) close,
+        ) refl)
     primary_again {ts} (IsPrimary.in_parentheses {us = us} {vs = vs} p x close) depth few follows =
         let h = shorter ts p in
         by_kind (expr source depth) k.OpenRound ts (kind_at ts p) (rw (tail_at ts p) (enclosed_again (expr source depth)

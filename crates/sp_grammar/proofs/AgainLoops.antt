@@ -1,5 +1,5 @@
 -- What is spelled is read again: spans, counters, lists and combiners.
-use Rattle.std.proofs.Common.{◌≡◌, ◌∙◌, ℕ, zero, suc, ◌<◌, ◌≤◌, Bool, true, false, List, [], ◌∷◌, ◌++◌, length, Option, Some, None, Ok, Err, refl, sym, ap, subst, arith, if◌then◌else◌}
+use Rattle.std.proofs.Common.{◌≡◌, ◌∙◌, ℕ, zero, suc, ◌<◌, ◌≤◌, Bool, true, false, List, [], ◌∷◌, ◌++◌, length, Option, Some, None, Ok, refl, sym, ap, arith}
 use Rattle.std.proofs.lemmas.List.{append_assoc}
 use Rattle.sp_words.specs.declared.kind.BinOp.{BinOp}
 use Rattle.sp_reader.specs.declared.syntax.statement.SynPar.{SynPar}
@@ -8,16 +8,16 @@ use Rattle.sp_reader.specs.declared.token.TokenKind.{TokenKind}
 use Rattle.sp_reader.specs.declared.token.TokenKind.TheVariants as k
 use Rattle.sp_reader.specs.ExpressionRules.{infix_of}
 use Rattle.sp_reader.specs.PlainTree.{PlainIdent, PlainExpr}
-use Rattle.sp_reader.specs.PlainStatement.{PlainSpan, single, range, PlainCounter, PlainComb}
+use Rattle.sp_reader.specs.PlainStatement.{PlainSpan, single, PlainCounter, PlainComb}
 use Rattle.sp_reader.specs.SimpleRules.{are_indices}
-use Rattle.sp_reader.specs.SpanRules.{whole_expr, whole_exprs_from, whole_exprs, names_from, names as name_list, enclosed_names, binds, enclosed_name, name_pair, lanes, par, step, range_from, span, spans_from, spans, bounds, counter, close_counters, counters_from, counters, combining, operator, unnamed, called, infixed, combined, named_combiner, combiner_inside, combiner}
-use Rattle.sp_reader.specs.Steps.{Text, Rule, Outcome, ◌>>=◌, pure, kind_of, tail_of, place_of, same_kind, sees, skip, is_name}
-use Rattle.sp_grammar.specs.Tokens.{Takes, IsName, IsCount, Combines, sum, product, all, all_twice, some, some_twice, parity}
-use Rattle.sp_grammar.specs.Expressions.{IsExpr, AreExprs}
+use Rattle.sp_reader.specs.SpanRules.{whole_expr, whole_exprs_from, whole_exprs, names_from, enclosed_names, binds, enclosed_name, name_pair, par, step, range_from, span, spans_from, spans, bounds, counter, counters_from, counters, combining, operator, unnamed, called, infixed, combined, named_combiner, combiner}
+use Rattle.sp_reader.specs.Steps.{Text, kind_of, same_kind, sees, is_name}
+use Rattle.sp_grammar.specs.Tokens.{Takes, IsName, Combines, sum, product, all, all_twice, some, some_twice, parity}
+use Rattle.sp_grammar.specs.Expressions.{AreExprs}
 use Rattle.sp_grammar.specs.Loops.{IsWholeExpr, IsPar, IsStep, IsSpan, AreSpans, AreBounds, IsCounter, AreCounters, IsCounterList, AreNames, AreBinds, ArePair, IsCombined, IsCombiner}
 use Rattle.sp_grammar.proofs.Again.{kind_at, tail_at, shorter, sees_it, sees_other, skip_it, name_kind, name_shorter, name_again, count_again}
-use Rattle.sp_grammar.proofs.AgainExprs.{IsClosed, opens, closed_by, expr_shorter, whole_expr_again}
-use Rattle.sp_grammar.proofs.Operators.{Stops, stops_at_none}
+use Rattle.sp_grammar.proofs.AgainExprs.{opens, closed_by, expr_shorter, whole_expr_again}
+use Rattle.sp_grammar.proofs.Operators.{stops_at_none}
 use Rattle.sp_grammar.proofs.Rules.{kind_is}
 
 -- ---- what stands behind an expression
@@ -105,11 +105,11 @@ module _ (source : Text) where
   span_again {us = us} (IsSpan.a_range {us = vs} {ws = ws} p colons q width) h =
       rw (expr_before k.Colons refl p colons, sees_it vs colons, tail_at vs colons, expr_again q (par_ends width h).0, par_again width (closes k.Par us h refl)) refl
 
-  par_shorter : {ts us : List Token} {p : Option SynPar} → IsPar source ts us p → length us ≤ length ts
+  pub par_shorter : {ts us : List Token} {p : Option SynPar} → IsPar source ts us p → length us ≤ length ts
   par_shorter IsPar.none = omega arith
   par_shorter {ts} (IsPar.lanes {us = us} word n) = let a = shorter ts word in let b = shorter us n.takes in omega (arith, a, b)
 
-  span_shorter : {ts us : List Token} {s : PlainSpan} → IsSpan source ts us s → length us < length ts
+  pub span_shorter : {ts us : List Token} {s : PlainSpan} → IsSpan source ts us s → length us < length ts
   span_shorter (IsSpan.an_index p) = expr_shorter source p
   span_shorter (IsSpan.a_range {us = vs} p colons q width) = let a = expr_shorter source p in let b = shorter vs colons in let c = expr_shorter source q in let d = par_shorter width in omega (arith, a, b, c, d)
 

@@ -1,5 +1,5 @@
 -- Expressions.
-use Rattle.std.proofs.Common.{◌≡◌, ◌∙◌, ℕ, zero, suc, ◌-◌, ◌≤◌, Bool, true, false, ◌&&◌, nat_le, List, [], ◌∷◌, ◌++◌, length, option_and_then, Option, Some, None, Ok, Err, refl, sym, ap, subst, arith, if◌then◌else◌}
+use Rattle.std.proofs.Common.{◌≡◌, ◌∙◌, ℕ, zero, suc, ◌-◌, ◌≤◌, Bool, true, false, ◌&&◌, nat_le, List, [], ◌∷◌, ◌++◌, length, option_and_then, Option, Some, None, Ok, Err, refl, sym, subst, arith, if◌then◌else◌}
 use Rattle.std.specs.Option.{option_map_or}
 use Rattle.std.proofs.lemmas.List.{append_assoc}
 use Rattle.sp_reader.specs.declared.token.Token.{Token}
@@ -11,15 +11,14 @@ use Rattle.sp_reader.specs.declared.grammar.expression.Sign.{Sign}
 use Rattle.sp_reader.specs.declared.syntax.expression.SynUn.{SynUn}
 use Rattle.sp_reader.specs.declared.syntax.expression.SynUn.TheVariants.{Minus, Bang, Tilde}
 use Rattle.sp_reader.specs.ExpressionRules.{infix_of, level_of, prefix, is_minus, make_two, make_shift, make_name, binds_tighter, sign_at, signs_from, signs, apply, operation, chain_from, casts_from, casts, exprs_from, exprs, pair, choice, no_operand, member, indexed, named, enclosed, primary_by, primary, unsigned, prefixed, chain, expr}
-use Rattle.sp_reader.specs.Names.{number}
-use Rattle.sp_reader.specs.PlainTree.{PlainIdent, PlainExpr, expr as node, number as a_number, truth, deq, access, mux, min, max, cast, one, row, place_of_expr}
-use Rattle.sp_reader.specs.Steps.{Text, Rule, Outcome, and_then, ◌>>=◌, pure, refuse, kind_of, tail_of, place_of, same_kind, sees}
+use Rattle.sp_reader.specs.PlainTree.{PlainIdent, PlainExpr, expr as node, number as a_number, truth, deq, access, min, max, cast, one, row}
+use Rattle.sp_reader.specs.Steps.{Text, Rule, Outcome, and_then, ◌>>=◌, pure, kind_of, tail_of, place_of, same_kind, sees}
 use Rattle.sp_reader.specs.SpanRules.{whole_expr}
 use Rattle.sp_reader.specs.TypeRules.{target}
-use Rattle.sp_grammar.specs.Tokens.{Takes, IsName, IsNumber, IsWhole, IsSign}
+use Rattle.sp_grammar.specs.Tokens.{Takes, IsName, IsWhole, IsSign}
 use Rattle.sp_grammar.specs.Expressions.{IsExpr, IsPrefixed, IsPostfix, IsPrimary, AreExprs}
 use Rattle.sp_grammar.proofs.Operators.{IsInfix, infix_is, infix_real, prefix_is, prefix_real, Stops, stops_at_none, stops_at, after_shift, positive, lifted_to, joined}
-use Rattle.sp_grammar.proofs.Rules.{Reads, is_real, kind_is, takes_next, takes_seen, one_outcome, given, refused, bound, chosen, seen, skips, weaker}
+use Rattle.sp_grammar.proofs.Rules.{Reads, takes_next, given, refused, bound, chosen, seen, skips, weaker}
 use Rattle.sp_grammar.proofs.Types.{targets}
 use Rattle.sp_grammar.proofs.Words.{names, numbers, wholes}
 
@@ -122,16 +121,20 @@ module _ (source : Text) where
 
   members : {all ts : List Token} (i : PlainIdent) → IsName source all ts i → Takes k.Dot ts (tail_of ts) → Reads (member i) ts (λ e us. IsPrimary source all us e)
   unfolding member
-  members {all} {ts} i p dot = record { run = seen (tail_of ts) k.Value refl
-      (λ value. (given {P = λ e us. IsPrimary source all us e} (make_name i true) (IsPrimary.a_value p dot value)).run)
-      (λ _. seen (tail_of ts) k.Deq refl
-      (λ by. (no_operands i p dot by).run)
-      (λ _. (given {P = λ e us. IsPrimary source all us e} {ts = ts} (make_name i false) (IsPrimary.a_name p)).run)) }
+  members {all} {ts} i p dot = record {
+    run = seen (tail_of ts) k.Value refl
+        (λ value. (given {P = λ e us. IsPrimary source all us e} (make_name i true) (IsPrimary.a_value p dot value)).run)
+        (λ _. seen (tail_of ts) k.Deq refl
+        (λ by. (no_operands i p dot by).run)
+        (λ _. (given {P = λ e us. IsPrimary source all us e} {ts = ts} (make_name i false) (IsPrimary.a_name p)).run));
+  }
 
   dotted : {all ts : List Token} (i : PlainIdent) → IsName source all ts i → Reads (λ ts. if sees k.Dot ts then member i ts else Ok (make_name i false, ts)) ts (λ e us. IsPrimary source all us e)
-  dotted {all} {ts} i p = record { run = seen ts k.Dot refl
-      (λ dot. (members i p dot).run)
-      (λ _. (given {P = λ e us. IsPrimary source all us e} {ts = ts} (make_name i false) (IsPrimary.a_name p)).run) }
+  dotted {all} {ts} i p = record {
+    run = seen ts k.Dot refl
+        (λ dot. (members i p dot).run)
+        (λ _. (given {P = λ e us. IsPrimary source all us e} {ts = ts} (make_name i false) (IsPrimary.a_name p)).run);
+  }
 
   -- ---- by what stands inside
 
@@ -242,9 +245,11 @@ module _ (source : Text) where
 
     unsigneds : {ts : List Token} → Reads (unsigned source inner) ts (λ e us. IsPostfix source ts us e)
     unfolding unsigned
-    unsigneds {ts} = record { run = seen ts k.Minus refl
-        (λ minus. (bound {Q = λ e us. IsPostfix source ts us e} (numbers source (place_of ts) true) (λ n _ p. casts_go {all = ts} (node (place_of ts) (a_number n)) (IsPostfix.negative minus p))).run)
-        (λ _. (bound {Q = λ e us. IsPostfix source ts us e} (primaries {ts = ts}) (λ e _ p. casts_go {all = ts} e (IsPostfix.primary p))).run) }
+    unsigneds {ts} = record {
+      run = seen ts k.Minus refl
+          (λ minus. (bound {Q = λ e us. IsPostfix source ts us e} (numbers source (place_of ts) true) (λ n _ p. casts_go {all = ts} (node (place_of ts) (a_number n)) (IsPostfix.negative minus p))).run)
+          (λ _. (bound {Q = λ e us. IsPostfix source ts us e} (primaries {ts = ts}) (λ e _ p. casts_go {all = ts} e (IsPostfix.primary p))).run);
+    }
 
     prefixeds : {ts : List Token} → Reads (prefixed source inner) ts (λ e us. IsPrefixed source ts us e)
     unfolding prefixed

@@ -10,3 +10,9 @@ mod AgainLoops
 mod Simple
 mod Statements
 mod Programs
+mod Starts
+mod AgainSimple
+mod Lengths
+mod AgainStatements
+mod AgainPrograms
+mod Texts

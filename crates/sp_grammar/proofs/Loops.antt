@@ -1,6 +1,6 @@
 -- Spans, counters, lists of names, and combiners.
 use Rattle.std.specs.Option.{option_map_or}
-use Rattle.std.proofs.Common.{◌≡◌, ◌∙◌, ℕ, zero, suc, Bool, true, List, [], ◌∷◌, ◌++◌, length, Option, Some, None, Ok, Err, refl, sym, ap, subst, if◌then◌else◌}
+use Rattle.std.proofs.Common.{◌≡◌, ◌∙◌, ℕ, zero, suc, true, List, [], ◌∷◌, ◌++◌, length, Option, Some, None, Ok, Err, refl, sym, subst, if◌then◌else◌}
 use Rattle.std.proofs.lemmas.List.{append_assoc}
 use Rattle.sp_words.specs.declared.kind.BinOp.{BinOp}
 use Rattle.sp_words.specs.declared.kind.BinOp.TheVariants as op
@@ -10,9 +10,9 @@ use Rattle.sp_reader.specs.declared.token.TokenKind.TheVariants as k
 use Rattle.sp_reader.specs.Names.{name, count}
 use Rattle.sp_reader.specs.PlainTree.{PlainIdent, PlainExpr}
 use Rattle.sp_reader.specs.PlainStatement.{PlainSpan, single, range, PlainCounter}
-use Rattle.sp_reader.specs.SpanRules.{whole_expr, whole_exprs_from, whole_exprs, names_from, names as name_list, enclosed_names, binds, enclosed_name, name_pair, lanes, par, step, range_from, span, spans_from, spans, bounds, counter, close_counters, counters_from, counters, combining, operator, unnamed, called, infixed, combined, named_combiner, combiner_inside, combiner}
-use Rattle.sp_reader.specs.Steps.{Text, Rule, Outcome, ◌>>=◌, pure, refuse, kind_of, tail_of, place_of, sees, skip}
-use Rattle.sp_grammar.specs.Tokens.{Takes, IsName, IsCount, Combines}
+use Rattle.sp_reader.specs.SpanRules.{whole_exprs_from, whole_exprs, names_from, names as name_list, enclosed_names, binds, enclosed_name, name_pair, lanes, par, step, range_from, span, spans_from, spans, bounds, counter, close_counters, counters_from, counters, combining, operator, unnamed, called, infixed, combined, named_combiner, combiner_inside, combiner}
+use Rattle.sp_reader.specs.Steps.{Text, Outcome, ◌>>=◌, pure, kind_of, tail_of, place_of, sees}
+use Rattle.sp_grammar.specs.Tokens.{Takes, IsName, Combines}
 use Rattle.sp_grammar.specs.Expressions.{AreExprs}
 use Rattle.sp_grammar.specs.Loops.{IsWholeExpr, IsPar, IsStep, IsSpan, AreSpans, AreBounds, IsCounter, AreCounters, IsCounterList, AreNames, AreBinds, ArePair, IsCombined, IsCombiner}
 use Rattle.sp_grammar.proofs.Exprs.{whole_go}
@@ -38,9 +38,11 @@ module _ (source : Text) where
 
   pars : {ts : List Token} → Reads (par source) ts (λ p us. IsPar source ts us p)
   unfolding par
-  pars {ts} = record { run = seen ts k.Par refl
-      (λ word. (bound {Q = λ p us. IsPar source ts us p} (counts source) (λ n _ p. given (lanes (place_of ts) n) (IsPar.lanes word p))).run)
-      (λ _. (given {P = λ p us. IsPar source ts us p} {ts = ts} None IsPar.none).run) }
+  pars {ts} = record {
+    run = seen ts k.Par refl
+        (λ word. (bound {Q = λ p us. IsPar source ts us p} (counts source) (λ n _ p. given (lanes (place_of ts) n) (IsPar.lanes word p))).run)
+        (λ _. (given {P = λ p us. IsPar source ts us p} {ts = ts} None IsPar.none).run);
+  }
 
   steps : {ts : List Token} → Reads (step source) ts (λ n us. IsStep source ts us n)
   unfolding step
@@ -88,9 +90,11 @@ module _ (source : Text) where
 
   bounds_go : {ts : List Token} → Reads (bounds source) ts (λ b us. AreBounds source ts us b.0 b.1)
   unfolding bounds
-  bounds_go {ts} = bound (whole_go source) (λ first us p. record { run = seen us k.Until refl
-      (λ word. (bound {Q = λ b us. AreBounds source ts us b.0 b.1} (whole_go source) (λ until _ q. given (Some first, until) (AreBounds.both p word q))).run)
-      (λ _. (given {P = λ b us. AreBounds source ts us b.0 b.1} {ts = us} (None, first) (AreBounds.upper p)).run) })
+  bounds_go {ts} = bound (whole_go source) (λ first us p. record {
+    run = seen us k.Until refl
+        (λ word. (bound {Q = λ b us. AreBounds source ts us b.0 b.1} (whole_go source) (λ until _ q. given (Some first, until) (AreBounds.both p word q))).run)
+        (λ _. (given {P = λ b us. AreBounds source ts us b.0 b.1} {ts = us} (None, first) (AreBounds.upper p)).run);
+  })
 
   counters_go : {ts : List Token} → Reads (counter source) ts (λ c us. IsCounter source ts us c)
   unfolding counter

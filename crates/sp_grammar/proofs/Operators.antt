@@ -1,5 +1,5 @@
 -- Operators, and which of them may follow an expression.
-use Rattle.std.proofs.Common.{◌≡◌, ◌∙◌, ℕ, zero, suc, ◌+◌, ◌-◌, ◌≤◌, Bool, true, false, List, [], ◌∷◌, Option, Some, None, refl, sym, subst, arith}
+use Rattle.std.proofs.Common.{◌≡◌, ◌∙◌, ℕ, zero, suc, ◌+◌, ◌-◌, ◌≤◌, true, false, List, Some, None, refl, sym, subst, arith}
 use Rattle.sp_words.specs.declared.kind.BinOp.{BinOp}
 use Rattle.sp_words.specs.declared.kind.BinOp.TheVariants as op
 use Rattle.sp_reader.specs.declared.token.Token.{Token}
@@ -9,10 +9,10 @@ use Rattle.sp_reader.specs.declared.grammar.expression.Infix.{Infix}
 use Rattle.sp_reader.specs.declared.grammar.expression.Infix.TheVariants.{Operation, Shift}
 use Rattle.sp_reader.specs.declared.syntax.expression.SynUn.{SynUn}
 use Rattle.sp_reader.specs.declared.syntax.expression.SynUn.TheVariants.{Minus, Bang, Tilde}
-use Rattle.sp_reader.specs.ExpressionRules.{infix_of, level_of, level_of_op, prefix, binds_tighter, make_two, make_shift}
+use Rattle.sp_reader.specs.ExpressionRules.{infix_of, level_of, level_of_op, prefix, binds_tighter, make_two}
 use Rattle.sp_reader.specs.PlainTree.{PlainExpr}
 use Rattle.sp_reader.specs.Steps.{Text, kind_of}
-use Rattle.sp_grammar.specs.Tokens.{Takes, IsOperator, IsSign, IsShift, IsWhole, times, divided, remainder, plus, less, less_than, at_most, above, at_least, equal, unequal, both, both_twice, either_one, either, either_twice, minus, bang, tilde, to_left, to_right}
+use Rattle.sp_grammar.specs.Tokens.{Takes, IsOperator, IsSign, IsShift, times, divided, remainder, plus, less, less_than, at_most, above, at_least, equal, unequal, both, both_twice, either_one, either, either_twice, minus, bang, tilde, to_left, to_right}
 use Rattle.sp_grammar.specs.Expressions.{IsExpr}
 use Rattle.sp_grammar.proofs.Rules.{is_real}
 

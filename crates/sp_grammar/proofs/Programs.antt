@@ -1,17 +1,15 @@
 -- Declarations and whole programs.
-use Rattle.std.proofs.Common.{◌≡◌, ◌∙◌, ℕ, zero, suc, Bool, true, false, List, [], ◌∷◌, ◌++◌, length, Result, Ok, Err, refl, sym, ap, subst, if◌then◌else◌}
+use Rattle.std.proofs.Common.{◌≡◌, ◌∙◌, ℕ, zero, suc, Bool, true, false, List, [], ◌∷◌, ◌++◌, length, Ok, Err, refl, sym, ap, subst, if◌then◌else◌}
 use Rattle.std.proofs.lemmas.List.{append_assoc}
 use Rattle.sp_reader.specs.declared.token.Token.{Token}
 use Rattle.sp_reader.specs.declared.token.TokenKind.TheVariants as k
-use Rattle.sp_reader.specs.Names.{name}
 use Rattle.sp_reader.specs.PlainStatement.{arg_in, arg_out, dram, PlainDecl, PlainSyntax}
 use Rattle.sp_reader.specs.ProgramRules.{a_dram, port, decl, decls_from, decls, finished, whole_of, program}
 use Rattle.sp_reader.specs.StatementRules.{braced, stmt}
-use Rattle.sp_reader.specs.Steps.{Text, Outcome, Rule, ◌>>=◌, pure, refuse, tail_of, place_of, sees, skip, semicolons}
-use Rattle.sp_reader.specs.TypeRules.{bracketed}
-use Rattle.sp_grammar.specs.Tokens.{Takes, IsBreak, MayBreak, IsName}
-use Rattle.sp_grammar.specs.Statements.{IsPort, IsBraced, AreDecls, IsProgram}
-use Rattle.sp_grammar.proofs.Rules.{Reads, given, refused, bound, seen, skips, weaker, may_break, is_break}
+use Rattle.sp_reader.specs.Steps.{Text, Outcome, Rule, ◌>>=◌, pure, place_of, sees, skip, semicolons}
+use Rattle.sp_grammar.specs.Tokens.{Takes, IsBreak, MayBreak}
+use Rattle.sp_grammar.specs.Statements.{IsPort, AreDecls, IsProgram}
+use Rattle.sp_grammar.proofs.Rules.{Reads, given, refused, bound, seen, skips, may_break, is_break}
 use Rattle.sp_grammar.proofs.Statements.{braced_go}
 use Rattle.sp_grammar.proofs.Types.{bracketeds, dimensions}
 use Rattle.sp_grammar.proofs.Words.{names}
@@ -23,11 +21,13 @@ module _ (source : Text) where
 
   ports : {ts : List Token} → Reads (port source) ts (λ p us. IsPort source ts us p)
   unfolding port
-  ports {ts} = record { run = seen ts k.ArgIn refl
-      (λ word. (bound {Q = λ p us. IsPort source ts us p} (bracketeds source) (λ t _ p. given (arg_in t) (IsPort.an_arg_in word p))).run)
-      (λ _. seen ts k.ArgOut refl
-      (λ word. (bound {Q = λ p us. IsPort source ts us p} (bracketeds source) (λ t _ p. given (arg_out t) (IsPort.an_arg_out word p))).run)
-      (λ _. seen ts k.Dram refl (λ word. (drams word).run) (λ _. (refused {P = λ p us. IsPort source ts us p} {ts = ts}).run))) }
+  ports {ts} = record {
+    run = seen ts k.ArgIn refl
+        (λ word. (bound {Q = λ p us. IsPort source ts us p} (bracketeds source) (λ t _ p. given (arg_in t) (IsPort.an_arg_in word p))).run)
+        (λ _. seen ts k.ArgOut refl
+        (λ word. (bound {Q = λ p us. IsPort source ts us p} (bracketeds source) (λ t _ p. given (arg_out t) (IsPort.an_arg_out word p))).run)
+        (λ _. seen ts k.Dram refl (λ word. (drams word).run) (λ _. (refused {P = λ p us. IsPort source ts us p} {ts = ts}).run)));
+  }
 
   -- a declaration, which stands before others
   abbrev DeclAt : List Token → PlainDecl → List Token → Type 0
@@ -35,8 +35,10 @@ module _ (source : Text) where
 
   decl_go : {ts : List Token} → Reads (decl source) ts (DeclAt ts)
   unfolding decl
-  decl_go {ts} = record { run = (bound {Q = DeclAt ts} (skips k.Val refl) (λ _ _ word. bound (names source) (λ i _ p. bound (skips k.Equal refl) (λ _ _ equal. bound ports (λ port _ q.
-      given (record { place = place_of ts; name = i; kind = port }) (λ e vs rest brk more. AreDecls.next word p equal q brk more)))))).run }
+  decl_go {ts} = record {
+    run = (bound {Q = DeclAt ts} (skips k.Val refl) (λ _ _ word. bound (names source) (λ i _ p. bound (skips k.Equal refl) (λ _ _ equal. bound ports (λ port _ q.
+        given (record { place = place_of ts; name = i; kind = port }) (λ e vs rest brk more. AreDecls.next word p equal q brk more)))))).run;
+  }
 
   abbrev DeclsFrom : List PlainDecl → List Token → List PlainDecl → List Token → Type 0
   DeclsFrom before ts all us = (rest : List PlainDecl) × (all ≡ before ++ rest) × AreDecls source ts us rest
@@ -54,9 +56,11 @@ module _ (source : Text) where
           → (if b then Ok (found, ts) else (decl source >>= λ d. skip k.Semicolon >>= λ _. λ us. decls_from source n (found ++ d ∷ []) (semicolons us)) ts) ≡ Ok (all, us) → DeclsFrom found ts all us
       go all us next true h = (given {P = DeclsFrom found ts} {ts = ts} found ([], sym (append_nil found), AreDecls.none)).run all us h
       go all us next false h = (bound {Q = DeclsFrom found ts} (decl_go {ts = ts}) (λ d us p. bound (skips k.Semicolon refl) (λ _ vs takes.
-          record { run = λ all ws g.
-            let more = (next d (semicolons vs)).run all ws g in
-            (d ∷ more.0, more.1 ∙ append_assoc found (d ∷ []) more.0, p (semicolons vs) ws more.0 (is_break vs takes) more.2) }))).run all us h
+          record {
+            run = λ all ws g.
+                let more = (next d (semicolons vs)).run all ws g in
+                (d ∷ more.0, more.1 ∙ append_assoc found (d ∷ []) more.0, p (semicolons vs) ws more.0 (is_break vs takes) more.2);
+          }))).run all us h
 
   decls_go : {ts : List Token} → Reads (decls source) ts (λ all us. (a : List Token) × MayBreak ts a × AreDecls source a us all)
   decls_go {ts} = record { run = λ all us h. let more = (decls_go_from (length ts) {ts = semicolons ts} []).run all us h in (semicolons ts, may_break ts, subst (AreDecls source (semicolons ts) us) (sym more.1) more.2) }

@@ -1,11 +1,11 @@
 -- What rules of the plain reader give of some tokens.
-use Rattle.std.proofs.Common.{◌≡◌, ◌∙◌, ℕ, Bool, true, false, List, [], ◌∷◌, Ok, Err, refl, sym, ap, subst, if◌then◌else◌}
+use Rattle.std.proofs.Common.{◌≡◌, ◌∙◌, Bool, true, false, List, [], ◌∷◌, Ok, Err, refl, sym, ap, subst, if◌then◌else◌}
 use denote.Enum.Bare.{same_true}
 use Rattle.sp_reader.specs.contracts.token.TokenKind.{the_type}
 use Rattle.sp_reader.specs.declared.token.Token.{Token}
 use Rattle.sp_reader.specs.declared.token.TokenKind.{TokenKind}
 use Rattle.sp_reader.specs.declared.token.TokenKind.TheVariants as k
-use Rattle.sp_reader.specs.Steps.{Text, Rule, Outcome, and_then, ◌>>=◌, pure, refuse, kind_of, tail_of, same_kind, sees, skip, semicolons}
+use Rattle.sp_reader.specs.Steps.{Rule, Outcome, and_then, ◌>>=◌, pure, refuse, kind_of, tail_of, same_kind, sees, skip, semicolons}
 use Rattle.sp_grammar.specs.Tokens.{Takes, IsBreak, MayBreak}
 
 pub kind_is : (kind wanted : TokenKind) → same_kind kind wanted ≡ true → kind ≡ wanted

@@ -1,24 +1,22 @@
 -- Statements that hold no others.
-use Rattle.std.proofs.Common.{◌≡◌, ◌∙◌, ℕ, zero, suc, Bool, true, false, ◌&&◌, List, [], ◌∷◌, ◌++◌, length, Option, Some, None, Ok, Err, refl, sym, ap, subst, if◌then◌else◌}
-use Rattle.std.proofs.lemmas.List.{append_assoc}
+use Rattle.std.proofs.Common.{◌≡◌, ◌∙◌, Bool, true, false, ◌&&◌, List, [], ◌∷◌, length, Some, None, Ok, Err, refl, sym, ap, subst, if◌then◌else◌}
 use Rattle.sp_reader.specs.declared.token.Token.{Token}
 use Rattle.sp_reader.specs.declared.token.TokenKind.TheVariants as k
-use Rattle.sp_reader.specs.Names.{ident, name, count}
-use Rattle.sp_reader.specs.PlainTree.{PlainIdent, PlainLit, PlainExpr, expr, name as a_name}
+use Rattle.sp_reader.specs.Names.{ident, name}
+use Rattle.sp_reader.specs.PlainTree.{PlainIdent, PlainExpr, expr, name as a_name}
 use Rattle.sp_reader.specs.PlainStatement.{PlainSpan, single, range, PlainStmtKind, reg, sram, fifo, line_buffer, bind, set, set_at, enq, load, store, gather, scatter}
 use Rattle.sp_reader.specs.SimpleRules.{optional_literal, a_reg, a_sram, a_fifo, a_line_buffer, a_value, val_by, val, a_set, a_enq, a_load, a_gather, are_indices, a_set_at, a_store, begins_with_name, is_pair, scattered, a_scatter, with_spans, on_spans, after_name, on_name}
-use Rattle.sp_reader.specs.SpanRules.{whole_expr, whole_exprs_from, whole_exprs, range_from, span, spans_from, spans}
-use Rattle.sp_reader.specs.Steps.{Text, Rule, Outcome, and_then, ◌>>=◌, pure, refuse, is_name, kind_of, tail_of, sees, skip}
-use Rattle.sp_reader.specs.TypeRules.{literal}
+use Rattle.sp_reader.specs.SpanRules.{whole_expr, whole_exprs, spans}
+use Rattle.sp_reader.specs.Steps.{Text, Outcome, and_then, ◌>>=◌, pure, is_name, kind_of, tail_of, sees}
 use Rattle.sp_grammar.specs.Tokens.{Takes, IsName}
 use Rattle.sp_grammar.specs.Expressions.{IsExpr, IsPrefixed, IsPostfix, IsPrimary, AreExprs}
 use Rattle.sp_grammar.specs.Loops.{IsWholeExpr, IsSpan, AreSpans}
 use Rattle.sp_grammar.specs.Statements.{MayStart, IsBound, IsKind}
-use Rattle.sp_grammar.proofs.Again.{kind_at, tail_at, sees_it, skip_it, name_again}
+use Rattle.sp_grammar.proofs.Again.{kind_at, tail_at, skip_it, name_again}
 use Rattle.sp_grammar.proofs.AgainLoops.{expr_before, exprs_again, exprs_of_spans}
 use Rattle.sp_grammar.proofs.Exprs.{whole_go}
-use Rattle.sp_grammar.proofs.Loops.{span_lists, expr_lists}
-use Rattle.sp_grammar.proofs.Rules.{Reads, takes_seen, one_outcome, given, refused, bound, chosen, seen, skips, weaker}
+use Rattle.sp_grammar.proofs.Loops.{span_lists}
+use Rattle.sp_grammar.proofs.Rules.{Reads, takes_seen, one_outcome, given, refused, bound, seen, skips, weaker}
 use Rattle.sp_grammar.proofs.Types.{bracketeds, literals, dimensions}
 use Rattle.sp_grammar.proofs.Words.{names, counts}
 
@@ -27,9 +25,11 @@ module _ (source : Text) where
 
   optional_literals : {ts : List Token} → Reads (optional_literal source) ts (λ l us. MayStart source ts us l)
   unfolding optional_literal
-  optional_literals {ts} = record { run = seen ts k.OpenRound refl
-      (λ opened. (bound {Q = λ l us. MayStart source ts us l} (literals source) (λ l _ is. bound (skips k.CloseRound refl) (λ _ _ close. given (Some l) (MayStart.some opened is close)))).run)
-      (λ _. (given {P = λ l us. MayStart source ts us l} {ts = ts} None MayStart.none).run) }
+  optional_literals {ts} = record {
+    run = seen ts k.OpenRound refl
+        (λ opened. (bound {Q = λ l us. MayStart source ts us l} (literals source) (λ l _ is. bound (skips k.CloseRound refl) (λ _ _ close. given (Some l) (MayStart.some opened is close)))).run)
+        (λ _. (given {P = λ l us. MayStart source ts us l} {ts = ts} None MayStart.none).run);
+  }
 
   regs : {ts us : List Token} (i : PlainIdent) → Takes k.Reg ts us → Reads (a_reg source i) us (λ s vs. IsBound source i ts vs s)
   unfolding a_reg
@@ -54,10 +54,12 @@ module _ (source : Text) where
   values i = bound (whole_go source) (λ e _ p. given (bind i e) (IsBound.a_word p))
 
   bounds_by : {ts : List Token} (i : PlainIdent) → Reads (val_by source i) ts (λ s us. IsBound source i ts us s)
-  bounds_by {ts} i = record { run = seen ts k.Reg refl (λ word. (regs i word).run)
-      (λ _. seen ts k.Sram refl (λ word. (srams i word).run)
-      (λ _. seen ts k.Fifo refl (λ word. (fifos i word).run)
-      (λ _. seen ts k.LineBuffer refl (λ word. (line_buffers i word).run) (λ _. (values {ts = ts} i).run)))) }
+  bounds_by {ts} i = record {
+    run = seen ts k.Reg refl (λ word. (regs i word).run)
+        (λ _. seen ts k.Sram refl (λ word. (srams i word).run)
+        (λ _. seen ts k.Fifo refl (λ word. (fifos i word).run)
+        (λ _. seen ts k.LineBuffer refl (λ word. (line_buffers i word).run) (λ _. (values {ts = ts} i).run))));
+  }
 
   pub vals : {ts us : List Token} → Takes k.Val ts us → Reads (val source) us (λ s vs. IsKind source ts vs s)
   unfolding val
@@ -116,7 +118,7 @@ module _ (source : Text) where
   -- ---- a scatter, whose places were read as spans
 
   -- a name and a comma are an expression that ends before the comma
-  name_expr : {ts us : List Token} {i : PlainIdent} → IsName source ts us i → IsWholeExpr source ts us (expr i.place (a_name i false))
+  pub name_expr : {ts us : List Token} {i : PlainIdent} → IsName source ts us i → IsWholeExpr source ts us (expr i.place (a_name i false))
   name_expr p = IsExpr.tighter (IsExpr.tighter (IsExpr.tighter (IsExpr.tighter (IsExpr.tighter (IsExpr.tighter (IsExpr.tighter (IsExpr.operand (IsPrefixed.bare (IsPostfix.primary (IsPrimary.a_name p))))))))))
 
   -- an expression that begins with a name and a comma is the name
@@ -169,9 +171,11 @@ module _ (source : Text) where
   with_spans_go : {all ts inside us : List Token} (i : PlainIdent) (spans : List PlainSpan) → IsName source all ts i → Takes k.OpenRound ts inside → AreSpans source inside us spans → {vs : List Token} → Takes k.CloseRound us vs
       → Reads (with_spans source i inside spans) vs (λ s ws. IsKind source all ws s)
   unfolding with_spans
-  with_spans_go {all} i spans p opened q {vs} close = record { run = seen vs k.Equal refl (λ word. (set_ats i spans p opened q close word).run)
-      (λ _. seen vs k.Store refl (λ word. (stores i spans p opened q close word).run)
-      (λ _. seen vs k.Scatter refl (λ word. (scatters i spans p opened q close word).run) (λ _. (refused {P = λ s ws. IsKind source all ws s} {ts = vs}).run))) }
+  with_spans_go {all} i spans p opened q {vs} close = record {
+    run = seen vs k.Equal refl (λ word. (set_ats i spans p opened q close word).run)
+        (λ _. seen vs k.Store refl (λ word. (stores i spans p opened q close word).run)
+        (λ _. seen vs k.Scatter refl (λ word. (scatters i spans p opened q close word).run) (λ _. (refused {P = λ s ws. IsKind source all ws s} {ts = vs}).run)));
+  }
 
   on_spans_go : {all ts : List Token} (i : PlainIdent) → IsName source all ts i → Takes k.OpenRound ts (tail_of ts) → Reads (on_spans source i) (tail_of ts) (λ s ws. IsKind source all ws s)
   unfolding on_spans
@@ -179,11 +183,13 @@ module _ (source : Text) where
 
   after_name_go : {all ts : List Token} (i : PlainIdent) → IsName source all ts i → Reads (after_name source i) ts (λ s ws. IsKind source all ws s)
   unfolding after_name
-  after_name_go {all} {ts} i p = record { run = seen ts k.Assign refl (λ word. (sets i p word).run)
-      (λ _. seen ts k.Dot refl (λ word. (enqs i p word).run)
-      (λ _. seen ts k.Load refl (λ word. (loads i p word).run)
-      (λ _. seen ts k.Gather refl (λ word. (gathers i p word).run)
-      (λ _. seen ts k.OpenRound refl (λ word. (on_spans_go i p word).run) (λ _. (refused {P = λ s ws. IsKind source all ws s} {ts = ts}).run))))) }
+  after_name_go {all} {ts} i p = record {
+    run = seen ts k.Assign refl (λ word. (sets i p word).run)
+        (λ _. seen ts k.Dot refl (λ word. (enqs i p word).run)
+        (λ _. seen ts k.Load refl (λ word. (loads i p word).run)
+        (λ _. seen ts k.Gather refl (λ word. (gathers i p word).run)
+        (λ _. seen ts k.OpenRound refl (λ word. (on_spans_go i p word).run) (λ _. (refused {P = λ s ws. IsKind source all ws s} {ts = ts}).run)))));
+  }
 
   pub on_names : {ts : List Token} → Reads (on_name source) ts (λ s us. IsKind source ts us s)
   unfolding on_name

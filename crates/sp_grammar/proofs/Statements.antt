@@ -8,19 +8,18 @@ use Rattle.sp_reader.specs.declared.grammar.statement.Combining.TheVariants as c
 use Rattle.sp_reader.specs.declared.token.Token.{Token}
 use Rattle.sp_reader.specs.declared.token.TokenKind.{TokenKind}
 use Rattle.sp_reader.specs.declared.token.TokenKind.TheVariants as k
-use Rattle.sp_reader.specs.PlainTree.{PlainIdent, PlainExpr}
-use Rattle.sp_reader.specs.PlainStatement.{PlainCounter, PlainComb, PlainHead, PlainStmt, PlainStmtKind, PlainStmts, stmt as node, block, foreach, fsm, branch, body}
+use Rattle.sp_reader.specs.PlainTree.{PlainExpr}
+use Rattle.sp_reader.specs.PlainStatement.{PlainStmt, stmt as node, block, foreach, fsm, branch, body}
 use Rattle.sp_reader.specs.SimpleRules.{is_value}
-use Rattle.sp_reader.specs.SpanRules.{whole_expr}
 use Rattle.sp_reader.specs.StatementRules.{head, combined_by, stmts_from, stmts, braced, last_value, value_or, valued_from, valued, styled_block, a_foreach, a_combining, controller, styled, arrow, enclosed_arrow, enclosed_expr, bound_body, a_fsm, otherwise, a_branch, kind_by, kind, stmt}
-use Rattle.sp_reader.specs.Steps.{Text, Rule, Outcome, ◌>>=◌, pure, refuse, kind_of, tail_of, place_of, sees, skip, semicolons}
+use Rattle.sp_reader.specs.Steps.{Text, Rule, ◌>>=◌, kind_of, tail_of, place_of, sees, skip, semicolons}
 use Rattle.sp_grammar.specs.Tokens.{Takes, IsBreak, MayBreak, IsName}
-use Rattle.sp_grammar.specs.Loops.{IsWholeExpr, IsCounterList, AreBinds, IsCombiner}
+use Rattle.sp_grammar.specs.Loops.{IsWholeExpr}
 use Rattle.sp_grammar.specs.Statements.{IsBlock, IsStyle, MayHaveStyle, IsCombining, IsArrow, IsStmt, AreMore, AreStmts, AreValued, IsValued, IsBraced, MayElse, IsKind, reduces, folds, reduces_memories}
 use Rattle.sp_grammar.proofs.Again.{semicolon}
 use Rattle.sp_grammar.proofs.Exprs.{whole_go}
 use Rattle.sp_grammar.proofs.Loops.{counter_lists, binds_go, enclosed_name_go, combiner_go}
-use Rattle.sp_grammar.proofs.Rules.{Reads, takes_next, takes_seen, given, leaves, refused, bound, chosen, seen, skips, weaker, may_break, is_break}
+use Rattle.sp_grammar.proofs.Rules.{Reads, takes_next, given, leaves, refused, bound, seen, skips, weaker, may_break, is_break}
 use Rattle.sp_grammar.proofs.Simple.{vals, on_names}
 use Rattle.sp_grammar.proofs.Words.{names}
 
@@ -56,9 +55,11 @@ module _ (source : Text) (inner : Rule PlainStmt) (within : (ts : List Token) �
     where
       by_break : ((s : PlainStmt) (vs : List Token) → Reads (stmts_from inner n (found ++ s ∷ [])) vs (StmtsFrom (found ++ s ∷ []) vs)) → (s : PlainStmt) (us : List Token) → IsStmt source ts us s
           → Reads (λ us. if sees k.Semicolon us then stmts_from inner n (found ++ s ∷ []) (semicolons us) else Ok (found ++ s ∷ [], us)) us (StmtsFrom found ts)
-      by_break next s us p = record { run = seen us k.Semicolon refl
-          (λ takes all vs h. let more = (next s (semicolons us)).run all vs h in (s ∷ more.0, more.1 ∙ append_assoc found (s ∷ []) more.0, after_next more.0 p (break_here us takes) more.2))
-          (λ _. (given {P = StmtsFrom found ts} {ts = us} (found ++ s ∷ []) (s ∷ [], refl, (us, AreMore.last_stmt p, MayBreak.none))).run) }
+      by_break next s us p = record {
+        run = seen us k.Semicolon refl
+            (λ takes all vs h. let more = (next s (semicolons us)).run all vs h in (s ∷ more.0, more.1 ∙ append_assoc found (s ∷ []) more.0, after_next more.0 p (break_here us takes) more.2))
+            (λ _. (given {P = StmtsFrom found ts} {ts = us} (found ++ s ∷ []) (s ∷ [], refl, (us, AreMore.last_stmt p, MayBreak.none))).run);
+      }
 
       go : (all : List PlainStmt) (us : List Token) → ((s : PlainStmt) (vs : List Token) → Reads (stmts_from inner n (found ++ s ∷ [])) vs (StmtsFrom (found ++ s ∷ []) vs)) → (b : Bool)
           → (if b then Ok (found, ts) else (inner >>= λ s. λ us. if sees k.Semicolon us then stmts_from inner n (found ++ s ∷ []) (semicolons us) else Ok (found ++ s ∷ [], us)) ts) ≡ Ok (all, us)
@@ -94,14 +95,18 @@ module _ (source : Text) (inner : Rule PlainStmt) (within : (ts : List Token) �
       go v us next (Err e) h = absurd (cc)
       go v us next (Ok true) h = (last_values found).run v us h
       go v us next (Ok false) h = (bound {Q = ValuedFrom found ts} (inside {ts = ts}) (λ s _ p. bound (skips k.Semicolon refl) (λ _ vs takes.
-          record { run = λ w ws g.
-            let more = (next s (semicolons vs)).run w ws g in
-            (s ∷ more.0, more.1, more.2 ∙ append_assoc found (s ∷ []) more.0, AreValued.before_value p (is_break vs takes) more.3, more.4) }))).run v us h
+          record {
+            run = λ w ws g.
+                let more = (next s (semicolons vs)).run w ws g in
+                (s ∷ more.0, more.1, more.2 ∙ append_assoc found (s ∷ []) more.0, AreValued.before_value p (is_break vs takes) more.3, more.4);
+          }))).run v us h
 
   valued_go : {ts : List Token} → Reads (valued source inner) ts (λ v us. IsValued source ts us v.0 v.1)
-  valued_go {ts} = record { run = λ v us h.
-      let more = (valued_go_from (length ts) {ts = semicolons ts} []).run v us h in
-      IsValued.valued (may_break ts) (subst (λ all. AreValued source (semicolons ts) more.1 all v.1) (sym more.2) more.3) more.4 }
+  valued_go {ts} = record {
+    run = λ v us h.
+        let more = (valued_go_from (length ts) {ts = semicolons ts} []).run v us h in
+        IsValued.valued (may_break ts) (subst (λ all. AreValued source (semicolons ts) more.1 all v.1) (sym more.2) more.3) more.4;
+  }
 
   -- ---- controllers
 
@@ -125,10 +130,12 @@ module _ (source : Text) (inner : Rule PlainStmt) (within : (ts : List Token) �
 
   controllers : {ts us : List Token} (style : Option Style) → MayHaveStyle ts us style → Reads (controller source inner style) us (λ s vs. IsKind source ts vs s)
   unfolding controller
-  controllers {ts} {us} style has = record { run = seen us k.Foreach refl (λ word. (foreachs style has word).run)
-      (λ _. seen us k.Reduce refl (λ word. (combinings c.Reduce style reduces has word).run)
-      (λ _. seen us k.Fold refl (λ word. (combinings c.Fold style folds has word).run)
-      (λ _. seen us k.MemReduce refl (λ word. (combinings c.MemReduce style reduces_memories has word).run) (λ _. (refused {P = λ s vs. IsKind source ts vs s} {ts = us}).run)))) }
+  controllers {ts} {us} style has = record {
+    run = seen us k.Foreach refl (λ word. (foreachs style has word).run)
+        (λ _. seen us k.Reduce refl (λ word. (combinings c.Reduce style reduces has word).run)
+        (λ _. seen us k.Fold refl (λ word. (combinings c.Fold style folds has word).run)
+        (λ _. seen us k.MemReduce refl (λ word. (combinings c.MemReduce style reduces_memories has word).run) (λ _. (refused {P = λ s vs. IsKind source ts vs s} {ts = us}).run))));
+  }
 
   styleds : {ts us : List Token} {word : TokenKind} (style : Style) → IsBlock word style → IsStyle word style → Takes word ts us → Reads (styled source inner style) us (λ s vs. IsKind source ts vs s)
   unfolding styled
@@ -158,8 +165,10 @@ module _ (source : Text) (inner : Rule PlainStmt) (within : (ts : List Token) �
       given (fsm start test.0 test.1 state.0 (body state.1) next.0 next.1) (IsKind.an_fsm word p.2 p.3 p.4 q.2 q.3 q.4 r.4 r.5 r.6 r.7 r.8 opened s close)))))))
 
   otherwises : {ts : List Token} → Reads (otherwise inner) ts (λ all us. MayElse source ts us all)
-  otherwises {ts} = record { run = seen ts k.Else refl (λ word. (weaker {P = λ all us. IsBraced source (tail_of ts) us all} {Q = λ all us. MayElse source ts us all} (λ all us p. MayElse.an_else word p) braceds).run)
-      (λ _. (given {P = λ all us. MayElse source ts us all} {ts = ts} [] MayElse.no_else).run) }
+  otherwises {ts} = record {
+    run = seen ts k.Else refl (λ word. (weaker {P = λ all us. IsBraced source (tail_of ts) us all} {Q = λ all us. MayElse source ts us all} (λ all us p. MayElse.an_else word p) braceds).run)
+        (λ _. (given {P = λ all us. MayElse source ts us all} {ts = ts} [] MayElse.no_else).run);
+  }
 
   branches : {ts us : List Token} → Takes k.If ts us → Reads (a_branch source inner) us (λ s vs. IsKind source ts vs s)
   unfolding a_branch

@@ -1,14 +1,14 @@
 -- Types, initial values and dimensions.
-use Rattle.std.proofs.Common.{◌≡◌, ℕ, Bool, true, false, List, [], ◌∷◌, length, Some, None, Ok, Err, refl, if◌then◌else◌}
+use Rattle.std.proofs.Common.{ℕ, Bool, true, false, List, [], ◌∷◌, length, Some, None, Ok, Err, refl, if◌then◌else◌}
 use Rattle.sp_reader.specs.declared.token.Token.{Token}
 use Rattle.sp_reader.specs.declared.token.TokenKind.{TokenKind}
 use Rattle.sp_reader.specs.declared.token.TokenKind.TheVariants as k
 use Rattle.sp_reader.specs.declared.syntax.expression.SynTy.TheVariants.{Int, Bit}
-use Rattle.sp_reader.specs.Names.{number, count}
+use Rattle.sp_reader.specs.Names.{count}
 use Rattle.sp_reader.specs.PlainTree.{PlainLit, PlainDigits, number_lit, truth_lit}
 use Rattle.sp_reader.specs.Steps.{Text, Rule, ◌>>=◌, pure, refuse, place_of, tail_of, sees}
 use Rattle.sp_reader.specs.TypeRules.{has_sign, fixed, ty, bracketed, target, number_literal, literal, ends, dims}
-use Rattle.sp_grammar.specs.Tokens.{Takes, IsNumber, IsCount}
+use Rattle.sp_grammar.specs.Tokens.{Takes, IsNumber}
 use Rattle.sp_grammar.specs.Expressions.{IsSigned, IsType, IsBracketed, IsTarget, IsDims, IsSignedNumber, IsLiteral}
 use Rattle.sp_grammar.proofs.Rules.{Reads, given, refused, bound, chosen, seen, skips, weaker}
 use Rattle.sp_grammar.proofs.Words.{numbers, counts, widths}
@@ -33,10 +33,12 @@ module _ (source : Text) where
 
   tys : {ts : List Token} → Reads (ty source) ts (λ t us. IsType source ts us t)
   unfolding ty
-  tys {ts} = record { run = seen ts k.Int refl
-      (λ takes. (given {P = λ t us. IsType source ts us t} (Int (place_of ts)) (IsType.an_int takes)).run)
-      (λ _. seen ts k.Bit refl (λ takes. (given {P = λ t us. IsType source ts us t} (Bit (place_of ts)) (IsType.a_bit takes)).run)
-      (λ _. seen ts k.FixPt refl (λ takes. (fixeds takes).run) (λ _. (refused {P = λ t us. IsType source ts us t} {ts = ts}).run))) }
+  tys {ts} = record {
+    run = seen ts k.Int refl
+        (λ takes. (given {P = λ t us. IsType source ts us t} (Int (place_of ts)) (IsType.an_int takes)).run)
+        (λ _. seen ts k.Bit refl (λ takes. (given {P = λ t us. IsType source ts us t} (Bit (place_of ts)) (IsType.a_bit takes)).run)
+        (λ _. seen ts k.FixPt refl (λ takes. (fixeds takes).run) (λ _. (refused {P = λ t us. IsType source ts us t} {ts = ts}).run)));
+  }
 
   pub bracketeds : {ts : List Token} → Reads (bracketed source) ts (λ t us. IsBracketed source ts us t)
   unfolding bracketed
@@ -55,12 +57,14 @@ module _ (source : Text) where
 
   pub literals : {ts : List Token} → Reads (literal source) ts (λ l us. IsLiteral source ts us l)
   unfolding literal
-  literals {ts} = record { run = seen ts k.True refl
-      (λ takes. (given {P = λ l us. IsLiteral source ts us l} (truth_lit (place_of ts) true) (IsLiteral.yes takes)).run)
-      (λ _. seen ts k.False refl (λ takes. (given {P = λ l us. IsLiteral source ts us l} (truth_lit (place_of ts) false) (IsLiteral.no takes)).run)
-      (λ _. seen ts k.Minus refl
-      (λ takes. (number_literals (place_of ts) true (λ d vs is. IsSignedNumber.negative takes is)).run)
-      (λ _. (number_literals {ts = ts} (place_of ts) false (λ d vs is. IsSignedNumber.plain is)).run))) }
+  literals {ts} = record {
+    run = seen ts k.True refl
+        (λ takes. (given {P = λ l us. IsLiteral source ts us l} (truth_lit (place_of ts) true) (IsLiteral.yes takes)).run)
+        (λ _. seen ts k.False refl (λ takes. (given {P = λ l us. IsLiteral source ts us l} (truth_lit (place_of ts) false) (IsLiteral.no takes)).run)
+        (λ _. seen ts k.Minus refl
+        (λ takes. (number_literals (place_of ts) true (λ d vs is. IsSignedNumber.negative takes is)).run)
+        (λ _. (number_literals {ts = ts} (place_of ts) false (λ d vs is. IsSignedNumber.plain is)).run)));
+  }
 
   ended : {ts us : List Token} (found : List ℕ) → ((vs : List Token) → Takes k.CloseRound us vs → IsDims source ts vs found) → Reads (ends found) us (λ ds vs. IsDims source ts vs ds)
   ended found whole = bound (skips k.CloseRound refl) (λ _ vs close. given found (whole vs close))

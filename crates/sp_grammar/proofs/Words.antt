@@ -10,7 +10,7 @@ use Rattle.sp_reader.specs.PlainTree.{PlainIdent, PlainDigits}
 use Rattle.sp_reader.specs.Steps.{Text, Outcome, is_name, kind_of, tail_of, sees, spelling, spelling_of}
 use Rattle.sp_reader.specs.TypeRules.{width}
 use Rattle.sp_grammar.specs.Tokens.{Takes, IsName, IsNumber, IsWhole, IsCount, IsWidth}
-use Rattle.sp_grammar.proofs.Rules.{Reads, one_outcome, given, leaves, refused, seen, takes_seen}
+use Rattle.sp_grammar.proofs.Rules.{Reads, one_outcome, seen, takes_seen}
 
 within_by : (least most n : ℕ) (b c : Bool) → nat_le least n ≡ b → nat_le n most ≡ c → (b && c) ≡ true → (least ≤ n) × (n ≤ most)
 within_by least most n true true x y e = (grind arith, grind arith)

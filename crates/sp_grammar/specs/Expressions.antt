@@ -1,6 +1,6 @@
 -- The grammar of types, literals and expressions: a relation by cases, one case an alternative, between the tokens from a
 -- place on, those that are left behind what is spelled, and what that is.
-use Rattle.std.specs.Prelude.{◌≡◌, ℕ, suc, Bool, true, false, List, [], ◌∷◌, Option, Some, None}
+use Rattle.std.specs.Prelude.{◌≡◌, ℕ, suc, Bool, true, false, List, [], ◌∷◌, Some, None}
 use Rattle.sp_words.specs.declared.kind.BinOp.{BinOp}
 use Rattle.sp_reader.specs.declared.token.TokenKind.{TokenKind}
 use Rattle.sp_reader.specs.declared.token.TokenKind.TheVariants as k

@@ -1,5 +1,5 @@
 -- The grammar of spans, counters, names that a body binds, and combiners.
-use Rattle.std.specs.Prelude.{◌≡◌, ℕ, suc, Bool, List, [], ◌∷◌, Option, Some, None}
+use Rattle.std.specs.Prelude.{ℕ, suc, List, [], ◌∷◌, Option, Some, None}
 use Rattle.sp_words.specs.declared.kind.BinOp.{BinOp}
 use Rattle.sp_words.specs.declared.kind.BinOp.TheVariants as op
 use Rattle.sp_reader.specs.declared.token.TokenKind.{TokenKind}

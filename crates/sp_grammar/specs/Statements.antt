@@ -1,5 +1,5 @@
 -- The grammar of statements, declarations and programs.
-use Rattle.std.specs.Prelude.{◌≡◌, ℕ, Bool, List, [], ◌∷◌, Option, Some, None}
+use Rattle.std.specs.Prelude.{ℕ, List, [], ◌∷◌, Option, Some, None}
 use Rattle.sp_words.specs.declared.kind.Style.{Style}
 use Rattle.sp_words.specs.declared.kind.Style.TheVariants as style
 use Rattle.sp_reader.specs.declared.token.TokenKind.{TokenKind}

@@ -1,6 +1,6 @@
 -- What single tokens spell. Each relation is between the tokens from a place on, those that are left behind what is
 -- spelled, and what that is.
-use Rattle.std.specs.Prelude.{◌≡◌, ◌≤◌, ℕ, Bool, true, false, List, [], ◌∷◌, Option, Some, None}
+use Rattle.std.specs.Prelude.{◌≡◌, ◌≤◌, ℕ, Bool, true, false, List, ◌∷◌, Some}
 use Rattle.sp_words.specs.declared.kind.BinOp.{BinOp}
 use Rattle.sp_words.specs.declared.kind.BinOp.TheVariants as op
 use Rattle.sp_reader.specs.declared.token.TokenKind.{TokenKind}
