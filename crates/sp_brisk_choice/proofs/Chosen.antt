@@ -1,8 +1,8 @@
 -- The least plans of inner bodies are brisk, and so is a plan that is chosen of these.
-use Rattle.std.proofs.Common.{◌≡◌, ℕ, suc, ◌+◌, ◌≤◌, ◌==◌, Bool, true, false, IsTrue, List, [], ◌∷◌, map, max, Option, Some, None, arith, refl, ap, ◌∙◌, le-leb}
+use Rattle.std.proofs.Common.{◌≡◌, ℕ, ◌+◌, ◌≤◌, ◌==◌, Bool, true, false, List, [], ◌∷◌, max, Option, Some, None, arith, refl, ap, ◌∙◌, le-leb}
 use Rattle.std.proofs.lemmas.Bool.{and_from, and_parts, eqb-true, false≢true}
 use Rattle.std.specs.List.{All}
-use Rattle.std.specs.Prelude.{◌&&◌, nat_le}
+use Rattle.std.specs.Prelude.{nat_le}
 use Rattle.sp_bank.specs.Banking.{Banking}
 use Rattle.sp_core.specs.declared.access.Meet.{Meet}
 use Rattle.sp_core.specs.Cost.{sum_of}
@@ -10,7 +10,7 @@ use Rattle.sp_core.specs.Forms.{PlainForms}
 use Rattle.sp_core.specs.Invariant.{IsCore}
 use Rattle.sp_core.specs.Latency.{latency, latency_of_all}
 use Rattle.sp_core.specs.Numbering.{counters_size}
-use Rattle.sp_core.specs.PlainCore.{PlainOp, PlainCounter, PlainNode, inner, outer, fsm, branch, load, store, sparse, PlainCore}
+use Rattle.sp_core.specs.PlainCore.{PlainOp, PlainNode, inner, outer, fsm, branch, load, store, sparse, PlainCore}
 use Rattle.sp_modulo.specs.Times.{end_of, IsFitting}
 use Rattle.sp_plan.specs.Bodies.{latencies, are_in_turn}
 use Rattle.sp_plan.specs.Nodes.{Site, site_at, keeps_at}
@@ -18,7 +18,7 @@ use Rattle.sp_plan.specs.Orders.{body_orders}
 use Rattle.sp_plan.specs.PlainPlan.{PlainNodePlan, inner_plan, outer_plan, other_plan, PlainPlan, node_plan}
 use Rattle.sp_plan.specs.Validity.{schemes_of}
 use Rattle.sp_plans.proofs.FromSites.{from_sites}
-use Rattle.sp_plans.specs.Planned.{IsBestBy, IsPlanned}
+use Rattle.sp_plans.specs.Planned.{IsBestBy}
 use Rattle.sp_sched.proofs.BodyAt.{IsBody, body_at}
 use Rattle.sp_sched.specs.Least.{IsLeastBy, IsLeastOf, IsLeastAt}
 use Rattle.sp_stages.specs.Plans.{is_outer, is_outer_at, is_outer_of}

@@ -5,10 +5,10 @@ use Rattle.std.proofs.Math.Nat.{mul-le-mul_right}
 use Rattle.std.proofs.lemmas.Bool.{cases_lt, eq-eqb, ltb-true, lt-ltb, false≢true}
 use Rattle.std.proofs.lemmas.List.Elements.{All-cons, All-head, All-nil, All-tail}
 use Rattle.std.specs.List.{All}
-use Rattle.std.specs.Prelude.{filter, slice_index}
+use Rattle.std.specs.Prelude.{slice_index}
 use Rattle.sp_core.specs.Cost.{sum_of}
 use Rattle.sp_modulo.specs.declared.order.Order.{Order}
-use Rattle.sp_modulo.specs.Times.{IsFitting, IsObeyed, Obey, IsNoLater, IsLeast, end_of, in_group, IsLatency, InTime, IsSchedule}
+use Rattle.sp_modulo.specs.Times.{IsFitting, IsObeyed, IsNoLater, end_of, in_group, IsLatency, IsSchedule}
 
 -- how long those take, one after the other, that begin before a time
 abbrev pub rank : (latencies times : List ℕ) → ℕ → ℕ
@@ -125,10 +125,10 @@ latency_short ls orders latency fits h =
     let earlier : IsNoLater ts (ranked ls ts) = h.least.least (ranked ls ts) (record { one_each = map_length (rank ls ts) ts ∙ e; obeyed = orders_kept ls ts e orders fits h.least.obey.obeyed }) in
     let over : latency ≡ end_of ls ts = h.over in
     let under : end_of ls ts ≤ sum_of ls = end_under ls ts (sum_of ls) (λ i l.
-        let a : slice_index ts i ≤ slice_index (ranked ls ts) i = earlier i in
-        let b : slice_index (ranked ls ts) i ≡ rank ls ts (slice_index ts i) = at_map (rank ls ts) ts i (omega (arith, e, l)) in
-        let c : rank ls ts (slice_index ts i) + slice_index ls i ≤ sum_of ls = rank_ends ls ts e i l in
-        omega arith) in
+    let a : slice_index ts i ≤ slice_index (ranked ls ts) i = earlier i in
+    let b : slice_index (ranked ls ts) i ≡ rank ls ts (slice_index ts i) = at_map (rank ls ts) ts i (omega (arith, e, l)) in
+    let c : rank ls ts (slice_index ts i) + slice_index ls i ≤ sum_of ls = rank_ends ls ts e i l in
+    omega arith) in
     omega arith
 
 -- by times that are over by an interval, orders between groups are kept if those within a group are
