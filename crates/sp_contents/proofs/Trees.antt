@@ -19,7 +19,7 @@ use Rattle.sp_core.specs.Transfers.{part_of}
 use Rattle.sp_plan.specs.PlainPlan.{PlainNodePlan, PlainPlan, mem_plan, node_plan}
 use Rattle.sp_time.specs.Beats.{Slot, Run, took_at, starts}
 use Rattle.sp_machine.specs.Stamps.{Stamped, Copies, stamped, later, list_stamped, in_a_row, ◌▸◌, list_run, kept_run}
-use Rattle.sp_machine.specs.Timeline.{timed, group_runs, stage_runs, turn_runs, body_events, issued, times_of, fresh_events, stage_events, group_events, in_copies, slots_of}
+use Rattle.sp_machine.specs.Timeline.{timed, group_runs, stage_runs, turn_runs, body_events, issued, issued_by, times_of, fresh_events, stage_events, group_events, in_copies, slots_of}
 use Rattle.sp_machine.specs.Transfers.{Delays}
 use Rattle.sp_overlap.specs.Whole.{IsTimed, AreTimed}
 use Rattle.sp_overlap.proofs.Lanes.{or_choose}
@@ -361,7 +361,7 @@ module _ (core : PlainCore) where
           let bounds : List Stamped = stamped copies 0 (bounds_moments n (inside_at st k before []) counters bs) in
           let q = near_steady around owned copies hand ready bounds (plain_stamped (Near around) copies 0 _ (bounds_plain core around (Near around) copies (λ m u. inl u) n (inside_at st k before []) counters bs (and_parts _ _ (and_parts _ _ (and_parts _ _ right).0).0).1)) in
           after_plain owned owned copies hand bounds _ q.0 q.1
-          (body_stays around counters owned ops (and_parts _ _ (and_parts _ _ right).0).1 (usable_outside around earlier owned new scoped) (dram_outside earlier owned new) (node_plan plan k) copies k (n + counters_size counters) 0 st (group_values (loops_of in_lanes counters bs)) groups (hand_after hand bounds)
+          (body_stays around counters owned ops (and_parts _ _ (and_parts _ _ right).0).1 (usable_outside around earlier owned new scoped) (dram_outside earlier owned new) (issued_by core ops (node_plan plan k)) copies k (n + counters_size counters) 0 st (group_values (loops_of in_lanes counters bs)) groups (hand_after hand bounds)
           (ready_same around owned copies hand (hand_after hand bounds) q.1 ready))
       node_stays (outer counters style owned stages) k n st copies (outer_ran bs counts groups) around earlier hand right t scoped ready =
           let bounds : List Stamped = stamped copies 0 (bounds_moments n (inside_at st k before []) counters bs) in

@@ -18,9 +18,11 @@ use Rattle.sp_plan.specs.PlainPlan.{PlainNodePlan, inner_plan, outer_plan, other
 use Rattle.sp_time.specs.Beats.{Run, took_at, no_time, whole}
 use Rattle.sp_time.specs.Lists.{total}
 use Rattle.sp_machine.specs.Stamps.{Stamped, Copies}
-use Rattle.sp_machine.specs.Timeline.{timed, group_runs, stage_runs, turn_runs, in_copies, slots_of, inner_took, interval_of, latency_of}
+use Rattle.sp_machine.specs.Timeline.{timed, group_runs, stage_runs, turn_runs, in_copies, slots_of, inner_took, interval_of, latency_of, issued_by}
 use Rattle.sp_machine.specs.Told.{plan_timings, timing_of, HasSlots, IsPlanned, ArePlanned, IsCounted, AreCounted, RunsCounted, TurnsCounted}
 use Rattle.sp_machine.specs.Transfers.{Delays, transfer_took}
+use Rattle.sp_time.proofs.ListLemmas.{total_mono}
+use Rattle.sp_machine.proofs.AtOnce.{by_pace}
 use Rattle.sp_machine.proofs.Beats.{whole_under}
 
 -- runs and costs of a group's stages, and of groups, one by one
@@ -88,13 +90,28 @@ inner_under core plan d m n other_plan l = go m n l
     go (suc m) zero l = absurd (omega (arith, l))
     go (suc m) (suc n) l = omega arith
 
+-- one that does all of its groups at once takes no longer
+issued_under : (core : PlainCore) (plan : PlainPlan) (d m n : ℕ) (ops : List PlainOp) (p : PlainNodePlan) → m ≤ n
+    → inner_took m (interval_of (issued_by core ops p)) (latency_of (issued_by core ops p)) ≤ inner_cost core (plan_timings plan) d n (cost.ii_of (timing_of p)) (cost.latency_of (timing_of p))
+issued_under core plan d m n ops p l =
+    by_pace core ops p (λ r. inner_took m (interval_of r) (latency_of r) ≤ inner_cost core (plan_timings plan) d n (cost.ii_of (timing_of p)) (cost.latency_of (timing_of p)))
+    (λ z w. at_once m n (cost.ii_of (timing_of p)) (cost.latency_of (timing_of p))) (inner_under core plan d m n p l)
+  where
+    at_once : (m n ii latency : ℕ) → inner_took m 0 0 ≤ inner_cost core (plan_timings plan) d n ii latency
+    at_once zero zero ii latency = omega arith
+    at_once zero (suc n) ii latency = omega arith
+    at_once (suc m) zero ii latency = omega arith
+    at_once (suc m) (suc n) ii latency = omega arith
+
 -- a transfer that waits no longer than a delay each time
 total_under : (f : ℕ → ℕ) (d n : ℕ) → ((i : ℕ) → f i ≤ d) → total f n ≤ d * n
 total_under f d zero h = omega arith
 total_under f d (suc n) h = let a : total f n ≤ d * n = total_under f d n h in let b : f n ≤ d = h n in let c : d * suc n ≡ d * n + d = mul-suc d n in omega arith
 
 transfer_under : (core : PlainCore) (plan : PlainPlan) (f : ℕ → ℕ) (d w : ℕ) → ((i : ℕ) → f i ≤ d) → transfer_took f w ≤ transfer_cost core (plan_timings plan) d w
-transfer_under core plan f d w h = let a : total f (max 1 (waits w)) ≤ d * max 1 (waits w) = total_under f d (max 1 (waits w)) h in omega arith
+transfer_under core plan f d w h =
+    let few : total f (waits w) ≤ total f (max 1 (waits w)) = total_mono f (waits w) (max 1 (waits w)) (omega arith) in
+    let a : total f (max 1 (waits w)) ≤ d * max 1 (waits w) = total_under f d (max 1 (waits w)) h in omega arith
 
 -- one that is no `Stream` block costs its beats
 outer_cost_is : (core : PlainCore) (plan : PlainPlan) (d : ℕ) (style : Style) (t : cost.Timing) (costs : List (List ℕ)) → is_stream style ≡ false → outer_cost core (plan_timings plan) d style t costs ≡ beats_cost (cost.slots_of t) (cost.chains_of t) costs
@@ -111,7 +128,7 @@ module _ (core : PlainCore) (plan : PlainPlan) (delays : Delays) (d : ℕ) (wait
     unfolding timed group_runs stage_runs turn_runs cost group_costs stage_costs turns_cost shape_of group_shapes stage_shapes body_shapes
 
     pub node_under : (node : PlainNode) (k n : ℕ) (st : Standing) (copies : Copies) (h : History) → IsPlanned plan k node → IsCounted node h → (timed core plan delays node k n st copies h).took ≤ costs_of node k h
-    node_under (inner counters owned ops comb) k n st copies (inner_ran bs counts groups) p c = inner_under core plan d (length groups) (group_count counters counts) (node_plan plan k) c
+    node_under (inner counters owned ops comb) k n st copies (inner_ran bs counts groups) p c = issued_under core plan d (length groups) (group_count counters counts) ops (node_plan plan k) c
     node_under (outer counters style owned stages) k n st copies (outer_ran bs counts groups) p c =
         let runs = group_runs core plan delays stages k (n + counters_size counters) 0 st owned copies (group_values (loops_of in_lanes counters bs)) groups in
         let costs = group_costs core (plan_timings plan) d stages (suc k) (group_shapes stages groups) in

@@ -13,8 +13,6 @@ use Rattle.sp_core.specs.History.{Entry, left_out, gave, touched}
 use Rattle.sp_core.specs.Latency.{latency_by, read_of, latency}
 use Rattle.sp_core.specs.Meeting.{changes, is_one_element, is_group, go_on, together_at, together, in_loop, nowhere, is_in_stream, owns, share_port, least_of, stand, stand_apart, do_stand, is_met, are_met}
 use Rattle.sp_core.specs.PlainCore.{PlainOp, PlainCore}
-use Rattle.sp_core.specs.Sequential.{has_reset}
-use Rattle.sp_core.specs.Declarations.{mem}
 use Rattle.sp_modulo.specs.Times.{end_of}
 use Rattle.sp_plan.specs.Bodies.{is_kept, latencies, are_in_turn, keep_orders, are_times_right}
 use Rattle.sp_plan.specs.Orders.{op_at, change_gap, is_in_body, meet_order, meet_orders}
@@ -26,6 +24,7 @@ use Rattle.sp_machine.specs.Laws.{told}
 use Rattle.sp_machine.specs.Stamps.{Stamped, Copies, stamped, list_stamped}
 use Rattle.sp_machine.specs.Timeline.{body_events, issued}
 use Rattle.sp_machine.specs.Transfers.{Delays}
+use Rattle.sp_machine.proofs.AtOnce.{renewals_idle}
 
 -- tests of all and of some
 all_append : {A : Type 0} (p : A → Bool) (a b : List A) → list_all p (a ++ b) ≡ true → (list_all p a ≡ true) × (list_all p b ≡ true)
@@ -379,15 +378,6 @@ module _ (core : PlainCore) (schemes : List (Option Banking)) (meets : List Meet
   rising_skip g i copies cycle [] e rest r = r
   rising_skip g i copies cycle (m ∷ ms) e rest r = inl (e.0, rising_skip g i copies cycle ms e.1 rest r)
 
-  renewals_free : (owned : List ℕ) → Each (λ m. is_done core m ≡ false) (flat_map (renewal_in_body core) owned)
-  renewals_free [] = tt
-  renewals_free (m ∷ owned) = go (has_reset (mem core m).kind (mem core m).start) refl (renewals_free owned)
-    where
-      go : (b : Bool) → has_reset (mem core m).kind (mem core m).start ≡ b → Each (λ x. is_done core x ≡ false) (flat_map (renewal_in_body core) owned)
-          → Each (λ x. is_done core x ≡ false) (elim b as (λ _. List Moment) [ true ↦ [] | false ↦ renews m ∷ [] ] ++ flat_map (renewal_in_body core) owned)
-      go true q e = e
-      go false q e = (q, e)
-
   abbrev at_group : ℕ → List ℤ → Standing
   at_group g v = inside_at st k (in_group_of g 0) v
 
@@ -433,7 +423,7 @@ module _ (core : PlainCore) (schemes : List (Option Banking)) (meets : List Meet
       let rest : List Stamped = body_events core plan delays p copies k number (suc g) st owned ops values groups in
       let listed : List Stamped = list_stamped copies (λ j. 1 + g * ii + slice_index times j) 0 number (at_group g v) ops es in
       subst (Rising g 0) (sym (append_assoc (stamped copies (issued core plan delays p g) (flat_map (renewal_in_body core) owned)) listed rest))
-      (rising_skip g 0 copies (issued core plan delays p g) (flat_map (renewal_in_body core) owned) (renewals_free owned) (listed ++ rest)
+      (rising_skip g 0 copies (issued core plan delays p g) (flat_map (renewal_in_body core) owned) (renewals_idle core owned) (listed ++ rest)
       (list_rises copies g 0 number v ops es (omega arith) (omega arith) (λ m. ap (op_at core ops) (let q : 0 + m ≡ m = omega arith in q)) rest (body_rises plan delays serial copies (suc g) owned values groups)))
   body_rises plan delays serial copies g owned [] groups = tt
   body_rises plan delays serial copies g owned (v ∷ values) [] = tt

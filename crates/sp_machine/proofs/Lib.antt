@@ -1,3 +1,4 @@
+pub mod AtOnce
 pub mod Beats
 pub mod Costs
 pub mod CountedRuns

@@ -13,7 +13,7 @@ use Rattle.sp_plan.specs.PlainPlan.{PlainNodePlan, PlainPlan, node_plan}
 use Rattle.sp_time.specs.Beats.{Slot, Run, took_at, starts}
 use Rattle.sp_machine.specs.Laws.{told}
 use Rattle.sp_machine.specs.Stamps.{Stamped, Copies, stamped, later, list_stamped, ◌▸◌, inside_of, list_run, kept_run, in_a_row}
-use Rattle.sp_machine.specs.Timeline.{timed, group_runs, stage_runs, turn_runs, body_events, stage_events, fresh_events, group_events, in_copies, slots_of, issued}
+use Rattle.sp_machine.specs.Timeline.{timed, group_runs, stage_runs, turn_runs, body_events, stage_events, fresh_events, group_events, in_copies, slots_of, issued, issued_by}
 use Rattle.sp_machine.specs.Transfers.{Delays, load_stamped, store_stamped, slice_stamped, load_run, store_run}
 
 pub told_append : (a b : List Stamped) → told (a ++ b) ≡ told a ++ told b
@@ -103,7 +103,7 @@ module _ (core : PlainCore) where
       pub told_node : (node : PlainNode) (k n : ℕ) (st : Standing) (copies : Copies) (h : History) → told (timed core plan delays node k n st copies h).events ≡ moments core in_lanes node k n st h
       told_node (inner counters owned ops comb) k n st copies (inner_ran bs counts groups) =
           told_both _ _ (bounds_moments n (inside_at st k before []) counters bs) _ (told_stamped copies 0 _)
-          (told_body (node_plan plan k) copies k (n + counters_size counters) 0 st owned ops (group_values (loops_of in_lanes counters bs)) groups)
+          (told_body (issued_by core ops (node_plan plan k)) copies k (n + counters_size counters) 0 st owned ops (group_values (loops_of in_lanes counters bs)) groups)
       told_node (outer counters style owned stages) k n st copies (outer_ran bs counts groups) =
           let runs = group_runs core plan delays stages k (n + counters_size counters) 0 st owned copies (group_values (loops_of in_lanes counters bs)) groups in
           told_both _ _ (bounds_moments n (inside_at st k before []) counters bs) _ (told_stamped copies 0 _)

@@ -18,9 +18,10 @@ use Rattle.sp_machine.specs.InOrder.{AreInOrder, IsPlaced}
 use Rattle.sp_machine.specs.Laws.{told}
 use Rattle.sp_machine.specs.Sound.{AreTimed, IsSound, AreSound, RunsSound, TurnsSound}
 use Rattle.sp_machine.specs.Stamps.{Stamped, Copies, stamped, ◌▸◌, list_run, kept_run}
-use Rattle.sp_machine.specs.Timeline.{timed, body_events, group_runs, stage_runs, turn_runs, in_copies, slots_of}
+use Rattle.sp_machine.specs.Timeline.{timed, times_of, issued_by, body_events, group_runs, stage_runs, turn_runs, in_copies, slots_of}
 use Rattle.sp_machine.specs.Told.{IsPlanned, ArePlanned, IsKept, AreKept}
 use Rattle.sp_machine.specs.Transfers.{Delays}
+use Rattle.sp_machine.proofs.AtOnce.{by_pace, body_idle, idle_in_order}
 use Rattle.sp_machine.proofs.InnerOrder.{bodies_in_order}
 use Rattle.sp_machine.proofs.OuterOrder.{pairs_append, outers_in_order}
 use Rattle.sp_machine.proofs.PartsOrder.{then_in_order, inside_in_order, looks_in_order, looks_first, row_in_order, kept_in_order, load_in_order, store_in_order}
@@ -48,15 +49,23 @@ module _ (core : PlainCore) (plan : PlainPlan) (delays : Delays) (schemes : List
   inner_in_order (outer_plan slots chains) k n st copies owned ops values groups placed timed met = absurd timed
   inner_in_order other_plan k n st copies owned ops values groups placed timed met = absurd timed
 
+  -- also where it does all of its groups at once: then it touches nothing
+  issued_in_order : (p : PlainNodePlan) (k n : ℕ) (st : Standing) (copies : Copies) (owned : List ℕ) (ops : List PlainOp) (values : List (List ℤ)) (groups : List (List Entry)) → IsPlaced core k st → AreTimed core plan delays schemes meets n ops p
+      → are_met core meets (events_of (told (body_events core plan delays (issued_by core ops p) copies k n 0 st owned ops values groups))) ≡ true → Pairs (AreInOrder core) (body_events core plan delays (issued_by core ops p) copies k n 0 st owned ops values groups)
+  issued_in_order p k n st copies owned ops values groups placed timed =
+      by_pace core ops p (λ r. are_met core meets (events_of (told (body_events core plan delays r copies k n 0 st owned ops values groups))) ≡ true → Pairs (AreInOrder core) (body_events core plan delays r copies k n 0 st owned ops values groups))
+      (λ z w met. idle_in_order core _ (body_idle core plan delays (inner_plan (times_of p) 0 0 false) copies k n 0 st owned ops values groups w))
+      (inner_in_order p k n st copies owned ops values groups placed timed)
+
   mutual
     unfolding timed group_runs stage_runs turn_runs moments
 
     pub node_in_order : (node : PlainNode) (k n : ℕ) (st : Standing) (copies : Copies) (h : History) → IsPlanned plan k node → IsKept plan k node → IsSound core plan delays schemes meets node k n st copies h
         → Pairs (AreInOrder core) (timed core plan delays node k n st copies h).events
     node_in_order (inner counters owned ops comb) k n st copies (inner_ran bs counts groups) p q w =
-        let body : List Stamped = body_events core plan delays (node_plan plan k) copies k (n + counters_size counters) 0 st owned ops (group_values (loops_of in_lanes counters bs)) groups in
+        let body : List Stamped = body_events core plan delays (issued_by core ops (node_plan plan k)) copies k (n + counters_size counters) 0 st owned ops (group_values (loops_of in_lanes counters bs)) groups in
         pairs_append (AreInOrder core) (stamped copies 0 (bounds_moments n (inside_at st k before []) counters bs)) body (looks_in_order core copies 0 _ w.0)
-        (inner_in_order (node_plan plan k) k (n + counters_size counters) st copies owned ops (group_values (loops_of in_lanes counters bs)) groups w.1 w.2 w.3) (looks_first core copies _ w.0 body)
+        (issued_in_order (node_plan plan k) k (n + counters_size counters) st copies owned ops (group_values (loops_of in_lanes counters bs)) groups w.1 w.2 w.3) (looks_first core copies _ w.0 body)
     node_in_order (outer counters style owned stages) k n st copies (outer_ran bs counts groups) p q w =
         let runs = group_runs core plan delays stages k (n + counters_size counters) 0 st owned copies (group_values (loops_of in_lanes counters bs)) groups in
         let slots : List Slot = slots_of (node_plan plan k) in

@@ -1,5 +1,5 @@
 -- What happens in a run happens within it.
-use Rattle.std.proofs.Common.{◌≡◌, ℕ, zero, suc, ◌+◌, ◌*◌, ◌<◌, ◌≤◌, Bool, true, false, cond, ℤ, List, [], ◌∷◌, ◌++◌, map, take, length, max, arith, refl, sym, subst, ap, ◌∙◌}
+use Rattle.std.proofs.Common.{◌≡◌, ℕ, zero, suc, ◌+◌, ◌*◌, ◌<◌, ◌≤◌, Bool, true, false, cond, ℤ, List, [], ◌∷◌, ◌++◌, map, take, length, arith, refl, sym, subst, ap, ◌∙◌}
 use Rattle.std.proofs.Math.Nat.{mul-le-mul_right}
 use Rattle.std.specs.Prelude.{◌/◌, flat_map, slice_index, slice_index_or}
 use Rattle.sp_core.specs.Cost.{waits, greatest_of}
@@ -18,11 +18,12 @@ use Rattle.sp_plan.specs.Validity.{stage_count}
 use Rattle.sp_time.specs.Beats.{Slot, Run, slot_at, no_time, took_at, run_at, starts, begins, first_cycle, whole}
 use Rattle.sp_time.specs.Lists.{Each, total, greatest}
 use Rattle.sp_machine.specs.Stamps.{Stamped, Copies, stamped, later, list_stamped, in_a_row, ◌▸◌, inside_of, list_run, kept_run}
-use Rattle.sp_machine.specs.Timeline.{timed, group_runs, stage_runs, turn_runs, body_events, issued, inner_took, interval_of, latency_of, times_of, least, slots_from, slots_of, first_slot, fresh_events, stage_events, group_events, in_copies}
+use Rattle.sp_machine.specs.Timeline.{timed, group_runs, stage_runs, turn_runs, body_events, issued, issued_by, inner_took, interval_of, latency_of, times_of, least, slots_from, slots_of, first_slot, fresh_events, stage_events, group_events, in_copies}
 use Rattle.sp_machine.specs.Told.{HasSlots, IsPlanned, ArePlanned, AreTimesKept, IsKept, AreKept}
 use Rattle.sp_machine.specs.Transfers.{Delays, word_cycle, look_cycle, transfer_took, load_stamped, store_stamped, slice_stamped}
 use Rattle.sp_time.proofs.ListLemmas.{total_mono, greatest_ge}
 use Rattle.sp_time.proofs.Whole.{beats_in_order}
+use Rattle.sp_machine.proofs.AtOnce.{by_pace}
 use Rattle.sp_machine.proofs.Beats.{slots_length, slot_of_stage}
 
 -- before a cycle
@@ -72,11 +73,11 @@ module _ (core : PlainCore) where
 
 -- the words of a transfer
 module _ (delay : ℕ → ℕ) (w : ℕ) where
-  asks_enough : (j : ℕ) → j < w → j / 16 + 1 ≤ max 1 (waits w)
+  asks_enough : (j : ℕ) → j < w → j / 16 + 1 ≤ waits w
   asks_enough j l = omega arith
 
   word_before : (j : ℕ) → j < w → suc (word_cycle delay j) < transfer_took delay w
-  word_before j l = let a : total delay (j / 16 + 1) ≤ total delay (max 1 (waits w)) = total_mono delay _ _ (asks_enough j l) in omega arith
+  word_before j l = let a : total delay (j / 16 + 1) ≤ total delay (waits w) = total_mono delay _ _ (asks_enough j l) in omega arith
 
   look_before : (j : ℕ) → j < w → look_cycle delay j < transfer_took delay w
   look_before zero l = omega arith
@@ -233,6 +234,14 @@ module _ (core : PlainCore) (plan : PlainPlan) (delays : Delays) (slots : List S
 whole_some : (slots : List Slot) (took : ℕ → ℕ → ℕ) (groups : ℕ) → 0 < whole slots took groups
 whole_some slots took groups = omega arith
 
+issued_kept : (core : PlainCore) (ops : List PlainOp) (p : PlainNodePlan) → AreTimesKept p → AreTimesKept (issued_by core ops p)
+issued_kept core ops p h = by_pace core ops p AreTimesKept (λ z w. at_once p z h) h
+  where
+    at_once : (p : PlainNodePlan) → latency_of p ≡ 0 → AreTimesKept p → Each (λ t. t ≤ 0) (times_of p)
+    at_once (inner_plan times ii latency serial) z h = subst (λ l. Each (λ t. t ≤ l) times) z h
+    at_once (outer_plan slots chains) z h = tt
+    at_once other_plan z h = tt
+
 inner_some : (n ii l : ℕ) → 0 < inner_took n ii l
 inner_some zero ii l = omega arith
 inner_some (suc n) ii l = omega arith
@@ -243,8 +252,9 @@ module _ (core : PlainCore) (plan : PlainPlan) (delays : Delays) where
 
     pub node_within : (node : PlainNode) (k n : ℕ) (st : Standing) (copies : Copies) (h : History) → IsPlanned plan k node → IsKept plan k node → Before (timed core plan delays node k n st copies h).took (timed core plan delays node k n st copies h).events
     node_within (inner counters owned ops comb) k n st copies (inner_ran bs counts groups) p q =
-        before_append _ _ _ (before_stamped _ copies 0 (bounds_moments n (inside_at st k before []) counters bs) (inner_some (length groups) (interval_of (node_plan plan k)) (latency_of (node_plan plan k))))
-        (body_before core plan delays (node_plan plan k) q copies k (n + counters_size counters) 0 (length groups) st owned ops (group_values (loops_of in_lanes counters bs)) groups (omega arith))
+        let r : PlainNodePlan = issued_by core ops (node_plan plan k) in
+        before_append _ _ _ (before_stamped _ copies 0 (bounds_moments n (inside_at st k before []) counters bs) (inner_some (length groups) (interval_of r) (latency_of r)))
+        (body_before core plan delays r (issued_kept core ops (node_plan plan k) q) copies k (n + counters_size counters) 0 (length groups) st owned ops (group_values (loops_of in_lanes counters bs)) groups (omega arith))
     node_within (outer counters style owned stages) k n st copies (outer_ran bs counts groups) p q =
         let runs = group_runs core plan delays stages k (n + counters_size counters) 0 st owned copies (group_values (loops_of in_lanes counters bs)) groups in
         let slots : List Slot = slots_of (node_plan plan k) in

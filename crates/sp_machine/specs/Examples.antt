@@ -1,11 +1,11 @@
 -- Worked timelines: small cores, plans that were written by hand, and when what happens in their runs happens.
 use Rattle.std.specs.Prelude.{ℕ, List, [], ◌∷◌, map, Option, Some, None, codes}
 use Rattle.sp_words.specs.declared.kind.BinOp.TheVariants.{Gt}
-use Rattle.sp_words.specs.declared.kind.Kind.TheVariants.{ArgIn, ArgOut}
+use Rattle.sp_words.specs.declared.kind.Kind.TheVariants.{Sram, ArgIn, ArgOut}
 use Rattle.sp_words.specs.declared.kind.Style.TheVariants.{Pipe}
 use Rattle.sp_words.specs.Types.{int_type}
 use Rattle.sp_core.specs.Events.{touches, slices, renews, keeps}
-use Rattle.sp_core.specs.ExampleForms.{lit, two, read, write, stages, mem_of, core}
+use Rattle.sp_core.specs.ExampleForms.{lit, two, read, write, below, stages, mem_of, core}
 use Rattle.sp_core.specs.Meaning.{Outcome, ended}
 use Rattle.sp_core.specs.PlainCore.{PlainCore, inner, outer, branch}
 use Rattle.sp_plan.specs.ExamplePlans.{plain_mem, timed, plan_of}
@@ -76,3 +76,10 @@ chosen = core (mem_of (codes "x") ArgIn int_type [] None ∷ mem_of (codes "y") 
 
 abbrev pub chosen_plan : PlainPlan
 chosen_plan = plan_of (plain_mem 1 ∷ plain_mem 1 ∷ []) (in_slots (0 ∷ []) ∷ other_plan ∷ timed (0 ∷ 0 ∷ []) 1 1 ∷ timed [] 1 0 ∷ [])
+
+-- a loop without operations, which owns a memory
+unfoldable pub idling : PlainCore
+idling = core (mem_of (codes "s") Sram int_type (4 ∷ []) None ∷ []) [] (inner (below 0 3 1 1 ∷ []) (0 ∷ []) [] None)
+
+abbrev pub idling_plan : PlainPlan
+idling_plan = plan_of (plain_mem 1 ∷ []) (timed [] 1 0 ∷ [])

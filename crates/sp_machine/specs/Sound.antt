@@ -14,7 +14,7 @@ use Rattle.sp_time.specs.Lists.{Each, Pairs}
 use Rattle.sp_machine.specs.InOrder.{does_change, AreInOrder, IsPlaced, RunsPrecede}
 use Rattle.sp_machine.specs.Laws.{told}
 use Rattle.sp_machine.specs.Stamps.{Copies}
-use Rattle.sp_machine.specs.Timeline.{timed, body_events, group_runs, in_copies, slots_of}
+use Rattle.sp_machine.specs.Timeline.{timed, issued_by, body_events, group_runs, in_copies, slots_of}
 use Rattle.sp_machine.specs.Told.{IsPlanned, IsKept}
 use Rattle.sp_machine.specs.Transfers.{Delays}
 
@@ -32,7 +32,7 @@ module _ (core : PlainCore) (plan : PlainPlan) (delays : Delays) (schemes : List
     pub IsSound : PlainNode → (node n : ℕ) → Standing → Copies → History → Type 0
     IsSound (inner counters owned ops comb) k n st copies (inner_ran bs counts groups) =
         AreLooks (bounds_moments n (inside_at st k before []) counters bs) × IsPlaced core k st × AreTimed (n + counters_size counters) ops (node_plan plan k)
-        × (are_met core meets (events_of (told (body_events core plan delays (node_plan plan k) copies k (n + counters_size counters) 0 st owned ops (group_values (loops_of in_lanes counters bs)) groups))) ≡ true)
+        × (are_met core meets (events_of (told (body_events core plan delays (issued_by core ops (node_plan plan k)) copies k (n + counters_size counters) 0 st owned ops (group_values (loops_of in_lanes counters bs)) groups))) ≡ true)
     IsSound (outer counters style owned stages) k n st copies (outer_ran bs counts groups) =
         AreLooks (bounds_moments n (inside_at st k before []) counters bs)
         × RunsPrecede core plan delays (slots_of (node_plan plan k)) (group_runs core plan delays stages k (n + counters_size counters) 0 st owned copies (group_values (loops_of in_lanes counters bs)) groups) (node_plan plan k) stages copies owned

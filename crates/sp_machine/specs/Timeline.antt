@@ -2,9 +2,10 @@
 -- which it is started; a part that takes so many cycles lets the next one start that much later. A `Stream` block is told
 -- as if its stages were one chain, and a gather, a scatter or a wide
 -- transfer as if it were done at once: theirs are still to be said.
-use Rattle.std.specs.Prelude.{ℕ, zero, suc, ◌+◌, ◌*◌, ◌%◌, min, true, false, ℤ, List, [], ◌∷◌, ◌++◌, map, flat_map, length, slice_index, if◌then◌else◌}
+use Rattle.std.specs.Prelude.{ℕ, zero, suc, ◌+◌, ◌*◌, ◌%◌, ◌==◌, min, Bool, true, false, ℤ, List, [], ◌∷◌, ◌++◌, map, flat_map, length, slice_index, if◌then◌else◌}
 use Rattle.sp_core.specs.Declarations.{is_among}
 use Rattle.sp_core.specs.Events.{Standing, inside_at, before, in_group_of, in_turn, renews, bounds_moments, spans_moments, renewal_in_body, moments}
+use Rattle.sp_core.specs.Latency.{latency_of_all}
 use Rattle.sp_core.specs.History.{Entry, last_word, History, Groups, Runs, Turns, inner_ran, outer_ran, fsm_ran, branch_ran, moved, more_group, masked_run, more_run, no_turn, more_turn}
 use Rattle.sp_core.specs.Numbering.{counters_size, spans_size, node_count, number_count}
 use Rattle.sp_core.specs.PlainCore.{PlainOp, PlainNode, PlainStages, inner, outer, fsm, branch, load, store, more_stage, PlainCore}
@@ -41,11 +42,21 @@ abbrev pub slot_numbers : PlainNodePlan → List ℕ
 slot_numbers (outer_plan slots chains) = slots
 slot_numbers _ = []
 
--- how long an inner body takes, and a stage whose lanes are all masked
+-- how long an inner body takes, of so many groups
 abbrev pub inner_took : (groups ii latency : ℕ) → ℕ
 inner_took zero ii latency = 2
 inner_took (suc n) ii latency = 2 + (n * ii + latency)
 
+-- whether nothing in an inner body takes time, as in one without operations
+abbrev pub is_at_once : PlainCore → List PlainOp → PlainNodePlan → Bool
+is_at_once core ops p = latency_of p + latency_of_all core ops == 0
+
+-- by which its groups are issued: all in the cycle after the start where nothing takes time, for then its circuit is over
+-- in that cycle
+abbrev pub issued_by : PlainCore → List PlainOp → PlainNodePlan → PlainNodePlan
+issued_by core ops p = if is_at_once core ops p then inner_plan (times_of p) 0 0 false else p
+
+-- a stage whose lanes are all masked
 abbrev pub masked_stage : Run Stamped
 masked_stage = record { took = 2; events = [] }
 
@@ -94,11 +105,13 @@ module _ (core : PlainCore) (plan : PlainPlan) (delays : Delays) where
   unfoldable mutual
     -- by the node's number, that of its first operation, and what stands around
     pub timed : PlainNode → (node n : ℕ) → Standing → Copies → History → Run Stamped
-    timed (inner counters owned ops comb) k n st copies (inner_ran bs counts groups) = record {
-      took = inner_took (length groups) (interval_of (node_plan plan k)) (latency_of (node_plan plan k));
-      events = stamped copies 0 (bounds_moments n (inside_at st k before []) counters bs)
-          ++ body_events (node_plan plan k) copies k (n + counters_size counters) 0 st owned ops (group_values (loops_of in_lanes counters bs)) groups;
-    }
+    timed (inner counters owned ops comb) k n st copies (inner_ran bs counts groups) =
+        let p : PlainNodePlan = issued_by core ops (node_plan plan k) in
+        record {
+          took = inner_took (length groups) (interval_of p) (latency_of p);
+          events = stamped copies 0 (bounds_moments n (inside_at st k before []) counters bs)
+              ++ body_events p copies k (n + counters_size counters) 0 st owned ops (group_values (loops_of in_lanes counters bs)) groups;
+        }
     timed (outer counters style owned stages) k n st copies (outer_ran bs counts groups) =
         let p : PlainNodePlan = node_plan plan k in
         let runs : List (List (Run Stamped)) = group_runs stages k (n + counters_size counters) 0 st owned copies (group_values (loops_of in_lanes counters bs)) groups in

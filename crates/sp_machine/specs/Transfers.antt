@@ -1,7 +1,7 @@
 -- When the words of a transfer move. It asks in the cycle after its start, once for each 16 words, and each time waits for a
--- delay; then a word moves in each cycle. A load writes a word in the cycle after the one in which it moves; a store reads
+-- delay; one that moves no word never asks. Then a word moves in each cycle. A load writes a word in the cycle after the one in which it moves; a store reads
 -- two words ahead.
-use Rattle.std.specs.Prelude.{ℕ, zero, suc, ◌+◌, ◌/◌, max, true, false, List, [], ◌∷◌, ◌++◌, map}
+use Rattle.std.specs.Prelude.{ℕ, zero, suc, ◌+◌, ◌/◌, true, false, List, [], ◌∷◌, ◌++◌, map}
 use Rattle.sp_core.specs.Cost.{waits}
 use Rattle.sp_core.specs.Declarations.{kind_of}
 use Rattle.sp_core.specs.Events.{At, Standing, slices, reads, writes, first_of, dram_event, mem_event, rows_turn}
@@ -27,7 +27,7 @@ module _ (delay : ℕ → ℕ) where
   look_cycle (suc (suc j)) = word_cycle j
 
   abbrev pub transfer_took : (words : ℕ) → ℕ
-  transfer_took w = 3 + (w + total delay (max 1 (waits w)))
+  transfer_took w = 3 + (w + total delay (waits w))
 
   module _ (core : PlainCore) (copies : Copies) (n : ℕ) (st : Standing) where
     abbrev pub load_stamped : (dram mem : ℕ) → List Part → (j : ℕ) → (offsets : List (List ℕ)) → (words : List ℕ) → List Stamped

@@ -7,7 +7,7 @@ ghost use Rattle.sp_core.specs.ExampleLoops.{counting_down, sum_core, two_loops}
 ghost use Rattle.sp_core.specs.ExampleTransfers.{copied, copied_at_once};
 ghost use Rattle.sp_core.specs.Meaning.{meaning};
 ghost use Rattle.sp_core.specs.Scope.{in_lanes};
-ghost use Rattle.sp_machine.specs.Examples.{always, asks_at, at, chosen, chosen_plan, copied_at_once_plan, copied_plan, counting_plan, shown_in, stores_plan, sum_plan, took_in, two_loops_plan};
+ghost use Rattle.sp_machine.specs.Examples.{always, asks_at, at, chosen, chosen_plan, copied_at_once_plan, copied_plan, counting_plan, idling, idling_plan, shown_in, stores_plan, sum_plan, took_in, two_loops_plan};
 ghost use Rattle.sp_machine.specs.Timeline.{inner_took};
 ghost use Rattle.sp_machine.specs.Transfers.{look_cycle, transfer_took, word_cycle};
 ghost use Rattle.std.specs.Prelude.{[], ◌≡◌, ◌∷◌, Some, replicate};
@@ -17,14 +17,13 @@ pub fn worked_parts()
     ensures no_group { inner_took 0 4 6 ≡ 2 }
     ensures one_group { inner_took 1 4 6 ≡ 8 }
     ensures groups { inner_took 8 4 6 ≡ 36 }
-    ensures groups_without_operations { inner_took 3 1 0 ≡ 4 }
     ensures first_word { word_cycle (λ ask. 5) 0 ≡ 7 }
     ensures last_word_of_a_burst { word_cycle (λ ask. 5) 15 ≡ 22 }
     ensures first_word_of_the_next_burst { word_cycle (λ ask. 5) 16 ≡ 28 }
     ensures looks_at_its_start { look_cycle (λ ask. 5) 0 ≡ 0 }
     ensures looks_when_it_asks { look_cycle (λ ask. 5) 1 ≡ 1 }
     ensures looks_two_words_ahead { look_cycle (λ ask. 5) 18 ≡ 28 }
-    ensures transfer_of_no_word { transfer_took (λ ask. 5) 0 ≡ 8 }
+    ensures transfer_of_no_word { transfer_took (λ ask. 5) 0 ≡ 3 }
     ensures transfer_of_a_burst { transfer_took (λ ask. 5) 16 ≡ 24 }
     ensures transfer_of_two_bursts { transfer_took (λ ask. 5) 17 ≡ 30 }
 {}
@@ -40,6 +39,7 @@ pub fn worked_timelines()
         at 3 0 0 ∷ asks_at 5 ∷ at 9 1 0 ∷ at 10 0 0 ∷ at 10 1 0 ∷ at 11 0 0 ∷ asks_at 13 ∷ at 12 0 0 ∷ at 17 2 0 ∷ at 13 0 0 ∷ at 18 2 0 ∷ []) }
     ensures block_taken { shown_in chosen chosen_plan (always 0) (meaning in_lanes 0 chosen (input (3 ∷ []) [])) ≡ Some (at 4 0 0 ∷ at 8 1 0 ∷ []) }
     ensures block_left_out { shown_in chosen chosen_plan (always 0) (meaning in_lanes 0 chosen (input (2 ∷ []) [])) ≡ Some (at 4 0 0 ∷ []) }
+    ensures groups_at_once { shown_in idling idling_plan (always 0) (meaning in_lanes 0 idling (input [] [])) ≡ Some (at 1 0 0 ∷ at 1 0 0 ∷ at 1 0 0 ∷ []) }
 {}
 
 /// How many cycles runs take: two fewer than they cost, where no transfer waits less than the greatest delay.
@@ -55,4 +55,5 @@ pub fn worked_lengths()
     ensures masked_lane { took_in (stores_in_lanes 3) stores_plan (always 0) (meaning in_lanes 0 (stores_in_lanes 3) (input [] (replicate 5 9 ∷ []))) ≡ Some 29 }
     ensures block_taken { took_in chosen chosen_plan (always 0) (meaning in_lanes 0 chosen (input (3 ∷ []) [])) ≡ Some 12 }
     ensures block_left_out { took_in chosen chosen_plan (always 0) (meaning in_lanes 0 chosen (input (2 ∷ []) [])) ≡ Some 11 }
+    ensures groups_at_once { took_in idling idling_plan (always 0) (meaning in_lanes 0 idling (input [] [])) ≡ Some 2 }
 {}

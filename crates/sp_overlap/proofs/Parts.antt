@@ -18,7 +18,7 @@ use Rattle.sp_plan.specs.Named.{list_names, counters_names, spans_names, names, 
 use Rattle.sp_plan.specs.PlainPlan.{PlainNodePlan, PlainPlan, mem_plan, node_plan}
 use Rattle.sp_time.specs.Beats.{Slot, Run, took_at, starts}
 use Rattle.sp_machine.specs.Stamps.{Stamped, Copies, stamped, later, list_stamped, in_a_row, ◌▸◌, inside_of, list_run, kept_run}
-use Rattle.sp_machine.specs.Timeline.{timed, group_runs, stage_runs, turn_runs, body_events, issued, fresh_events, stage_events, group_events, in_copies, slots_of, times_of}
+use Rattle.sp_machine.specs.Timeline.{timed, group_runs, stage_runs, turn_runs, body_events, issued, issued_by, fresh_events, stage_events, group_events, in_copies, slots_of, times_of}
 use Rattle.sp_machine.specs.Told.{IsPlanned, ArePlanned}
 use Rattle.sp_machine.specs.Transfers.{Delays, load_stamped, store_stamped, slice_stamped}
 use Rattle.sp_overlap.specs.Apart.{StandAt}
@@ -193,7 +193,7 @@ module _ (core : PlainCore) where
           in_append core st.path copies owned k n (n + (counters_size counters + length ops)) (stamped copies 0 (bounds_moments n (inside_at st k before []) counters bs)) _
           (in_stamped core st.path (record { node = k; when = before } ∷ []) copies owned k n (n + (counters_size counters + length ops)) (inside_at st k before []) refl refl 0 _
           (bounds_in core st.path (record { node = k; when = before } ∷ []) copies owned k n (n + (counters_size counters + length ops)) (inside_at st k before []) refl refl n counters bs (omega arith) (omega arith) (stand_left core n (counters_names counters) (list_names ops) named)))
-          (body_in st.path copies owned n (n + (counters_size counters + length ops)) (node_plan plan k) k (n + counters_size counters) 0 st owned ops (group_values (loops_of in_lanes counters bs)) groups refl (omega arith) (omega arith)
+          (body_in st.path copies owned n (n + (counters_size counters + length ops)) (issued_by core ops (node_plan plan k)) k (n + counters_size counters) 0 st owned ops (group_values (loops_of in_lanes counters bs)) groups refl (omega arith) (omega arith)
           (stand_right core n (n + counters_size counters) (counters_names counters) (list_names ops) (ap (λ x. n + x) (counters_length counters)) named) (λ m e. e))
       node_in (outer counters style owned stages) k n st copies (outer_ran bs counts groups) p named =
           let runs = group_runs core plan delays stages k (n + counters_size counters) 0 st owned copies (group_values (loops_of in_lanes counters bs)) groups in

@@ -28,7 +28,7 @@ use Rattle.sp_time.specs.Lists.{Each, Pairs}
 use Rattle.sp_machine.specs.Laws.{told}
 use Rattle.sp_machine.specs.Sound.{AreTimed as AreTimesRight, IsSound, AreSound, RunsSound, TurnsSound}
 use Rattle.sp_machine.specs.Stamps.{Stamped, Copies, stamped, later, list_run, kept_run, ◌▸◌}
-use Rattle.sp_machine.specs.Timeline.{timed, group_runs, stage_runs, turn_runs, body_events, fresh_events, stage_events, group_events, in_copies, slots_of}
+use Rattle.sp_machine.specs.Timeline.{timed, group_runs, stage_runs, turn_runs, issued_by, body_events, fresh_events, stage_events, group_events, in_copies, slots_of}
 use Rattle.sp_machine.specs.Transfers.{Delays}
 use Rattle.sp_machine.proofs.InnerOrder.{MomentsMet, AreMet}
 use Rattle.sp_overlap.specs.Apart.{StandAt}
@@ -309,7 +309,7 @@ module _ (core : PlainCore) (forms : PlainForms) (meets : List Meet) (plan : Pla
     pub node_sound : (node : PlainNode) (k n : ℕ) (st : Standing) (copies : Copies) (h : History) (around : Around) (earlier : List ℕ) → Keeps node k n around earlier → Placed st → Pairs Met (timed core plan delays node k n st copies h).events
         → IsSound core plan delays (schemes_of plan) meets node k n st copies h
     node_sound (inner counters owned ops comb) k n st copies (inner_ran bs counts groups) around earlier w placed met =
-        let body : List Stamped = body_events core plan delays (node_plan plan k) copies k (n + counters_size counters) 0 st owned ops (group_values (loops_of in_lanes counters bs)) groups in (
+        let body : List Stamped = body_events core plan delays (issued_by core ops (node_plan plan k)) copies k (n + counters_size counters) 0 st owned ops (group_values (loops_of in_lanes counters bs)) groups in (
           bounds_look core around n (inside_at st k before []) counters bs (and_parts _ _ (and_parts _ _ (and_parts _ _ w.right).0).0).1,
           record { around = placed; no_stream = no_stream k; no_owner = owns_nothing core k (k + 1) w.own (omega arith) },
           times_right (node_plan plan k) counters owned ops comb n w.kinds w.times,

@@ -24,11 +24,12 @@ use Rattle.sp_plan.specs.Validity.{schemes_of, is_kind_of, is_timed}
 use Rattle.sp_time.specs.Lists.{Each, Pairs}
 use Rattle.sp_words.specs.declared.kind.Kind.{Kind}
 use Rattle.sp_words.specs.declared.kind.Kind.TheVariants as kinds
-use Rattle.sp_machine.specs.InOrder.{IsPlaced}
+use Rattle.sp_machine.specs.InOrder.{is_done, IsPlaced}
 use Rattle.sp_machine.specs.Laws.{told}
 use Rattle.sp_machine.specs.Stamps.{Stamped, Copies, stamp, stamped}
-use Rattle.sp_machine.specs.Timeline.{timed, body_events}
+use Rattle.sp_machine.specs.Timeline.{timed, times_of, issued_by, body_events}
 use Rattle.sp_machine.specs.Transfers.{Delays}
+use Rattle.sp_machine.proofs.AtOnce.{by_pace, AreIdle, body_idle}
 use Rattle.sp_ports.specs.Banks.{AreAtOnePort, SharePort, IsAtForms, IsAtOwnForms, ShareNoPort}
 use Rattle.sp_ports.specs.Laws.{IsInnerRight, InnersShareNoPort}
 use Rattle.sp_ports.proofs.Bodies.{bodies_share_no_port, body_at_forms}
@@ -115,15 +116,38 @@ met_last core meets copies cycle (slices x ∷ ms) rest h = met_last core meets 
 met_last core meets copies cycle (renews m ∷ ms) rest h = met_last core meets copies cycle ms rest h
 met_last core meets copies cycle (keeps m w ∷ ms) rest h = met_last core meets copies cycle ms rest h
 
+-- where there is nothing to do, there is no port
+idle_has_none : (core : PlainCore) (m : Moment) → is_done core m ≡ false → HasNoPort core m
+idle_has_none core (touches e) h = absurd (true≢false h)
+idle_has_none core (slices x) h = tt
+idle_has_none core (renews m) h = tt
+idle_has_none core (keeps m w) h = tt
+
+idle_share_none : (core : PlainCore) (forms : PlainForms) (schemes : List (Option Banking)) (xs : List Stamped) → AreIdle core xs → Pairs (ShareNoPort core forms schemes) xs
+idle_share_none core forms schemes [] h = tt
+idle_share_none core forms schemes (x ∷ xs) h = (free core forms schemes x xs (idle_has_none core x.moment h.0), idle_share_none core forms schemes xs h.1)
+
+idle_at_forms : (core : PlainCore) (forms : PlainForms) (symbols : List At → ℕ → ℤ) (xs : List Stamped) → AreIdle core xs → Each (λ s. IsAtForms core forms symbols s.moment) xs
+idle_at_forms core forms symbols [] h = tt
+idle_at_forms core forms symbols (x ∷ xs) h = (go x.moment h.0, idle_at_forms core forms symbols xs h.1)
+  where
+    go : (m : Moment) → is_done core m ≡ false → IsAtForms core forms symbols m
+    go (touches e) q = absurd (true≢false q)
+    go (slices s) q = tt
+    go (renews m) q = tt
+    go (keeps m w) q = tt
+
 -- by what is known of the body alone
 pub inner_shares_none : (core : PlainCore) (plan : PlainPlan) (delays : Delays) (forms : PlainForms) (meets : List Meet) (symbols : List At → ℕ → ℤ) (around : Around) (k n : ℕ) (st : Standing) (copies : Copies)
     (counters : List PlainCounter) (owned : List ℕ) (ops : List PlainOp) (comb : Option ℕ) (bs : List Bounds) (groups : List (List Entry)) → IsPlaced core k st → IsInnerRight core forms meets plan around k n counters owned ops comb
-    → Each (λ s. IsAtForms core forms symbols s.moment) (body_events core plan delays (node_plan plan k) copies k (n + counters_size counters) 0 st owned ops (group_values (loops_of in_lanes counters bs)) groups)
-    → are_met core meets (events_of (told (body_events core plan delays (node_plan plan k) copies k (n + counters_size counters) 0 st owned ops (group_values (loops_of in_lanes counters bs)) groups))) ≡ true
-    → Pairs (ShareNoPort core forms (schemes_of plan)) (stamped copies 0 (bounds_moments n (inside_at st k before []) counters bs) ++ body_events core plan delays (node_plan plan k) copies k (n + counters_size counters) 0 st owned ops (group_values (loops_of in_lanes counters bs)) groups)
+    → Each (λ s. IsAtForms core forms symbols s.moment) (body_events core plan delays (issued_by core ops (node_plan plan k)) copies k (n + counters_size counters) 0 st owned ops (group_values (loops_of in_lanes counters bs)) groups)
+    → are_met core meets (events_of (told (body_events core plan delays (issued_by core ops (node_plan plan k)) copies k (n + counters_size counters) 0 st owned ops (group_values (loops_of in_lanes counters bs)) groups))) ≡ true
+    → Pairs (ShareNoPort core forms (schemes_of plan)) (stamped copies 0 (bounds_moments n (inside_at st k before []) counters bs) ++ body_events core plan delays (issued_by core ops (node_plan plan k)) copies k (n + counters_size counters) 0 st owned ops (group_values (loops_of in_lanes counters bs)) groups)
 inner_shares_none core plan delays forms meets symbols around k n st copies counters owned ops comb bs groups placed w at met =
     after_bounds core forms (schemes_of plan) copies 0 bounds _ (bounds_ports core around n (inside_at st k before []) counters bs w.bounds)
-    (by_plan (node_plan plan k) w.kind w.timed at met)
+    (by_pace core ops (node_plan plan k) (λ r. Each (λ s. IsAtForms core forms symbols s.moment) (happens r) → are_met core meets (events_of (told (happens r))) ≡ true → Pairs (ShareNoPort core forms (schemes_of plan)) (happens r))
+    (λ z idle a m. idle_share_none core forms (schemes_of plan) _ (body_idle core plan delays (inner_plan (times_of (node_plan plan k)) 0 0 false) copies k (n + counters_size counters) 0 st owned ops (group_values (loops_of in_lanes counters bs)) groups idle))
+    (by_plan (node_plan plan k) w.kind w.timed) at met)
   where
     bounds : List Moment
     bounds = bounds_moments n (inside_at st k before []) counters bs
@@ -139,7 +163,7 @@ inner_shares_none core plan delays forms meets symbols around k n st copies coun
     by_plan other_plan e t a m = absurd (false≢true e)
 
 -- and by plans of its kind
-pub body_forms : (core : PlainCore) (plan : PlainPlan) (delays : Delays) (forms : PlainForms) (meets : List Meet) (symbols : List At → ℕ → ℤ) (around : Around) (k n : ℕ) (st : Standing) (copies : Copies)
+body_forms : (core : PlainCore) (plan : PlainPlan) (delays : Delays) (forms : PlainForms) (meets : List Meet) (symbols : List At → ℕ → ℤ) (around : Around) (k n : ℕ) (st : Standing) (copies : Copies)
     (counters : List PlainCounter) (owned : List ℕ) (ops : List PlainOp) (comb : Option ℕ) (values : List (List ℤ)) (groups : List (List Entry)) → (p : PlainNodePlan) → is_kind_of (inner counters owned ops comb) p ≡ true
     → AreNumbered core (n + counters_size counters) (list_numbers ops)
     → Each (λ s. IsAtOwnForms core forms symbols s.moment) (body_events core plan delays p copies k (n + counters_size counters) 0 st owned ops values groups)
@@ -148,6 +172,20 @@ body_forms core plan delays forms meets symbols around k n st copies counters ow
     body_at_forms core plan delays forms symbols k (n + counters_size counters) st copies owned ops times ii latency serial values groups right at
 body_forms core plan delays forms meets symbols around k n st copies counters owned ops comb values groups (outer_plan slots chains) e right at = absurd (false≢true e)
 body_forms core plan delays forms meets symbols around k n st copies counters owned ops comb values groups other_plan e right at = absurd (false≢true e)
+
+-- as the body is issued
+pub issued_forms : (core : PlainCore) (plan : PlainPlan) (delays : Delays) (forms : PlainForms) (meets : List Meet) (symbols : List At → ℕ → ℤ) (around : Around) (k n : ℕ) (st : Standing) (copies : Copies)
+    (counters : List PlainCounter) (owned : List ℕ) (ops : List PlainOp) (comb : Option ℕ) (values : List (List ℤ)) (groups : List (List Entry)) → (p : PlainNodePlan) → is_kind_of (inner counters owned ops comb) p ≡ true
+    → AreNumbered core (n + counters_size counters) (list_numbers ops)
+    → Each (λ s. IsAtOwnForms core forms symbols s.moment) (body_events core plan delays (issued_by core ops p) copies k (n + counters_size counters) 0 st owned ops values groups)
+    → Each (λ s. IsAtForms core forms symbols s.moment) (body_events core plan delays (issued_by core ops p) copies k (n + counters_size counters) 0 st owned ops values groups)
+issued_forms core plan delays forms meets symbols around k n st copies counters owned ops comb values groups p e right =
+    by_pace core ops p (λ r. Each (λ s. IsAtOwnForms core forms symbols s.moment) (happens r) → Each (λ s. IsAtForms core forms symbols s.moment) (happens r))
+    (λ z idle at. idle_at_forms core forms symbols _ (body_idle core plan delays (inner_plan (times_of p) 0 0 false) copies k (n + counters_size counters) 0 st owned ops values groups idle))
+    (body_forms core plan delays forms meets symbols around k n st copies counters owned ops comb values groups p e right)
+  where
+    happens : PlainNodePlan → List Stamped
+    happens r = body_events core plan delays r copies k (n + counters_size counters) 0 st owned ops values groups
 
 pub inners_share_no_port : (core : PlainCore) (plan : PlainPlan) (delays : Delays) → InnersShareNoPort core plan delays
 unfolding timed

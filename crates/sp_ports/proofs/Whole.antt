@@ -25,7 +25,7 @@ use Rattle.sp_machine.specs.InOrder.{IsPlaced}
 use Rattle.sp_machine.specs.Laws.{told}
 use Rattle.sp_machine.specs.Sound.{IsSound, AreSound, RunsSound, TurnsSound}
 use Rattle.sp_machine.specs.Stamps.{Stamped, Copies, moved, later, stamped, ◌▸◌, list_run, kept_run}
-use Rattle.sp_machine.specs.Timeline.{timed, group_runs, stage_runs, turn_runs, core_timed, body_events, in_copies, slots_of, fresh_events, stage_events, group_events}
+use Rattle.sp_machine.specs.Timeline.{timed, group_runs, stage_runs, turn_runs, core_timed, issued_by, body_events, in_copies, slots_of, fresh_events, stage_events, group_events}
 use Rattle.sp_machine.specs.Transfers.{Delays}
 use Rattle.sp_machine.proofs.Told.{told_node}
 use Rattle.sp_overlap.specs.Whole.{IsTimed, AreTimed, HasPlan}
@@ -34,7 +34,7 @@ use Rattle.sp_overlap.proofs.Whole.{plans_are_sound}
 use Rattle.sp_ports.specs.Banks.{IsAtOwnForms, ShareNoPort}
 use Rattle.sp_ports.specs.Laws.{IsInnerRight}
 use Rattle.sp_ports.specs.Whole.{InnersShareNone, GroupsShareNone, StagesShareNone, TurnsShareNone, PlannedInnersShareNoPort}
-use Rattle.sp_ports.proofs.Inners.{inner_shares_none, body_forms}
+use Rattle.sp_ports.proofs.Inners.{inner_shares_none, issued_forms}
 use Rattle.sp_ports.proofs.Numbers.{AreNumbered, numbered_left, numbered_right, list_many, two_many, counters_many, node_many}
 
 each_split : {A : Type 0} (Q : A → Type 0) (a b : List A) → Each Q (a ++ b) → Each Q a × Each Q b
@@ -181,9 +181,9 @@ module _ (core : PlainCore) (forms : PlainForms) (meets : List Meet) (plan : Pla
         let values = group_values (loops_of in_lanes counters bs) in
         inner_shares_none core plan delays forms meets symbols around k n st copies counters owned ops comb bs groups sound.1
         (record { bounds = (and_parts _ _ (and_parts _ _ (and_parts _ _ w.right).0).0).1; kind = w.kinds; timed = w.times; grouped = w.groups; separated = w.separated })
-        (body_forms core plan delays forms meets symbols around k n st copies counters owned ops comb values groups (node_plan plan k) w.kinds
+        (issued_forms core plan delays forms meets symbols around k n st copies counters owned ops comb values groups (node_plan plan k) w.kinds
         (numbered_right core n (n + counters_size counters) (counters_numbers counters) (list_numbers ops) (ap (λ x. n + x) (counters_many counters)) w.numbered)
-        (each_split AtForms (stamped copies 0 (bounds_moments n (inside_at st k before []) counters bs)) (body_events core plan delays (node_plan plan k) copies k (n + counters_size counters) 0 st owned ops values groups) at).1) sound.3
+        (each_split AtForms (stamped copies 0 (bounds_moments n (inside_at st k before []) counters bs)) (body_events core plan delays (issued_by core ops (node_plan plan k)) copies k (n + counters_size counters) 0 st owned ops values groups) at).1) sound.3
     node_shares_none (outer counters style owned stages) k n st copies (outer_ran bs counts groups) around earlier w sound at =
         let values = group_values (loops_of in_lanes counters bs) in
         let runs = group_runs core plan delays stages k (n + counters_size counters) 0 st owned copies values groups in

@@ -22,7 +22,7 @@ use Rattle.sp_words.specs.declared.kind.Style.{Style}
 use Rattle.sp_machine.specs.Laws.{told}
 use Rattle.sp_machine.specs.Sound.{IsSound, AreSound, RunsSound, TurnsSound}
 use Rattle.sp_machine.specs.Stamps.{Stamped, Copies, stamped}
-use Rattle.sp_machine.specs.Timeline.{timed, body_events, in_copies}
+use Rattle.sp_machine.specs.Timeline.{timed, issued_by, body_events, in_copies}
 use Rattle.sp_machine.specs.Transfers.{Delays}
 use Rattle.sp_machine.proofs.Told.{told_node}
 use Rattle.sp_overlap.specs.Whole.{IsTimed, AreTimed}
@@ -30,7 +30,7 @@ use Rattle.sp_overlap.proofs.Planned.{Holds, AllHold, outer_holds, fsm_holds, br
 use Rattle.sp_overlap.proofs.Whole.{plans_are_sound}
 use Rattle.sp_ports.specs.Banks.{IsAtOwnForms}
 use Rattle.sp_ports.specs.Whole.{InnersShareNone, GroupsShareNone, StagesShareNone, TurnsShareNone}
-use Rattle.sp_ports.proofs.Inners.{inner_shares_none, body_forms}
+use Rattle.sp_ports.proofs.Inners.{inner_shares_none, issued_forms}
 use Rattle.sp_ports.proofs.Numbers.{AreNumbered, numbered_left, numbered_right, list_many, two_many, counters_many, node_many}
 use Rattle.sp_group_forms.specs.AtForms as at_forms
 use Rattle.sp_group_forms.specs.AtForms.{InnersAtForms, GroupsAtForms, StagesAtForms, TurnsAtForms}
@@ -170,9 +170,9 @@ module _ (core : PlainCore) (forms : PlainForms) (meets : List Meet) (plan : Pla
         let values = group_values (loops_of in_lanes counters bs) in
         inner_shares_none core plan delays forms meets at.0 around k n st copies counters owned ops comb bs groups sound.1
         (record { bounds = (and_parts _ _ (and_parts _ _ (and_parts _ _ w.right).0).0).1; kind = w.kinds; timed = w.times; grouped = w.groups; separated = w.separated })
-        (body_forms core plan delays forms meets at.0 around k n st copies counters owned ops comb values groups (node_plan plan k) w.kinds
+        (issued_forms core plan delays forms meets at.0 around k n st copies counters owned ops comb values groups (node_plan plan k) w.kinds
         (numbered_right core n (n + counters_size counters) (counters_numbers counters) (list_numbers ops) (ap (λ x. n + x) (counters_many counters)) w.numbered)
-        (each_split (AtForms at.0) (stamped copies 0 (bounds_moments n (inside_at st k before []) counters bs)) (body_events core plan delays (node_plan plan k) copies k (n + counters_size counters) 0 st owned ops values groups)
+        (each_split (AtForms at.0) (stamped copies 0 (bounds_moments n (inside_at st k before []) counters bs)) (body_events core plan delays (issued_by core ops (node_plan plan k)) copies k (n + counters_size counters) 0 st owned ops values groups)
         (node_told at.0 (inner counters owned ops comb) k n st copies (inner_ran bs counts groups) at.1)).1) sound.3
     node_shares_none (outer counters style owned stages) k n st copies (outer_ran bs counts groups) around earlier w sound at =
         groups_share_none stages k (n + counters_size counters) 0 st owned copies (group_values (loops_of in_lanes counters bs)) groups (within around counters owned) (earlier ++ owned) (outer_keeps counters style owned stages k n around earlier w) sound.2 at

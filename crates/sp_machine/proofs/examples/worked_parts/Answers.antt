@@ -11,9 +11,6 @@ returns-clause-one_group c = refl
 pub returns-clause-groups : goal.returns-clause-groups
 returns-clause-groups c = refl
 
-pub returns-clause-groups_without_operations : goal.returns-clause-groups_without_operations
-returns-clause-groups_without_operations c = refl
-
 pub returns-clause-first_word : goal.returns-clause-first_word
 returns-clause-first_word c = refl
 

@@ -9,7 +9,7 @@ use Rattle.sp_core.specs.Meaning.{meaning, run_core}
 use Rattle.sp_core.specs.Operations.{operations_after}
 use Rattle.sp_core.specs.Sequential.{run, run_stages}
 use Rattle.sp_core.specs.Step.{pure, ◌>>=◌, stop, out_of_turns, look, change, in_order, repeated}
-use Rattle.sp_machine.specs.Examples.{chosen}
+use Rattle.sp_machine.specs.Examples.{chosen, idling}
 use Rattle.sp_machine.specs.Timeline.{timed, group_runs, stage_runs, turn_runs}
 use Rattle.sp_machine.proofs.examples.worked_timelines.Goals as goal
 
@@ -36,3 +36,7 @@ returns-clause-block_taken c = refl
 pub returns-clause-block_left_out : goal.returns-clause-block_left_out
 unfolding meaning run_core run run_stages operations_after pure ◌>>=◌ stop out_of_turns look change in_order repeated moments group_moments stage_moments turn_moments value_of has_sign wrap modulo floor_div word_add word_sub word_mul word_lt word_eq timed group_runs stage_runs turn_runs chosen
 returns-clause-block_left_out c = refl
+
+pub returns-clause-groups_at_once : goal.returns-clause-groups_at_once
+unfolding meaning run_core run run_stages operations_after pure ◌>>=◌ stop out_of_turns look change in_order repeated moments group_moments stage_moments turn_moments value_of has_sign wrap modulo floor_div word_add word_sub word_mul word_lt word_eq timed group_runs stage_runs turn_runs idling
+returns-clause-groups_at_once c = refl

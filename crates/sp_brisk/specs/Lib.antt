@@ -1,0 +1,2 @@
+pub mod Brisk
+pub mod Laws

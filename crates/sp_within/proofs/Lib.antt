@@ -1,0 +1,4 @@
+pub mod Beats
+pub mod Sums
+pub mod Weights
+pub mod Within
