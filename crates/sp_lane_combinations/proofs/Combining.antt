@@ -1,6 +1,6 @@
 -- What a combination does: it combines a word with that of its accumulator, if that holds one of this run.
 use Rattle.std.proofs.Common.{◌≡◌, ℕ, zero, suc, ◌+◌, ◌<◌, true, false, List, [], ◌∷◌, ◌++◌, length, Option, Some, None, refl, sym, ◌∙◌, ap, arith, ◌==◌}
-use Rattle.std.proofs.lemmas.List.{length-append}
+use Rattle.std.proofs.lemmas.List.{append_assoc, length-append}
 use Rattle.sp_words.specs.declared.types.Ty.{Ty}
 use Rattle.sp_words.specs.declared.types.Ty.TheVariants.{Bit}
 use Rattle.sp_words.specs.Memory.{Contents}
@@ -44,34 +44,34 @@ module _ (core : PlainCore) where
   combined_in (Some b) acc x s = put core b 1 (put core acc x s)
 
   module _ (scope : Scope) where
-    step_on : (x : PlainOp) (ops : List PlainOp) (done : List Entry) (s u : Store) (e : Entry) → operation core scope x done s ≡ went e u → operations_after core scope done (x ∷ ops) s ≡ operations_after core scope (done ++ e ∷ []) ops u
+    pub step_on : (x : PlainOp) (ops : List PlainOp) (done : List Entry) (s u : Store) (e : Entry) → operation core scope x done s ≡ went e u → operations_after core scope done (x ∷ ops) s ≡ operations_after core scope (done ++ e ∷ []) ops u
     unfolding operations_after ◌>>=◌
     step_on x ops done s u e i = ap (λ (r : Went Entry). elim r as (λ _. Went (List Entry)) [ went a v ↦ operations_after core scope (done ++ a ∷ []) ops v | stopped ↦ stopped | more ↦ more ]) i
 
-    computed_on : (x : PlainOp) (ops : List PlainOp) (done : List Entry) (s : Store) (w : ℕ) → operation core scope x done s ≡ went (gave w) s → operations_after core scope done (x ∷ ops) s ≡ operations_after core scope (done ++ gave w ∷ []) ops s
+    pub computed_on : (x : PlainOp) (ops : List PlainOp) (done : List Entry) (s : Store) (w : ℕ) → operation core scope x done s ≡ went (gave w) s → operations_after core scope done (x ∷ ops) s ≡ operations_after core scope (done ++ gave w ∷ []) ops s
     computed_on x ops done s w i = step_on x ops done s s (gave w) i
 
     -- words after one and two more entries
-    next_word : (done : List Entry) (e : Entry) (k w : ℕ) → k < length done → word_at done k ≡ w → word_at (done ++ e ∷ []) k ≡ w
+    pub next_word : (done : List Entry) (e : Entry) (k w : ℕ) → k < length done → word_at done k ≡ w → word_at (done ++ e ∷ []) k ≡ w
     next_word done e k w lt is = word_kept done (e ∷ []) k lt ∙ is
 
-    longer : (done : List Entry) (e : Entry) (n : ℕ) → length done ≡ n → length (done ++ e ∷ []) ≡ suc n
+    pub longer : (done : List Entry) (e : Entry) (n : ℕ) → length done ≡ n → length (done ++ e ∷ []) ≡ suc n
     longer done e n h = omega (arith, h, length-append done (e ∷ []))
 
     -- an operator on two words, a choice, a write
-    two_runs : (comb : Comb) (ty : Ty) (a b x y : ℕ) (done : List Entry) (s : Store) → word_at done a ≡ x → word_at done b ≡ y → operation core scope (computes (Two (operator_of comb)) ty (a ∷ b ∷ [])) done s ≡ went (gave (two_word (operator_of comb) ty x y)) s
+    pub two_runs : (comb : Comb) (ty : Ty) (a b x y : ℕ) (done : List Entry) (s : Store) → word_at done a ≡ x → word_at done b ≡ y → operation core scope (computes (Two (operator_of comb)) ty (a ∷ b ∷ [])) done s ≡ went (gave (two_word (operator_of comb) ty x y)) s
     unfolding pure
     two_runs comb ty a b x y done s e f = ap (λ z. went (gave (two_word (operator_of comb) ty z (word_at done b))) s) e ∙ ap (λ z. went (gave (two_word (operator_of comb) ty x z)) s) f
 
-    mux_runs : (ty : Ty) (c a b p x y : ℕ) (done : List Entry) (s : Store) → word_at done c ≡ p → word_at done a ≡ x → word_at done b ≡ y → operation core scope (computes Mux ty (c ∷ a ∷ b ∷ [])) done s ≡ went (gave (chosen p x y)) s
+    pub mux_runs : (ty : Ty) (c a b p x y : ℕ) (done : List Entry) (s : Store) → word_at done c ≡ p → word_at done a ≡ x → word_at done b ≡ y → operation core scope (computes Mux ty (c ∷ a ∷ b ∷ [])) done s ≡ went (gave (chosen p x y)) s
     unfolding pure
     mux_runs ty c a b p x y done s e f g =
         ap (λ z. went (gave (chosen z (word_at done a) (word_at done b))) s) e ∙ ap (λ z. went (gave (chosen p z (word_at done b))) s) f ∙ ap (λ z. went (gave (chosen p x z)) s) g
 
-    put_runs : (ty : Ty) (m k w : ℕ) (done : List Entry) (s : Store) → HasPlace core m → word_at done k ≡ w → operation core scope (write_op ty m (k ∷ [])) done s ≡ went (touched [] w) (put core m w s)
+    pub put_runs : (ty : Ty) (m k w : ℕ) (done : List Entry) (s : Store) → HasPlace core m → word_at done k ≡ w → operation core scope (write_op ty m (k ∷ [])) done s ≡ went (touched [] w) (put core m w s)
     put_runs ty m k w done s h e = ap (λ z. access core scope Write m (z ∷ []) s) e ∙ write_runs core scope m w s h
 
-    literal_runs : (done : List Entry) (u : Store) → operation core scope (literal_op Bit 1) done u ≡ went (gave 1) u
+    pub literal_runs : (done : List Entry) (u : Store) → operation core scope (literal_op Bit 1) done u ≡ went (gave 1) u
     unfolding pure
     literal_runs done u = refl
 
@@ -104,28 +104,30 @@ module _ (core : PlainCore) where
           let b = fold_builds q.0 s q.1 in
           (q.0, q.1, ap (store_of s) (sym b.1 ∙ ran))
 
-      -- a reduction, up to the writes: by the word that tells whether it has begun, and what the second read gives
+      -- a reduction, up to what comes after its choice: by the word that tells whether it has begun, and what the second read gives
       module _ (begun : ℕ) where
         abbrev writes : List PlainOp
         writes = write_op ty acc ((at + 3) ∷ []) ∷ literal_op Bit 1 ∷ write_op Bit begun ((at + 5) ∷ []) ∷ []
 
-        abbrev second : PlainOp
+        abbrev pub second : PlainOp
         second = under at (read_op ty acc [])
 
-        abbrev third : PlainOp
+        abbrev pub third : PlainOp
         third = computes (Two (operator_of comb)) ty ((at + 1) ∷ word ∷ [])
 
-        abbrev fourth : PlainOp
+        abbrev pub fourth : PlainOp
         fourth = computes Mux ty (at ∷ (at + 2) ∷ word ∷ [])
 
-        pub record Front (s : Store) (x : ℕ) : Type 0 where
+        pub record Front (rest : List PlainOp) (s : Store) (x : ℕ) : Type 0 where
           pub done : List Entry
+          pub new : List Entry
+          pub grown : done ≡ es ++ new
           pub long : length done ≡ at + 4
           pub word_there : word_at done (at + 3) ≡ x
-          pub ran : operations_after core scope es (reduce_ops at word acc begun ty comb) s ≡ operations_after core scope done writes s
+          pub ran : operations_after core scope es (read_op Bit begun [] ∷ second ∷ third ∷ fourth ∷ rest) s ≡ operations_after core scope done rest s
 
-        front : (p a : ℕ) (e : Entry) (s : Store) → ReadsAs core begun (s begun) p → word_of e ≡ a → operation core scope second (es ++ touched [] p ∷ []) s ≡ went e s → Front s (chosen p (joint a w) w)
-        front p a e s reads is ran =
+        pub front : (rest : List PlainOp) (p a : ℕ) (e : Entry) (s : Store) → ReadsAs core begun (s begun) p → word_of e ≡ a → operation core scope second (es ++ touched [] p ∷ []) s ≡ went e s → Front rest s (chosen p (joint a w) w)
+        front rest p a e s reads is ran =
             let d1 : List Entry = es ++ touched [] p ∷ [] in
             let d2 : List Entry = d1 ++ e ∷ [] in
             let d3 : List Entry = d2 ++ gave (joint a w) ∷ [] in
@@ -144,16 +146,18 @@ module _ (core : PlainCore) where
             let j3 : word_at d3 (at + 2) ≡ joint a w = word_end d2 (gave (joint a w)) (at + 2) (omega (arith, l2)) in
             record {
               done = d4;
+              new = touched [] p ∷ e ∷ gave (joint a w) ∷ gave (chosen p (joint a w) w) ∷ [];
+              grown = append_assoc d2 (gave (joint a w) ∷ []) (gave (chosen p (joint a w) w) ∷ []) ∙ append_assoc d1 (e ∷ []) (gave (joint a w) ∷ gave (chosen p (joint a w) w) ∷ []) ∙ append_assoc es (touched [] p ∷ []) (e ∷ gave (joint a w) ∷ gave (chosen p (joint a w) w) ∷ []);
               long = omega (arith, l4);
               word_there = word_end d3 (gave (chosen p (joint a w) w)) (at + 3) (omega (arith, l3));
               ran =
-                  step_on (read_op Bit begun []) (second ∷ third ∷ fourth ∷ writes) es s s (touched [] p) (read_runs core scope begun p s reads)
-                  ∙ step_on second (third ∷ fourth ∷ writes) d1 s s e ran
-                  ∙ computed_on third (fourth ∷ writes) d2 s (joint a w) (two_runs comb ty (at + 1) word a w d2 s a2 w2)
-                  ∙ computed_on fourth writes d3 s (chosen p (joint a w) w) (mux_runs ty at (at + 2) word p (joint a w) w d3 s p3 j3 w3);
+                  step_on (read_op Bit begun []) (second ∷ third ∷ fourth ∷ rest) es s s (touched [] p) (read_runs core scope begun p s reads)
+                  ∙ step_on second (third ∷ fourth ∷ rest) d1 s s e ran
+                  ∙ computed_on third (fourth ∷ rest) d2 s (joint a w) (two_runs comb ty (at + 1) word a w d2 s a2 w2)
+                  ∙ computed_on fourth rest d3 s (chosen p (joint a w) w) (mux_runs ty at (at + 2) word p (joint a w) w d3 s p3 j3 w3);
             }
 
-        written_end : (s : Store) (x : ℕ) → Front s x → HasPlace core acc → HasPlace core begun → (fs : List Entry) × (operations_after core scope es (reduce_ops at word acc begun ty comb) s ≡ went fs (put core begun 1 (put core acc x s)))
+        written_end : (s : Store) (x : ℕ) → Front writes s x → HasPlace core acc → HasPlace core begun → (fs : List Entry) × (operations_after core scope es (reduce_ops at word acc begun ty comb) s ≡ went fs (put core begun 1 (put core acc x s)))
         written_end s x f h k =
             let d5 : List Entry = f.done ++ touched [] x ∷ [] in
             let d6 : List Entry = d5 ++ gave 1 ∷ [] in
@@ -168,20 +172,20 @@ module _ (core : PlainCore) where
             )
 
         -- the second read, under its mask
-        second_left : (done : List Entry) (s : Store) → word_at done at ≡ 0 → operation core scope second done s ≡ went left_out s
+        pub second_left : (done : List Entry) (s : Store) → word_at done at ≡ 0 → operation core scope second done s ≡ went left_out s
         unfolding pure
         second_left done s e = ap (λ p. (elim (p == 0) as (λ _. Step Entry) [ true ↦ pure left_out | false ↦ access core scope Read acc [] ]) s) e
 
-        second_read : (done : List Entry) (s : Store) → word_at done at ≡ 1 → operation core scope second done s ≡ access core scope Read acc [] s
+        pub second_read : (done : List Entry) (s : Store) → word_at done at ≡ 1 → operation core scope second done s ≡ access core scope Read acc [] s
         second_read done s e = ap (λ p. (elim (p == 0) as (λ _. Step Entry) [ true ↦ pure left_out | false ↦ access core scope Read acc [] ]) s) e
 
-        abbrev done_first : ℕ → List Entry
+        abbrev pub done_first : ℕ → List Entry
         done_first p = es ++ touched [] p ∷ []
 
         reduce_builds : (o : Option ℕ) (s : Store) → Holds (Some begun) acc s o → (fs : List Entry) × (operations_after core scope es (reduce_ops at word acc begun ty comb) s ≡ went fs (put core begun 1 (put core acc (after_word joint o w) s)))
-        reduce_builds None s h = written_end s w (front 0 0 left_out s h.0 refl (second_left (done_first 0) s (word_end es (touched [] 0) at same))) h.1 h.0.0
+        reduce_builds None s h = written_end s w (front writes 0 0 left_out s h.0 refl (second_left (done_first 0) s (word_end es (touched [] 0) at same))) h.1 h.0.0
         reduce_builds (Some a) s h =
-            written_end s (joint a w) (front 1 a (touched [] a) s h.0 refl (second_read (done_first 1) s (word_end es (touched [] 1) at same) ∙ read_runs core scope acc a s h.1)) h.1.0 h.0.0
+            written_end s (joint a w) (front writes 1 a (touched [] a) s h.0 refl (second_read (done_first 1) s (word_end es (touched [] 1) at same) ∙ read_runs core scope acc a s h.1)) h.1.0 h.0.0
 
         reduce_was : (s u : Store) (fs : List Entry) → word_at fs at < 2 → operations_after core scope es (reduce_ops at word acc begun ty comb) s ≡ went fs u → (o : Option ℕ) × Holds (Some begun) acc s o × (put core begun 1 (put core acc (after_word joint o w) s) ≡ u)
         reduce_was s u fs bit ran =
@@ -199,7 +203,7 @@ module _ (core : PlainCore) where
             by : (p : ℕ) → ReadsAs core begun (s begun) p → word_at (done_first p) at ≡ p → operations_after core scope (done_first p) (second ∷ third ∷ fourth ∷ writes) s ≡ went fs u → p < 2
                 → (o : Option ℕ) × Holds (Some begun) acc s o × (put core begun 1 (put core acc (after_word joint o w) s) ≡ u)
             by zero reads there rest lt =
-                let f : Front s w = front 0 0 left_out s reads refl (second_left (done_first 0) s there) in
+                let f : Front writes s w = front writes 0 0 left_out s reads refl (second_left (done_first 0) s there) in
                 let last = split_run core scope (write_op ty acc ((at + 3) ∷ [])) (literal_op Bit 1 ∷ write_op Bit begun ((at + 5) ∷ []) ∷ []) f.done s fs u (sym f.ran ∙ ran) in
                 compared None (reads, write_was core scope acc (word_at f.done (at + 3)) s last.1 last.0 last.2)
             by (suc zero) reads there rest lt =

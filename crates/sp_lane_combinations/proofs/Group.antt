@@ -13,7 +13,7 @@ use Rattle.sp_core.specs.Declarations.{mem, kind_of, dims, is_among, fresh}
 use Rattle.sp_core.specs.History.{Entry, word_at}
 use Rattle.sp_core.specs.MemoryRules.{are_memories_right}
 use Rattle.sp_core.specs.OperationRules.{are_operations_right}
-use Rattle.sp_core.specs.Operations.{operations}
+use Rattle.sp_core.specs.Operations.{operations, operations_after}
 use Rattle.sp_core.specs.Operators.{two_word}
 use Rattle.sp_core.specs.PlainCore.{PlainOp, PlainCounter, PlainCore}
 use Rattle.sp_core.specs.Scope.{plainly, Scope}
@@ -50,10 +50,12 @@ use Rattle.sp_joined_words.specs.Words.{in_turn, words_of, EachHasWord}
 use Rattle.sp_joined_words.proofs.Balanced.{Laws, is_grouped, is_closed}
 use Rattle.sp_joined_words.proofs.Turns.{AllAre, turn_grouped}
 use Rattle.sp_joined_words.proofs.Whole.{words_join}
+use Rattle.sp_lane_combinations.proofs.Arranged.{ordered_is}
 use Rattle.sp_lane_combinations.proofs.Chain.{body, Asks, Chained, Accumulated, FlagsAreBits, IsBit, chained}
 use Rattle.sp_lane_combinations.proofs.Combining.{after_word, combining, Holds, combined_in, builds}
 use Rattle.sp_lane_combinations.proofs.Copies.{Alike, holds_alike, put_alike, left_acc, left_flag, left_other}
 use Rattle.sp_lane_combinations.proofs.Moved.{joined_at, combined_is, laned_is}
+use Rattle.sp_lane_combinations.proofs.Ordered.{HaveWords, builds_in_order}
 use Rattle.sp_lane_combinations.proofs.Registers.{ReadsAs, put_in}
 use Rattle.sp_lane_combinations.proofs.Rights.{plain_front, resets_front, masks_back, right_parts, word_fits, IsRegister, register_usable, CombinesRight, combines_right}
 
@@ -94,9 +96,13 @@ are_words : (ty : Ty) (word : ℕ) (groups : List (List Entry)) → EachHasWord 
 are_words ty word [] h = tt
 are_words ty word (g ∷ groups) h = (h.1, are_words ty word groups h.2)
 
+words_alone : (ty : Ty) (word : ℕ) (groups : List (List Entry)) → EachHasWord ty word groups → HaveWords word groups
+words_alone ty word [] h = tt
+words_alone ty word (g ∷ groups) h = (h.0, words_alone ty word groups h.2)
+
 module _ (core : PlainCore) (lists : ListsFit core) (fitting : WordsFit core) (laws : Laws) (memories : are_memories_right core ≡ true)
     (around inside : Around) (w : Within) (counters : List PlainCounter) (owned : List ℕ) (plain : ℕ → Scope) (lanes : Scope) (count : ℕ) (g : IsGroup core around inside w counters owned plain lanes count) (several : (lanes_of counters == 1) ≡ false)
-    (before : List PlainOp) (begun : Option ℕ) (at word acc : ℕ) (ty : Ty) (comb : Comb) (is : ℕ → Bool) (asks : Asks core plain owned before begun at word acc ty comb is) (balanced : is_balanced (operator_of comb) ty ≡ true)
+    (before : List PlainOp) (begun : Option ℕ) (at word acc : ℕ) (ty : Ty) (comb : Comb) (is : ℕ → Bool) (asks : Asks core plain owned before begun at word acc ty comb is)
     (p : ArePlain (before ++ combining begun at word acc ty comb)) (right : are_operations_right core (within around counters owned) (before ++ combining begun at word acc ty comb) ≡ true) (resets : ResetsFirst (waits_in core owned) (before ++ combining begun at word acc ty comb))
     (acc_out : is_among acc owned ≡ false) (flag_out : (b : ℕ) → begun ≡ Some b → is_among b owned ≡ false) where
   abbrev place : Around
@@ -164,12 +170,11 @@ module _ (core : PlainCore) (lists : ListsFit core) (fitting : WordsFit core) (l
   abbrev last_part : List Entry → List PlainOp
   last_part es = combining begun_there (length es + length (joined es).ops) (first_place (joined es).words) (w.number acc) ty comb
 
-  lane_ops_are : (es : List Entry) → length es ≡ length (all_ops bodies_in_lanes) → lane_ops ≡ all_ops bodies_in_lanes ++ ((joined es).ops ++ last_part es)
-  lane_ops_are es long =
+  lane_ops_are : lane_ops ≡ all_ops bodies_in_lanes ++ combined (last_number counters) at bodies_in_lanes (combining begun_there at word (w.number acc) ty comb)
+  lane_ops_are =
       laned_is (last_number counters) (in_lane (memory_order core) counters owned w) owned (lanes_of counters) at before begun word acc ty comb asks.place
       ∙ ap (λ o. all_ops bodies_in_lanes ++ combined (last_number counters) at bodies_in_lanes (combining o at word (lane0.number acc) ty comb)) (begun_same begun flag_out)
       ∙ ap (λ n. all_ops bodies_in_lanes ++ combined (last_number counters) at bodies_in_lanes (combining begun_there at word n ty comb)) (out_number core around inside w counters owned plain lanes count g 0 acc acc_out)
-      ∙ ap (λ xs. all_ops bodies_in_lanes ++ xs) (combined_is (last_number counters) at bodies_in_lanes begun_there word (w.number acc) ty comb (length es) long balanced asks.earlier)
 
   abbrev all_owned : List ℕ
   all_owned = owned_in_lanes (memory_order core) counters owned w
@@ -179,10 +184,10 @@ module _ (core : PlainCore) (lists : ListsFit core) (fitting : WordsFit core) (l
       (es : List Entry) × (ended : Store) × (iteration (unrolled core) lanes all_owned lane_ops t ≡ went es ended) × HoldAlike core around w after ended × LeavesOutside core around w counters owned t ended
 
   -- the accumulator's word fits
-  held_fits : (s : Store) (held : Option ℕ) → StoreFits core s → (o : Option ℕ) → Holds core o acc s held → (v : ℕ) (vs : List ℕ) → IsWord ty v → AllAre (IsWord ty) vs
+  held_fits : is_balanced (operator_of comb) ty ≡ true → (s : Store) (held : Option ℕ) → StoreFits core s → (o : Option ℕ) → Holds core o acc s held → (v : ℕ) (vs : List ℕ) → IsWord ty v → AllAre (IsWord ty) vs
       → after_word (two_word (operator_of comb) ty) held (in_turn (two_word (operator_of comb) ty) v vs) ≡ in_turn (two_word (operator_of comb) ty) (after_word (two_word (operator_of comb) ty) held v) vs
-  held_fits s None fits o h v vs i k = refl
-  held_fits s (Some a) fits o h v vs i k =
+  held_fits balanced s None fits o h v vs i k = refl
+  held_fits balanced s (Some a) fits o h v vs i k =
       turn_grouped (IsWord ty) (two_word (operator_of comb) ty) (is_closed laws (operator_of comb) ty balanced) (is_grouped laws (operator_of comb) ty balanced) a v vs (fit o h) i k
     where
       from_read : ReadsAs core acc (s acc) a → IsWord ty a
@@ -238,35 +243,54 @@ module _ (core : PlainCore) (lists : ListsFit core) (fitting : WordsFit core) (l
           only : (b : ℕ) → Some b ≡ Some y → b ≡ y
           only b i = cc
 
+  abbrev op : ℕ → ℕ → ℕ
+  op = two_word (operator_of comb) ty
+
+  -- the combination in lanes leaves the words of all lanes, combined in order
+  abbrev Leaves : (done : List Entry) (between : Store) (x : ℕ) → Type 0
+  Leaves done between x =
+      (fs : List Entry) × (operations_after (unrolled core) lanes done (combined (last_number counters) at bodies_in_lanes (combining begun_there at word (w.number acc) ty comb)) between
+      ≡ went fs (combined_in (unrolled core) begun_there (w.number acc) x between))
+
+  combine : (s : Store) → StoreFits core s → (done : List Entry) (between : Store) (v : List Entry) (vs : List (List Entry)) → LanesStand (lanes (last_number counters)).live done 0 bodies_in_lanes (v ∷ vs) → EachHasWord ty word (v ∷ vs)
+      → length done ≡ length (all_ops bodies_in_lanes) → (held : Option ℕ) → Holds core begun acc s held → Holds (unrolled core) begun_there (w.number acc) between held → (b : Bool) → is_balanced (operator_of comb) ty ≡ b
+      → Leaves done between (in_turn op (after_word op held (word_at v word)) (words_of word vs))
+  combine s fits done between v vs stand has long held here holds true balanced =
+      let j = words_join (unrolled core) laws lanes (last_number counters) (operator_of comb) ty word balanced done bodies_in_lanes v vs between stand has in
+      let longer : length done + length (joined done).ops ≡ length (done ++ j.0) = (let n = run_long (unrolled core) lanes (joined done).ops done between (done ++ j.0) between j.1 in omega (arith, n)) in
+      let last = builds (unrolled core) lanes ty comb (length done + length (joined done).ops) (first_place (joined done).words) (w.number acc) (done ++ j.0) longer (let lt = j.2 in omega (arith, lt, longer)) begun_there held between holds in (
+        last.0,
+        ap (λ xs. operations_after (unrolled core) lanes done xs between) (combined_is (last_number counters) at bodies_in_lanes begun_there word (w.number acc) ty comb (length done) long balanced asks.earlier)
+            ∙ runs_append (unrolled core) lanes (joined done).ops (last_part done) done (done ++ j.0) between between j.1 ∙ last.1
+            ∙ ap (λ x. went last.0 (combined_in (unrolled core) begun_there (w.number acc) x between))
+            (ap (after_word op held) j.3 ∙ held_fits balanced s held fits begun here (word_at v word) (words_of word vs) has.1 (are_words ty word vs has.2)),
+      )
+  combine s fits done between v vs stand has long held here holds false balanced =
+      let x = builds_in_order (unrolled core) lanes (last_number counters) ty comb word bodies_in_lanes v vs (w.number acc) done between stand (words_alone ty word (v ∷ vs) has) begun_there held holds in
+      (x.0, ap (λ xs. operations_after (unrolled core) lanes done xs between) (ordered_is (last_number counters) ty comb at bodies_in_lanes word (w.number acc) asks.earlier begun_there (length done) long balanced) ∙ x.1)
+
   -- from what the bodies do and what the combinations leave
   from_words : (s t after : Store) → StoreFits core s → (c : chain_of count 0 s s after) (v : List Entry) (vs : List (List Entry)) → v ∷ vs ≡ c.bodies
       → (done : List Entry) (between : Store) → iteration (unrolled core) lanes all_owned (all_ops bodies_in_lanes) t ≡ went done between → HoldAlike core around w c.ended between → LeavesOutside core around w counters owned t between
       → LanesStand (lanes (last_number counters)).live done 0 bodies_in_lanes (v ∷ vs) → EachHasWord ty word (v ∷ vs) → Went t after
   from_words s t after fits c v vs same done between ran alike leaves stand has =
       let left : Accumulated core plain owned before begun at word acc ty comb is asks s after (words_of word (v ∷ vs)) = subst (λ bs. Accumulated core plain owned before begun at word acc ty comb is asks s after (words_of word bs)) (sym same) c.left in
-      let op : ℕ → ℕ → ℕ = two_word (operator_of comb) ty in
       let held : Option ℕ = left.0 in
-      let j = words_join (unrolled core) laws lanes (last_number counters) (operator_of comb) ty word balanced done bodies_in_lanes v vs between stand has in
-      let whole_word : ℕ = in_turn op (word_at v word) (words_of word vs) in
       let acc_there : between (w.number acc) ≡ s acc = alike acc acc_usable ∙ c.kept acc (not_is acc (λ i. (asks.other acc i).0 refl)) in
       let flag_there : (b : ℕ) → begun ≡ Some b → between (w.number b) ≡ s b = λ b e. alike b (flag_usable b e) ∙ c.kept b (not_is b (λ i. (asks.other b i).1 b e refl)) in
       let holds : Holds (unrolled core) begun_there (w.number acc) between held = holds_alike core (unrolled core) w.number begun acc acc_alike flag_alike s between acc_there flag_there held left.1 in
       let b = bind_split (in_order (renew_in_body (unrolled core) plainly 0) all_owned) (λ _. operations (unrolled core) lanes (all_ops bodies_in_lanes)) t between done ran in
       let long : length done ≡ length (all_ops bodies_in_lanes) = (let n = run_long (unrolled core) lanes (all_ops bodies_in_lanes) [] b.1 done between b.3 in omega (arith, n)) in
-      let longer : length done + length (joined done).ops ≡ length (done ++ j.0) = (let n = run_long (unrolled core) lanes (joined done).ops done between (done ++ j.0) between j.1 in omega (arith, n)) in
-      let last = builds (unrolled core) lanes ty comb (length done + length (joined done).ops) (first_place (joined done).words) (w.number acc) (done ++ j.0) longer (let lt = j.2 in omega (arith, lt, longer)) begun_there held between holds in
-      let value : ℕ = after_word op held (word_at (done ++ j.0) (first_place (joined done).words)) in
-      let ended : Store = combined_in (unrolled core) begun_there (w.number acc) value between in
-      let right_word : value ≡ in_turn op (after_word op held (word_at v word)) (words_of word vs) = ap (after_word op held) j.3 ∙ held_fits s held fits begun left.1 (word_at v word) (words_of word vs) has.1 (are_words ty word vs has.2) in
+      let value : ℕ = in_turn op (after_word op held (word_at v word)) (words_of word vs) in
+      let last : Leaves done between value = combine s fits done between v vs stand has long held left.1 holds (is_balanced (operator_of comb) ty) refl in
       let far : (b : ℕ) → begun ≡ Some b → w.number acc ≡ w.number b → ⊥ = λ b e. copies_differ acc b acc_usable (flag_usable b e) (asks.apart b e) in (
         last.0,
-        ended,
+        combined_in (unrolled core) begun_there (w.number acc) value between,
         bind_known (in_order (renew_in_body (unrolled core) plainly 0) all_owned) (λ _. operations (unrolled core) lanes lane_ops) t b.1 b.0 b.2
-            ∙ ap (λ xs. operations (unrolled core) lanes xs b.1) (lane_ops_are done long)
-            ∙ runs_append (unrolled core) lanes (all_ops bodies_in_lanes) ((joined done).ops ++ last_part done) [] done b.1 between b.3
-            ∙ runs_append (unrolled core) lanes (joined done).ops (last_part done) done (done ++ j.0) between between j.1
+            ∙ ap (λ xs. operations (unrolled core) lanes xs b.1) lane_ops_are
+            ∙ runs_append (unrolled core) lanes (all_ops bodies_in_lanes) (combined (last_number counters) at bodies_in_lanes (combining begun_there at word (w.number acc) ty comb)) [] done b.1 between b.3
             ∙ last.1,
-        (λ m u. at_memory s after between value c alike (subst (λ z. Left z s after) (sym right_word) left.2) acc_there flag_there far m u),
+        (λ m u. at_memory s after between value c alike left.2 acc_there flag_there far m u),
         (λ n outer own. left_other core (unrolled core) w.number begun acc value between n (λ i. outer acc acc_usable (sym i)) (λ b e i. outer b (flag_usable b e) (sym i)) ∙ leaves n outer own),
       )
 

@@ -15,9 +15,7 @@ use Rattle.sp_core.specs.PlainCore.{PlainOp, PlainCounter, PlainCore, inner}
 use Rattle.sp_core.specs.Scope.{Scope}
 use Rattle.sp_core.specs.Step.{went, in_order}
 use Rattle.sp_fitting.specs.Laws.{ListsFit, WordsFit}
-use Rattle.sp_sugar.specs.Combination.{operator_of}
 use Rattle.sp_lanes.specs.Combined.{meeting}
-use Rattle.sp_lanes.specs.Joined.{is_balanced}
 use Rattle.sp_lanes.specs.Order.{memory_order}
 use Rattle.sp_lanes.specs.Unrolled.{unrolled, owned_in_lanes, inner_ops, ops_in_lanes}
 use Rattle.sp_lanes.specs.Within.{Within, in_lane, ops_in}
@@ -32,7 +30,7 @@ use Rattle.sp_lane_groups.specs.Waiting.{ResetsFirst, waits_in}
 use Rattle.sp_lane_inners.specs.Along.{GoesAlong, StandsIn}
 use Rattle.sp_lane_inners.proofs.Inner.{inside_lanes, GroupsGo, inner_goes, alone_goes}
 use Rattle.sp_joined_words.proofs.Balanced.{Laws}
-use Rattle.sp_lane_combinations.specs.Ending.{EndsIn}
+use Rattle.sp_lane_endings.specs.Ending.{IsOneWord, EndsIn}
 use Rattle.sp_lane_combinations.specs.Laws.{CombinedInnersGo}
 use Rattle.sp_lane_combinations.proofs.Chain.{Asks}
 use Rattle.sp_lane_combinations.proofs.Combining.{combining}
@@ -68,7 +66,6 @@ pub record Parts (core : PlainCore) (owned : List ℕ) (ops : List PlainOp) (at 
   pub earlier : word < at
   pub names : ListNames core is before
   pub owns : AllPass core is owned
-  pub balanced : is_balanced (operator_of comb) ty ≡ true
   pub other : (m : ℕ) → is m ≡ true → (m ≡ acc → ⊥) × ((b : ℕ) → begun ≡ Some b → m ≡ b → ⊥)
   pub all : (m : ℕ) → (m ≡ acc → ⊥) → ((b : ℕ) → begun ≡ Some b → m ≡ b → ⊥) → is m ≡ true
   pub apart : (b : ℕ) → begun ≡ Some b → acc ≡ b → ⊥
@@ -84,8 +81,8 @@ module _ (core : PlainCore) (owned : List ℕ) (ops : List PlainOp) (at : ℕ) w
       by true i = absurd (true≢false (sym (h m i) ∙ e))
       by false i = refl
 
-  parts_of : (c : Combination) → EndsIn core owned ops at c → Parts core owned ops at
-  parts_of (folded word acc ty comb) h = record {
+  parts_of : (c : Combination) → IsOneWord c → EndsIn core owned ops at c → Parts core owned ops at
+  parts_of (folded word acc ty comb) one h = record {
     before = h.combined.before;
     begun = None;
     word = word;
@@ -98,7 +95,6 @@ module _ (core : PlainCore) (owned : List ℕ) (ops : List PlainOp) (at : ℕ) w
     earlier = subst (λ xs. (meeting xs).word < at) (ap (drop at) h.combined.is ∙ drop_front at h.combined.before (combining None at word acc ty comb) (sym h.combined.place)) h.earlier;
     names = h.combined.apart;
     owns = all_pass core (λ m. not (m == acc)) owned h.others;
-    balanced = h.in_tree;
     other = λ m i. (not_same m acc i, λ b e. absurd (nothing b e));
     all = λ m ne far. same_not m acc ne;
     apart = λ b e i. nothing b e;
@@ -108,7 +104,7 @@ module _ (core : PlainCore) (owned : List ℕ) (ops : List PlainOp) (at : ℕ) w
     where
       nothing : (b : ℕ) → ◌≡◌ {A = Option ℕ} None (Some b) → ⊥
       nothing b e = cc
-  parts_of (reduced word acc begun ty comb) h = record {
+  parts_of (reduced word acc begun ty comb) one h = record {
     before = h.combined.before;
     begun = Some begun;
     word = word;
@@ -121,10 +117,9 @@ module _ (core : PlainCore) (owned : List ℕ) (ops : List PlainOp) (at : ℕ) w
     earlier = subst (λ xs. (meeting xs).word < at) (ap (drop at) h.combined.is ∙ drop_front at h.combined.before (combining (Some begun) at word acc ty comb) (sym h.combined.place)) h.earlier;
     names = h.combined.apart;
     owns = all_pass core (λ m. not (m == acc) && not (m == begun)) owned h.others;
-    balanced = h.in_tree.0;
     other = λ m i. (let a = and_parts (not (m == acc)) (not (m == begun)) i in (not_same m acc a.0, λ b e j. not_same m begun a.1 (j ∙ sym (only b e))));
     all = λ m ne far. and_from (not (m == acc)) (not (m == begun)) (same_not m acc ne) (same_not m begun (far begun refl));
-    apart = λ b e i. h.in_tree.1 (i ∙ sym (only b e));
+    apart = λ b e i. h.two (i ∙ sym (only b e));
     acc_out = out_of (λ m. not (m == acc) && not (m == begun)) h.others acc (ap (λ b. not b && not (acc == begun)) (eq-eqb acc acc refl));
     flag_out = λ b e. subst (λ k. is_among k owned ≡ false) (only b e) (out_of (λ m. not (m == acc) && not (m == begun)) h.others begun (second (not (begun == acc)) (begun == begun) (eq-eqb begun begun refl)));
   }
@@ -135,7 +130,7 @@ module _ (core : PlainCore) (owned : List ℕ) (ops : List PlainOp) (at : ℕ) w
       second : (a b : Bool) → b ≡ true → (a && not b) ≡ false
       second true b e = ap not e
       second false b e = refl
-  parts_of (element mems word c dims acc begun ty comb) h = absurd h.in_tree
+  parts_of (element mems word c dims acc begun ty comb) one h = absurd one
 
 module _ (core : PlainCore) (lists : ListsFit core) (fitting : WordsFit core) (room : PlacesHaveRoom core) (laws : Laws) (is : IsCore core) (owns : OwnsInLanes core.root) (turns : ℕ)
     (around inside : Around) (earlier : List ℕ) (w : Within) (counters : List PlainCounter) (owned : List ℕ) (ops : List PlainOp) (at : ℕ) (h : StandsIn core around inside earlier w (inner counters owned ops (Some at))) (c : Parts core owned ops at) where
@@ -175,7 +170,7 @@ module _ (core : PlainCore) (lists : ListsFit core) (fitting : WordsFit core) (r
   tree_goes : (lanes_of counters == 1) ≡ false → Goes
   tree_goes several plain lanes count g s t after groups fits alike ran bits =
       let x =
-      combined_goes core lists fitting laws is.memories around (inside_lanes core is owns lists room turns around inside earlier w counters owned ops (Some at) h) w counters owned plain lanes count g several c.before c.begun at c.word c.acc c.ty c.comb c.is (asks plain) c.balanced
+      combined_goes core lists fitting laws is.memories around (inside_lanes core is owns lists room turns around inside earlier w counters owned ops (Some at) h) w counters owned plain lanes count g several c.before c.begun at c.word c.acc c.ty c.comb c.is (asks plain)
       (subst ArePlain c.list h.plain.1) all_right (subst (ResetsFirst (waits_in core owned)) c.list h.resets) c.acc_out c.flag_out s t after groups fits alike
       (subst (λ xs. in_order (λ l. iteration core (plain l) owned xs) (lanes_from 0 count) s ≡ went groups after) c.list ran) (subst (λ xs. EachMasked xs groups) c.list bits) in
       let own : List ℕ = owned_in_lanes (memory_order core) counters owned w in
@@ -195,5 +190,5 @@ module _ (core : PlainCore) (lists : ListsFit core) (fitting : WordsFit core) (r
       by false e = inner_goes core is owns lists room turns around inside earlier w counters owned ops (Some at) h (tree_goes e)
 
 pub combined_go : (core : PlainCore) → ListsFit core → WordsFit core → PlacesHaveRoom core → Laws → CombinedInnersGo core
-combined_go core lists fitting room laws is owns turns around inside earlier w counters owned ops at c ends h =
-    goes core lists fitting room laws is owns turns around inside earlier w counters owned ops at h (parts_of core owned ops at c ends)
+combined_go core lists fitting room laws is owns turns around inside earlier w counters owned ops at c one ends h =
+    goes core lists fitting room laws is owns turns around inside earlier w counters owned ops at h (parts_of core owned ops at c one ends)

@@ -1,3 +1,4 @@
+pub mod Arranged
 pub mod Chain
 pub mod Combining
 pub mod Copies
@@ -5,5 +6,6 @@ pub mod Frames
 pub mod Group
 pub mod Inner
 pub mod Moved
+pub mod Ordered
 pub mod Registers
 pub mod Rights

@@ -16,7 +16,7 @@ use Rattle.sp_lanes.specs.Within.{Within, ops_in}
 use Rattle.sp_lane_combinations.proofs.Combining.{combining}
 
 -- places of a combination, and of the word that it takes
-place_in : (first from word to : ℕ) (places : List ℕ) (j : ℕ) → word < first → moved_place first from word to places (first + j) ≡ from + j
+pub place_in : (first from word to : ℕ) (places : List ℕ) (j : ℕ) → word < first → moved_place first from word to places (first + j) ≡ from + j
 place_in first from word to places j lt =
     ap (λ b. if b then to else if nat_le first (first + j) then from + (first + j - first) else slice_index places (first + j)) (ne_eqb (first + j) word (past first j word lt))
     ∙ ap (λ b. if b then from + (first + j - first) else slice_index places (first + j)) (le-leb first (first + j) (omega arith))
@@ -28,14 +28,14 @@ place_in first from word to places j lt =
     left : (f j : ℕ) → f + j - f ≡ j
     left f j = omega arith
 
-place_first : (first from word to : ℕ) (places : List ℕ) → word < first → moved_place first from word to places first ≡ from
+pub place_first : (first from word to : ℕ) (places : List ℕ) → word < first → moved_place first from word to places first ≡ from
 place_first first from word to places lt =
     ap (moved_place first from word to places) (more first) ∙ place_in first from word to places 0 lt ∙ sym (more from)
   where
     more : (n : ℕ) → n ≡ n + 0
     more n = omega arith
 
-place_word : (first from word to : ℕ) (places : List ℕ) → moved_place first from word to places word ≡ to
+pub place_word : (first from word to : ℕ) (places : List ℕ) → moved_place first from word to places word ≡ to
 place_word first from word to places =
     ap (λ b. if b then to else if nat_le first word then from + (word - first) else slice_index places word) (eq-eqb word word refl)
 
@@ -72,7 +72,7 @@ module _ (counter first : ℕ) (bodies : List Body) (begun : Option ℕ) (word a
   abbrev pub joined_at : ℕ → Round
   joined_at at = rounds counter (operator_of comb) ty (length words) at words
 
-  meets : (begun : Option ℕ) → meeting (combining begun first word acc ty comb) ≡ record { operator = operator_of comb; ty = ty; word = word }
+  pub meets : (begun : Option ℕ) → meeting (combining begun first word acc ty comb) ≡ record { operator = operator_of comb; ty = ty; word = word }
   meets None = refl
   meets (Some b) = refl
 

@@ -7,11 +7,11 @@ use Rattle.sp_lanes.specs.Within.{Within}
 use Rattle.sp_copies.specs.Copies.{OwnsInLanes}
 use Rattle.sp_laned.specs.Marks.{Combination}
 use Rattle.sp_lane_inners.specs.Along.{GoesAlong, StandsIn}
-use Rattle.sp_lane_combinations.specs.Ending.{EndsIn}
+use Rattle.sp_lane_endings.specs.Ending.{IsOneWord, EndsIn}
 
--- an inner body that ends in a combination of one word, by an operator that is balanced, goes along, in whatever number of lanes
+-- an inner body that ends in a combination of one word goes along, in whatever number of lanes and by whatever operator
 abbrev pub CombinedInnersGo : PlainCore → Type 0
 CombinedInnersGo core =
     IsCore core → OwnsInLanes core.root
-    → (turns : ℕ) (around inside : Around) (earlier : List ℕ) (w : Within) (counters : List PlainCounter) (owned : List ℕ) (ops : List PlainOp) (at : ℕ) (c : Combination) → EndsIn core owned ops at c
+    → (turns : ℕ) (around inside : Around) (earlier : List ℕ) (w : Within) (counters : List PlainCounter) (owned : List ℕ) (ops : List PlainOp) (at : ℕ) (c : Combination) → IsOneWord c → EndsIn core owned ops at c
     → StandsIn core around inside earlier w (inner counters owned ops (Some at)) → GoesAlong core turns around w (inner counters owned ops (Some at))

@@ -7,7 +7,8 @@ use sp_copies_room::places_have_room;
 use sp_fitting::{lists_fit, stores_fit};
 use sp_words::{operators_associate, operators_give_words};
 
-/// An inner body that ends in a combination does in lanes what it does in the core, where the words of lanes are joined in a tree.
+/// An inner body that ends in a combination does in lanes what it does in the core, whether the words of lanes are joined in a tree
+/// or meet the accumulator in order.
 pub fn combined_inners_go()
     ensures { (core : PlainCore) → CombinedInnersGo core }
 {

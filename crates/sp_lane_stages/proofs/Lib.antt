@@ -1,0 +1,5 @@
+pub mod Groups
+pub mod Lanes
+pub mod Live
+pub mod Owned
+pub mod Passing

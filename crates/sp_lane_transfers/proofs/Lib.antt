@@ -1,0 +1,4 @@
+pub mod Moving
+pub mod Spans
+pub mod Transfers
+pub mod Words
