@@ -1,6 +1,8 @@
 //! Runs by plans that are right, and by ones that break a rule.
 
-ghost use Rattle.sp_core.specs.ExampleForms.{input, meet};
+ghost use Rattle.sp_core.specs.Cost.{inner_timing, outer_timing};
+ghost use Rattle.sp_core.specs.ExampleForms.{cost_in, input, meet};
+ghost use Rattle.sp_core.specs.Latency.{limit};
 ghost use Rattle.sp_core.specs.ExampleLoops.{register_between};
 ghost use Rattle.sp_core.specs.ExampleTransfers.{copied};
 ghost use Rattle.sp_core.specs.Elements.{numbers_below};
@@ -57,4 +59,11 @@ pub fn wrong_plans_break_one_rule()
     ensures duplicates_broken { verdicts read_twice no_forms read_twice_meets (read_twice_plan 1) ≡ true ∷ true ∷ true ∷ true ∷ true ∷ true ∷ true ∷ false ∷ [] }
     ensures scheme { verdicts paired paired_forms paired_meets (paired_plan (banked 2 1 (1 ∷ []) 1 1)) ≡ all_right }
     ensures scheme_broken { verdicts paired paired_forms paired_meets (paired_plan (banked 1 1 (0 ∷ []) 1 1)) ≡ all_right }
+{}
+
+/// A valid plan whose times are late passes the limit of a program of four turns, as `r := x; y := r` with its declaration is.
+pub fn late_plans_pass_the_limit()
+    ensures valid { verdicts passed_on no_forms passed_on_meets (passed_on_plan (1000 ∷ 1001 ∷ 1002 ∷ 1003 ∷ []) 1004) ≡ all_right }
+    ensures cost { cost_in passed_on (outer_timing (0 ∷ []) (0 ∷ []) ∷ inner_timing 1 1004 ∷ []) 0 (meaning in_lanes 0 passed_on (input (7 ∷ []) [])) ≡ Some 1011 }
+    ensures most { limit 4 0 passed_on ≡ 680 }
 {}

@@ -4,4 +4,6 @@
 
 mod examples;
 
-pub use examples::{rules_keep_ports_apart, rules_keep_words, wrong_plans_break_one_rule};
+pub use examples::{
+    late_plans_pass_the_limit, rules_keep_ports_apart, rules_keep_words, wrong_plans_break_one_rule,
+};
