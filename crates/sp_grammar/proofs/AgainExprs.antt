@@ -1,7 +1,7 @@
 -- What is spelled is read again: expressions, where nothing follows that would belong to them.
 use Rattle.std.specs.Option.{option_map_or}
 use Rattle.std.proofs.Common.{◌≡◌, ◌∙◌, ℕ, zero, suc, ◌+◌, ◌-◌, ◌<◌, ◌≤◌, Bool, true, false, ◌&&◌, nat_le, List, [], ◌∷◌, ◌++◌, length, Option, Some, None, Ok, refl, sym, ap, subst, arith, if◌then◌else◌}
-use Rattle.std.proofs.lemmas.List.{append_assoc}
+use Rattle.std.proofs.lemmas.List.{append-nil, append_assoc}
 use Rattle.sp_words.specs.declared.kind.BinOp.{BinOp}
 use Rattle.sp_reader.specs.declared.token.Token.{Token}
 use Rattle.sp_reader.specs.declared.token.TokenKind.{TokenKind}
@@ -203,10 +203,6 @@ module _ (source : Text) where
   signs_end zero found us off = refl
   signs_end (suc n) found us off = rw off refl
 
-  append_nil : {A : Type 0} (xs : List A) → xs ++ [] ≡ xs
-  append_nil [] = refl
-  append_nil (x ∷ xs) = ap (λ rest. x ∷ rest) (append_nil xs)
-
   -- ---- what is left to do at a place is as at another one
 
   -- an operand that is read up to its casts
@@ -399,7 +395,7 @@ module _ (source : Text) where
           operand = e;
           is = refl;
           few = omega arith;
-          taken = λ more found. let none : 0 + more ≡ more = omega arith in ap (λ n. signs_from n found ts) none ∙ ap (λ ss. signs_from more ss ts) (sym (append_nil found));
+          taken = λ more found. let none : 0 + more ≡ more = omega arith in ap (λ n. signs_from n found ts) none ∙ ap (λ ss. signs_from more ss ts) (sym (append-nil found));
           none = unsigned_first p;
           read = casts.read ∙ casts_end casts.count (place_of ts) e us closed.0;
         }

@@ -1,6 +1,6 @@
 -- What is spelled is read again: declarations and whole programs.
 use Rattle.std.proofs.Common.{◌≡◌, ◌∙◌, ℕ, zero, suc, ◌≤◌, false, List, [], ◌∷◌, ◌++◌, length, Ok, refl, sym, ap, arith}
-use Rattle.std.proofs.lemmas.List.{append_assoc}
+use Rattle.std.proofs.lemmas.List.{append-nil, append_assoc}
 use Rattle.sp_reader.specs.declared.token.Token.{Token}
 use Rattle.sp_reader.specs.declared.token.TokenKind.TheVariants as k
 use Rattle.sp_reader.specs.PlainTree.{PlainIdent}
@@ -10,7 +10,7 @@ use Rattle.sp_reader.specs.Steps.{Text, kind_of, place_of, same_kind, sees, semi
 use Rattle.sp_grammar.specs.Tokens.{Takes, IsBreak, IsName}
 use Rattle.sp_grammar.specs.Statements.{IsPort, AreDecls, IsProgram}
 use Rattle.sp_grammar.proofs.Again.{kind_at, tail_at, shorter, sees_it, sees_other, skip_it, past_break, past_breaks, no_semicolon, name_shorter, name_again, bracketed_again, dims_again}
-use Rattle.sp_grammar.proofs.AgainStatements.{append_nil, braced_again}
+use Rattle.sp_grammar.proofs.AgainStatements.{braced_again}
 use Rattle.sp_grammar.proofs.Lengths.{break_shorter, breaks_shorter, port_shorter}
 
 module _ (source : Text) where
@@ -34,7 +34,7 @@ module _ (source : Text) where
   decls_again_from : {ts us vs : List Token} {all : List PlainDecl} → AreDecls source ts us all → (n : ℕ) (found : List PlainDecl) → length ts ≤ n → Takes k.Accel us vs → decls_from source n found ts ≡ Ok (found ++ all, us)
   unfolding decls_from same_kind
   decls_again_from {ts} AreDecls.none zero found enough accel = let less = shorter ts accel in absurd (omega (arith, less, enough))
-  decls_again_from {ts} AreDecls.none (suc n) found enough accel = rw (sees_it ts accel) (ap (λ xs. Ok (xs, ts)) (sym (append_nil found)))
+  decls_again_from {ts} AreDecls.none (suc n) found enough accel = rw (sees_it ts accel) (ap (λ xs. Ok (xs, ts)) (sym (append-nil found)))
   decls_again_from {ts} (AreDecls.next word i sign p brk rest) zero found enough accel = let less = shorter ts word in absurd (omega (arith, less, enough))
   decls_again_from {ts} {us} (AreDecls.next {a = a} {b = b} {i = i} {p = p} {rest = more} word named sign port (IsBreak.one {us = es} takes) rest) (suc n) found enough accel =
       let off = decls_plain rest (kind_at us accel) in

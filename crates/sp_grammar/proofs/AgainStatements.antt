@@ -1,6 +1,6 @@
 -- What is spelled is read again: statements that hold others.
 use Rattle.std.proofs.Common.{◌≡◌, ◌∙◌, ℕ, zero, suc, ◌≤◌, true, false, List, [], ◌∷◌, ◌++◌, length, Option, None, Ok, refl, sym, ap, subst, arith}
-use Rattle.std.proofs.lemmas.List.{append_assoc}
+use Rattle.std.proofs.lemmas.List.{append-nil, append_assoc}
 use Rattle.sp_words.specs.declared.kind.Style.{Style}
 use Rattle.sp_reader.specs.declared.token.Token.{Token}
 use Rattle.sp_reader.specs.declared.token.TokenKind.{TokenKind}
@@ -19,10 +19,6 @@ use Rattle.sp_grammar.proofs.AgainLoops.{is_end, expr_again, expr_before, counte
 use Rattle.sp_grammar.proofs.AgainSimple.{stmt_end, val_again, on_name_again, value_next, statement_next}
 use Rattle.sp_grammar.proofs.Lengths.{break_shorter, breaks_shorter, style_shorter, list_shorter, binds_shorter, arrow_shorter, stmt_shorter, braced_shorter}
 use Rattle.sp_grammar.proofs.Starts.{other_by, is_stmt_end, begins, begins_expr, begins_stmt, stmt_begins}
-
-pub append_nil : {A : Type 0} (xs : List A) → xs ++ [] ≡ xs
-append_nil [] = refl
-append_nil (x ∷ xs) = ap (λ rest. x ∷ rest) (append_nil xs)
 
 -- ---- where a statement ends
 
@@ -284,7 +280,7 @@ module _ (source : Text) where
         → valued_from source (stmt source depth) n found ts ≡ Ok ((found ++ all, x), ws)
     valued_from_again (AreValued.value_alone p) depth zero found few enough brk e = let less = expr_shorter source p in absurd (omega (arith, less, enough))
     valued_from_again {ws = ws} (AreValued.value_alone {e = x} p) depth (suc n) found few enough brk e =
-        last_valued (stmt source depth) source n found p brk e ∙ ap (λ xs. Ok ((xs, x), ws)) (sym (append_nil found))
+        last_valued (stmt source depth) source n found p brk e ∙ ap (λ xs. Ok ((xs, x), ws)) (sym (append-nil found))
     valued_from_again (AreValued.before_value p first more) depth zero found few enough brk e = let less = stmt_shorter source p in absurd (omega (arith, less, enough))
     valued_from_again (AreValued.before_value {s = s} {rest = rest} p first more) depth (suc n) found few enough brk e =
         let less = stmt_shorter source p in let past = break_shorter first in

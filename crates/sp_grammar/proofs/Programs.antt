@@ -1,6 +1,6 @@
 -- Declarations and whole programs.
 use Rattle.std.proofs.Common.{◌≡◌, ◌∙◌, ℕ, zero, suc, Bool, true, false, List, [], ◌∷◌, ◌++◌, length, Ok, Err, refl, sym, ap, subst, if◌then◌else◌}
-use Rattle.std.proofs.lemmas.List.{append_assoc}
+use Rattle.std.proofs.lemmas.List.{append-nil, append_assoc}
 use Rattle.sp_reader.specs.declared.token.Token.{Token}
 use Rattle.sp_reader.specs.declared.token.TokenKind.TheVariants as k
 use Rattle.sp_reader.specs.PlainStatement.{arg_in, arg_out, dram, PlainDecl, PlainSyntax}
@@ -43,10 +43,6 @@ module _ (source : Text) where
   abbrev DeclsFrom : List PlainDecl → List Token → List PlainDecl → List Token → Type 0
   DeclsFrom before ts all us = (rest : List PlainDecl) × (all ≡ before ++ rest) × AreDecls source ts us rest
 
-  append_nil : (xs : List PlainDecl) → xs ++ [] ≡ xs
-  append_nil [] = refl
-  append_nil (x ∷ xs) = ap (λ rest. x ∷ rest) (append_nil xs)
-
   decls_go_from : (n : ℕ) {ts : List Token} (found : List PlainDecl) → Reads (decls_from source n found) ts (DeclsFrom found ts)
   unfolding decls_from
   decls_go_from zero found = refused
@@ -54,7 +50,7 @@ module _ (source : Text) where
     where
       go : (all : List PlainDecl) (us : List Token) → ((d : PlainDecl) (vs : List Token) → Reads (decls_from source n (found ++ d ∷ [])) vs (DeclsFrom (found ++ d ∷ []) vs)) → (b : Bool)
           → (if b then Ok (found, ts) else (decl source >>= λ d. skip k.Semicolon >>= λ _. λ us. decls_from source n (found ++ d ∷ []) (semicolons us)) ts) ≡ Ok (all, us) → DeclsFrom found ts all us
-      go all us next true h = (given {P = DeclsFrom found ts} {ts = ts} found ([], sym (append_nil found), AreDecls.none)).run all us h
+      go all us next true h = (given {P = DeclsFrom found ts} {ts = ts} found ([], sym (append-nil found), AreDecls.none)).run all us h
       go all us next false h = (bound {Q = DeclsFrom found ts} (decl_go {ts = ts}) (λ d us p. bound (skips k.Semicolon refl) (λ _ vs takes.
           record {
             run = λ all ws g.

@@ -1,6 +1,6 @@
 -- Statements that hold others.
-use Rattle.std.proofs.Common.{◌≡◌, ◌∙◌, ℕ, zero, suc, Bool, true, false, List, [], ◌∷◌, ◌++◌, length, Option, Some, None, Result, Ok, Err, refl, sym, ap, subst, if◌then◌else◌}
-use Rattle.std.proofs.lemmas.List.{append_assoc}
+use Rattle.std.proofs.Common.{◌≡◌, ◌∙◌, ℕ, zero, suc, Bool, true, false, List, [], ◌∷◌, ◌++◌, length, Option, Some, None, Result, Ok, Err, refl, sym, subst, if◌then◌else◌}
+use Rattle.std.proofs.lemmas.List.{append-nil, append_assoc}
 use Rattle.sp_words.specs.declared.kind.Style.{Style}
 use Rattle.sp_words.specs.declared.kind.Style.TheVariants.{Pipe, Sequential, Parallel, Stream}
 use Rattle.sp_reader.specs.declared.grammar.statement.Combining.{Combining}
@@ -44,10 +44,6 @@ module _ (source : Text) (inner : Rule PlainStmt) (within : (ts : List Token) �
   abbrev StmtsFrom : List PlainStmt → List Token → List PlainStmt → List Token → Type 0
   StmtsFrom before ts all us = (rest : List PlainStmt) × (all ≡ before ++ rest) × After ts us rest
 
-  append_nil : {A : Type 0} (xs : List A) → xs ++ [] ≡ xs
-  append_nil [] = refl
-  append_nil (x ∷ xs) = ap (λ rest. x ∷ rest) (append_nil xs)
-
   stmts_go_from : (n : ℕ) {ts : List Token} (found : List PlainStmt) → Reads (stmts_from inner n found) ts (StmtsFrom found ts)
   unfolding stmts_from
   stmts_go_from zero found = refused
@@ -64,7 +60,7 @@ module _ (source : Text) (inner : Rule PlainStmt) (within : (ts : List Token) �
       go : (all : List PlainStmt) (us : List Token) → ((s : PlainStmt) (vs : List Token) → Reads (stmts_from inner n (found ++ s ∷ [])) vs (StmtsFrom (found ++ s ∷ []) vs)) → (b : Bool)
           → (if b then Ok (found, ts) else (inner >>= λ s. λ us. if sees k.Semicolon us then stmts_from inner n (found ++ s ∷ []) (semicolons us) else Ok (found ++ s ∷ [], us)) ts) ≡ Ok (all, us)
           → StmtsFrom found ts all us
-      go all us next true h = (given {P = StmtsFrom found ts} {ts = ts} found ([], sym (append_nil found), refl)).run all us h
+      go all us next true h = (given {P = StmtsFrom found ts} {ts = ts} found ([], sym (append-nil found), refl)).run all us h
       go all us next false h = (bound {Q = StmtsFrom found ts} (inside {ts = ts}) (λ s us p. by_break next s us p)).run all us h
 
   all_of : {ts us : List Token} (all : List PlainStmt) → After (semicolons ts) us all → AreStmts source ts us all
@@ -83,7 +79,7 @@ module _ (source : Text) (inner : Rule PlainStmt) (within : (ts : List Token) �
 
   last_values : {ts : List Token} (found : List PlainStmt) → Reads (last_value source found) ts (ValuedFrom found ts)
   unfolding last_value
-  last_values {ts} found = bound (whole_go source) (λ e us p. leaves {us = semicolons us} (found, e) refl ([], us, sym (append_nil found), AreValued.value_alone p, may_break us))
+  last_values {ts} found = bound (whole_go source) (λ e us p. leaves {us = semicolons us} (found, e) refl ([], us, sym (append-nil found), AreValued.value_alone p, may_break us))
 
   valued_go_from : (n : ℕ) {ts : List Token} (found : List PlainStmt) → Reads (valued_from source inner n found) ts (ValuedFrom found ts)
   unfolding valued_from
