@@ -1,0 +1,124 @@
+-- Each node of a tree does in lanes what it does in the core.
+use Rattle.std.proofs.Common.{◌≡◌, ◌⊎◌, inl, inr, ℕ, ◌<◌, Bool, true, false, List, [], ◌∷◌, ◌++◌, Option, Some, None, refl, sym, ◌∙◌, subst, arith, ◌==◌}
+use Rattle.std.proofs.lemmas.Bool.{true≢false, eqb-true, eq-eqb}
+use Rattle.sp_words.specs.declared.kind.Style.{Style}
+use Rattle.sp_core.specs.Around.{Around, within, lanes_of}
+use Rattle.sp_core.specs.Declarations.{is_stream}
+use Rattle.sp_core.specs.Invariant.{IsCore, owned_in}
+use Rattle.sp_core.specs.NodeRules.{with_state}
+use Rattle.sp_core.specs.PlainCore.{PlainOp, PlainCounter, PlainNode, PlainStages, inner, outer, fsm, branch, load, store, sparse, no_stage, more_stage, PlainCore}
+use Rattle.sp_lanes.specs.Order.{memory_order}
+use Rattle.sp_lanes.specs.Unrolled.{owned_in_lanes}
+use Rattle.sp_lanes.specs.Within.{Within, in_lane, owning, counters_in}
+use Rattle.sp_copies.specs.Copies.{OwnsInLanes, OwnInLanes}
+use Rattle.sp_laned.specs.Marks.{NoneCombines}
+use Rattle.sp_lane_combinations.specs.Laws.{CombinedInnersGo}
+use Rattle.sp_lane_endings.specs.Ending.{EndsAt, LastEnds, IsEnded, AreEnded}
+use Rattle.sp_lane_inners.specs.Along.{GoesAlong, StandsIn}
+use Rattle.sp_lane_inners.specs.Laws.{InnersGo}
+use Rattle.sp_lane_nodes.specs.Laws.{BranchesStand, BranchesGo, FsmsStand, FsmsGo}
+use Rattle.sp_lane_outers.specs.Laws.{OutersStand, OutersGo}
+use Rattle.sp_lane_outers.specs.Stages.{AllGoAlong, AllStandIn}
+use Rattle.sp_lane_stages.specs.Laws.{AreOfFirst, StagesGo}
+use Rattle.sp_lane_transfers.specs.Laws.{TransfersGo}
+use Rattle.sp_lane_trees.specs.Laws.{NodesGo}
+use Rattle.sp_lane_trees.specs.Alone.{CombinesAlone, CombineAlone}
+
+-- what is known of each kind of node
+pub record Parts (core : PlainCore) : Type 0 where
+  pub inners : InnersGo core
+  pub combined : CombinedInnersGo core
+  pub transfers : TransfersGo core
+  pub branches_stand : BranchesStand core
+  pub branches : BranchesGo core
+  pub fsms_stand : FsmsStand core
+  pub fsms : FsmsGo core
+  pub outers_stand : OutersStand core
+  pub outers : OutersGo core
+  pub stages : StagesGo core
+
+first_lane : (n : ℕ) → n ≡ 1 → 0 < n
+first_lane n e = omega (arith, e)
+
+module _ (core : PlainCore) (parts : Parts core) (is : IsCore core) (owns : OwnsInLanes core.root) (turns : ℕ) where
+  -- stages of which none combines, or the last one
+  abbrev Ended : PlainStages → Type 0
+  Ended stages = NoneCombines core stages ⊎ ((owned : List ℕ) × (is : ℕ → Bool) × LastEnds core owned is stages)
+
+  after_one : (first last : ℕ) (node : PlainNode) (rest : PlainStages) → Ended (more_stage first last false node rest) → Ended rest
+  after_one first last node rest (inl h) = inl h
+  after_one first last node rest (inr (owned, is, h)) = inr (owned, is, h.1)
+
+  ended_of : (owned : List ℕ) (stages : PlainStages) → NoneCombines core stages ⊎ ((is : ℕ → Bool) × LastEnds core owned is stages) → Ended stages
+  ended_of owned stages (inl h) = inl h
+  ended_of owned stages (inr (is, h)) = inr (owned, is, h)
+
+  -- a body with a mark or without
+  inner_goes : (around inside : Around) (earlier : List ℕ) (w : Within) (counters : List PlainCounter) (owned : List ℕ) (ops : List PlainOp) (comb : Option ℕ) → StandsIn core around inside earlier w (inner counters owned ops comb) → EndsAt core owned ops comb
+      → GoesAlong core turns around w (inner counters owned ops comb)
+  inner_goes around inside earlier w counters owned ops None h e = parts.inners is owns turns around inside earlier w counters owned ops None (inl refl) h
+  inner_goes around inside earlier w counters owned ops (Some at) h e = parts.combined is owns turns around inside earlier w counters owned ops at e.0 e.1 e.2 h
+
+  -- the stage that combines is an inner body of one lane
+  last_goes : (around inside : Around) (earlier : List ℕ) (w : Within) (first last : ℕ) (node : PlainNode) (rest : PlainStages) (owned : List ℕ) (one : ℕ → Bool) → LastEnds core owned one (more_stage first last true node rest) → StandsIn core around inside earlier w node
+      → GoesAlong core turns around w node × (rest ≡ no_stage)
+  last_goes around inside earlier w first last (inner counters own ops (Some at)) no_stage owned one h s = (parts.inners is owns turns around inside earlier w counters own ops (Some at) (inr h.1) s, refl)
+  last_goes around inside earlier w first last (inner counters own ops (Some at)) (more_stage f l c n rest) owned one h s = absurd h
+  last_goes around inside earlier w first last (inner counters own ops None) rest owned one h s = absurd h
+  last_goes around inside earlier w first last (outer counters style own stages) rest owned one h s = absurd h
+  last_goes around inside earlier w first last (fsm start state test body next) rest owned one h s = absurd h
+  last_goes around inside earlier w first last (branch test a b) rest owned one h s = absurd h
+  last_goes around inside earlier w first last (load d m spans) rest owned one h s = absurd h
+  last_goes around inside earlier w first last (store d m spans) rest owned one h s = absurd h
+  last_goes around inside earlier w first last (sparse kind d m index spans count par) rest owned one h s = absurd h
+
+  -- stages of the first lane
+  are_first : (stages : PlainStages) → AreEnded core stages → AreOfFirst stages
+  are_first no_stage e = tt
+  are_first (more_stage first last true node rest) e = (e.0, e.1, are_first rest e.2)
+  are_first (more_stage first last false node rest) e = (e.0, e.1, are_first rest e.3)
+
+  -- in one lane, or in several
+  outer_goes : (around inside : Around) (earlier : List ℕ) (w : Within) (counters : List PlainCounter) (style : Style) (owned : List ℕ) (stages : PlainStages) → StandsIn core around inside earlier w (outer counters style owned stages) → OwnInLanes stages → AreEnded core stages
+      → (is_stream style ≡ true → lanes_of counters ≡ 1) → (lanes_of counters ≡ 1) ⊎ NoneCombines core stages → ((l : ℕ) → l < lanes_of counters → AllGoAlong core turns (within around counters owned) (in_lane (memory_order core) counters owned w l) stages)
+      → GoesAlong core turns around w (outer counters style owned stages)
+  outer_goes around inside earlier w counters style owned stages h own e alone (inl one) go = parts.outers is owns turns around inside earlier w counters style owned stages one h (go 0 (first_lane (lanes_of counters) one))
+  outer_goes around inside earlier w counters style owned stages h own e alone (inr none) go = by (lanes_of counters == 1) refl (is_stream style) refl
+    where
+      by : (b : Bool) → (lanes_of counters == 1) ≡ b → (c : Bool) → is_stream style ≡ c → GoesAlong core turns around w (outer counters style owned stages)
+      by true i c j =
+          let one : lanes_of counters ≡ 1 = eqb-true (lanes_of counters) 1 i in
+          parts.outers is owns turns around inside earlier w counters style owned stages one h (go 0 (first_lane (lanes_of counters) one))
+      by false i true j = absurd (true≢false (sym (eq-eqb (lanes_of counters) 1 (alone j)) ∙ i))
+      by false i false j = parts.stages is owns turns around inside earlier w counters style owned stages i j none (are_first stages e) own h go
+
+  mutual
+    node_goes : (node : PlainNode) (around inside : Around) (earlier : List ℕ) (w : Within) → StandsIn core around inside earlier w node → OwnsInLanes node → IsEnded core node → CombinesAlone core node → GoesAlong core turns around w node
+    node_goes (inner counters owned ops comb) around inside earlier w h own e alone = inner_goes around inside earlier w counters owned ops comb h e
+    node_goes (outer counters style owned stages) around inside earlier w h own e alone =
+        outer_goes around inside earlier w counters style owned stages h own e.1 e.2 alone.0
+        (λ l lt. stages_go stages (within around counters owned) (within inside (counters_in w counters) (owned_in_lanes (memory_order core) counters owned w)) (earlier ++ owned) (in_lane (memory_order core) counters owned w l)
+        (parts.outers_stand around inside earlier w counters style owned stages l lt h) own (ended_of owned stages e.0) e.1 alone.1)
+    node_goes (fsm start state test body next) around inside earlier w h own e alone =
+        parts.fsms is owns turns around inside earlier w start state test body next h
+        (node_goes body (with_state core around state) (within inside [] ((owning (memory_order core) (state ∷ []) w).number state ∷ [])) (earlier ++ state ∷ []) (owning (memory_order core) (state ∷ []) w)
+        (parts.fsms_stand around inside earlier w start state test body next h) own e alone)
+    node_goes (branch test first second) around inside earlier w h own e alone =
+        let s = parts.branches_stand around inside earlier w test first second h in
+        parts.branches is owns turns around inside earlier w test first second h
+        (node_goes first around inside earlier w s.0 own.0 e.0 alone.0) (node_goes second around inside (earlier ++ owned_in first) w s.1 own.1 e.1 alone.1)
+    node_goes (load d m spans) around inside earlier w h own e alone = parts.transfers is owns turns around inside earlier w (load d m spans) tt h
+    node_goes (store d m spans) around inside earlier w h own e alone = parts.transfers is owns turns around inside earlier w (store d m spans) tt h
+    node_goes (sparse kind d m index spans count par) around inside earlier w h own e alone = parts.transfers is owns turns around inside earlier w (sparse kind d m index spans count par) tt h
+
+    stages_go : (stages : PlainStages) (around inside : Around) (earlier : List ℕ) (w : Within) → AllStandIn core around inside earlier w stages → OwnInLanes stages → Ended stages → AreEnded core stages → CombineAlone core stages → AllGoAlong core turns around w stages
+    stages_go no_stage around inside earlier w h own m e alone = tt
+    stages_go (more_stage first last true node rest) around inside earlier w h own (inl m) e alone = absurd m
+    stages_go (more_stage first last true node rest) around inside earlier w h own (inr (owned, one, m)) e alone =
+        let l = last_goes around inside earlier w first last node rest owned one m h.0 in
+        (l.0, stages_go rest around inside (earlier ++ owned_in node) w h.1 own.2 (subst Ended (sym l.1) (inl tt)) e.2 alone)
+    stages_go (more_stage first last false node rest) around inside earlier w h own m e alone =
+        (node_goes node around inside earlier w h.0 own.0 e.2 alone.0, stages_go rest around inside (earlier ++ owned_in node) w h.1 own.1 (after_one first last node rest m) e.3 alone.1)
+
+pub nodes_go : (core : PlainCore) → Parts core → NodesGo core
+nodes_go core parts is owns turns around inside earlier w node h own e alone = node_goes core parts is owns turns node around inside earlier w h own e alone

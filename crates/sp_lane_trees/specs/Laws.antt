@@ -1,0 +1,17 @@
+-- A law of all nodes in lanes, as a statement.
+use Rattle.std.specs.Prelude.{ℕ, List}
+use Rattle.sp_core.specs.Around.{Around}
+use Rattle.sp_core.specs.Invariant.{IsCore}
+use Rattle.sp_core.specs.PlainCore.{PlainNode, PlainCore}
+use Rattle.sp_lanes.specs.Within.{Within}
+use Rattle.sp_copies.specs.Copies.{OwnsInLanes}
+use Rattle.sp_lane_endings.specs.Ending.{IsEnded}
+use Rattle.sp_lane_inners.specs.Along.{GoesAlong, StandsIn}
+use Rattle.sp_lane_trees.specs.Alone.{CombinesAlone}
+
+-- a node goes along wherever it stands, where no combination owns a memory, combinations end their bodies, and a controller with a
+-- stage that combines has one lane
+abbrev pub NodesGo : PlainCore → Type 0
+NodesGo core =
+    IsCore core → OwnsInLanes core.root → (turns : ℕ) (around inside : Around) (earlier : List ℕ) (w : Within) (node : PlainNode)
+    → StandsIn core around inside earlier w node → OwnsInLanes node → IsEnded core node → CombinesAlone core node → GoesAlong core turns around w node
