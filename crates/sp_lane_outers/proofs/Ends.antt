@@ -21,16 +21,16 @@ use Rattle.sp_lane_transfers.proofs.Moving.{Moves, pure_moves, bind_moves, memor
 
 -- nothing is changed
 module _ (core : PlainCore) (reading : Reading) (turns : ℕ) where
-  abbrev Still : Store → Store → Type 0
+  abbrev pub Still : Store → Store → Type 0
   Still s t = s ≡ t
 
-  still_none : (s : Store) → Still s s
+  pub still_none : (s : Store) → Still s s
   still_none s = refl
 
-  still_both : (s t u : Store) → Still s t → Still t u → Still s u
+  pub still_both : (s t u : Store) → Still s t → Still t u → Still s u
   still_both s t u e f = e ∙ f
 
-  abbrev Stays : {A : Type 0} → Step A → Type 0
+  abbrev pub Stays : {A : Type 0} → Step A → Type 0
   Stays step = Leaves Still still_none still_both step
 
   ensure_stays : (b : Bool) → Stays (ensure b)

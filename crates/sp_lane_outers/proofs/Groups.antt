@@ -94,10 +94,10 @@ module _ (core : PlainCore) (is : IsCore core) (owns : OwnsInLanes core.root) (l
   Left t ended = (n : ℕ) → n < length (unrolled core).mems → ((m : ℕ) → is_usable core around m ≡ true → w.number m ≡ n → ⊥) → is_among n (owned_in lone) ≡ false → ended n ≡ t n
 
   none_left : (t : Store) → Left t t
-  none_left t n lt outer free = refl
+  none_left t n lt out free = refl
 
   both_left : (t u v : Store) → Left t u → Left u v → Left t v
-  both_left t u v f g n lt outer free = g n lt outer free ∙ f n lt outer free
+  both_left t u v f g n lt out free = g n lt out free ∙ f n lt out free
 
   module _ (plain lanes : Scope) (agree : ScopesAgree w plain lanes) (bs : List Bounds) (long : length bs ≡ length counters) where
     -- a group in the core, and in lanes
@@ -125,7 +125,7 @@ module _ (core : PlainCore) (is : IsCore core) (owns : OwnsInLanes core.root) (l
         let g : IsGroup core around inside_lanes w counters owned (λ l. in_group plain (loops_of plainly counters bs) (lane_values counters l values)) (in_group lanes (loops_of scope.in_lanes counters bs) values) count =
         groups_are core room is owns around inside w h.together h.copies counters owned bound (owned_inside core around earlier h.owned_before counters owned right.1) (owned_apart core around earlier h.owned_before owned right.1)
         plain lanes agree bs values long first.1.values_long count first.1.some first.1.most first.1.live first.1.masked in
-        let x : Followed core around w Left none_left both_left Any (in_all_lanes values) t r.0 r.1 =
+        let x =
         turn_follows core nodes is.memories turns around inside_lanes w counters style owned one (λ l. in_group plain (loops_of plainly counters bs) (lane_values counters l values)) (in_group lanes (loops_of scope.in_lanes counters bs) values) count g not_dram stages (earlier ++ owned) h.right.1 go
         (is_live (loops_of plainly counters bs) (lane_values counters 0 values)) (is_live (loops_of scope.in_lanes counters bs) values) (live_same counters bs values) s t r.1 r.0 fits alike r.3 in
         record {
@@ -183,7 +183,7 @@ module _ (core : PlainCore) (is : IsCore core) (owns : OwnsInLanes core.root) (l
       let long : length bs ≡ length counters = order_long (bounds core plainly turns plain) counters s first.1 bs first.2 in
       let on : GoOn counters = goes_on core around counters each in
       let x : Followed core around w Left none_left both_left (Same core around w Left none_left both_left) (in_order (bounds (unrolled core) scope.in_lanes turns lanes) (counters_in w counters)) t bs first.1 =
-      all_bounds_follow core around w Left none_left both_left inside h.together h.copies (room is owns around w h.copies) plain lanes agree (λ u v l n lt outer free. l n outer) is.memories lists turns counters h.plain.0 each s t first.1 bs fits alike first.2 in
+      all_bounds_follow core around w Left none_left both_left inside h.together h.copies (room is owns around w h.copies) plain lanes agree (λ u v l n lt out free. l n out) is.memories lists turns counters h.plain.0 each s t first.1 bs fits alike first.2 in
       let all : List (List ℤ) = group_values (loops_of scope.in_lanes counters bs) in
       let y : Followed core around w Left none_left both_left Any (in_order (in_all_lanes plain lanes agree bs long) all) x.ended second.0 second.1 =
       groups_follow plain lanes agree bs long all (first_are_live counters bs long h.laned.0 on) first.1 x.ended second.1 second.0 x.fits x.agree
@@ -208,7 +208,7 @@ module _ (core : PlainCore) (is : IsCore core) (owns : OwnsInLanes core.root) (l
         x.1,
         ap (λ node. run (unrolled core) scope.in_lanes turns node lanes t) lone_is ∙ x.2,
         x.3,
-        (λ n lt outer free. x.4 n lt outer (ap (λ node. is_among n (owned_in node)) (sym lone_is) ∙ free)),
+        (λ n lt out free. x.4 n lt out (ap (λ node. is_among n (owned_in node)) (sym lone_is) ∙ free)),
       )
 
 pub outer_goes : (core : PlainCore) → ListsFit core → NodesFit core → PlacesHaveRoom core → OutersGo core

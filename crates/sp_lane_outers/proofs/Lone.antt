@@ -10,7 +10,7 @@ use Rattle.sp_core.specs.Elements.{numbers_below}
 use Rattle.sp_core.specs.History.{Runs}
 use Rattle.sp_core.specs.Invariant.{owned_in, owned_in_stages, AreRight}
 use Rattle.sp_core.specs.MemoryRules.{are_memories_right}
-use Rattle.sp_core.specs.PlainCore.{PlainCounter, PlainMem, PlainNode, PlainStages, outer, PlainCore}
+use Rattle.sp_core.specs.PlainCore.{PlainCounter, PlainMem, PlainNode, PlainStages, PlainCore}
 use Rattle.sp_core.specs.Scope.{Reading, plainly, Scope}
 use Rattle.sp_core.specs.Scope as scope
 use Rattle.sp_core.specs.Sequential.{renew, end_of_group, run_stages}

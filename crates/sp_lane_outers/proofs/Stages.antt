@@ -48,7 +48,7 @@ some_same : (live too : ℕ → Bool) → ((l : ℕ) → too l ≡ live l) → (
 some_same live too same first last = ap (λ b. nat_le first last && b) (up_same live too same first (last - first))
 
 -- what is in none of two lists
-neither : (xs ys : List ℕ) (n : ℕ) → is_among n (xs ++ ys) ≡ false → (is_among n xs ≡ false) × (is_among n ys ≡ false)
+pub neither : (xs ys : List ℕ) (n : ℕ) → is_among n (xs ++ ys) ≡ false → (is_among n xs ≡ false) × (is_among n ys ≡ false)
 neither xs ys n e = by (is_among n xs) (is_among n ys) (sym (among_both n xs ys) ∙ e)
   where
     by : (a b : Bool) → (a || b) ≡ false → (a ≡ false) × (b ≡ false)

@@ -41,7 +41,7 @@ use Rattle.sp_lane_inners.proofs.Steps.{order_parts, order_mapped}
 use Rattle.sp_lane_nodes.proofs.Nodes.{Any}
 use Rattle.sp_lane_outers.specs.Stages.{AllGoAlong}
 use Rattle.sp_lane_outers.proofs.Lone.{turn_of}
-use Rattle.sp_lane_stages.specs.Laws.{AreFirst, StagesGo}
+use Rattle.sp_lane_stages.specs.Laws.{AreOfFirst, StagesGo}
 use Rattle.sp_lane_stages.proofs.Lanes as lanes_group
 use Rattle.sp_lane_stages.proofs.Live.{live_in}
 use Rattle.sp_lane_stages.proofs.Owned.{lane_apart, stages_apart}
@@ -71,7 +71,7 @@ no_combination core (more_stage first last true node rest) h = absurd h
 no_combination core (more_stage first last false node rest) h = no_combination core rest h
 
 module _ (core : PlainCore) (is : IsCore core) (owns : OwnsInLanes core.root) (lists : ListsFit core) (nodes : NodesFit core) (room : PlacesHaveRoom core) (turns : ℕ)
-    (around inside : Around) (earlier : List ℕ) (w : Within) (counters : List PlainCounter) (style : Style) (owned : List ℕ) (stages : PlainStages) (several : (lanes_of counters == 1) ≡ false) (no_stream : is_stream style ≡ false) (none : NoneCombines core stages) (firsts : AreFirst stages) (own : OwnInLanes stages)
+    (around inside : Around) (earlier : List ℕ) (w : Within) (counters : List PlainCounter) (style : Style) (owned : List ℕ) (stages : PlainStages) (several : (lanes_of counters == 1) ≡ false) (no_stream : is_stream style ≡ false) (none : NoneCombines core stages) (firsts : AreOfFirst stages) (own : OwnInLanes stages)
     (h : StandsIn core around inside earlier w (outer counters style owned stages)) (go : (l : ℕ) → l < lanes_of counters → AllGoAlong core turns (within around counters owned) (in_lane (memory_order core) counters owned w l) stages) where
   right : (is_node_right core around (outer counters style owned stages) ≡ true) × (is_owned_once core earlier owned ≡ true)
   right = and_parts (is_node_right core around (outer counters style owned stages)) (is_owned_once core earlier owned) h.right.0
@@ -106,8 +106,8 @@ module _ (core : PlainCore) (is : IsCore core) (owns : OwnsInLanes core.root) (l
       → is_among ((in_lane (memory_order core) counters owned w j).number m) (flat_map owned_in (nodes_in (memory_order core) (in_lane (memory_order core) counters owned w l) stages)) ≡ false
   apart m l j i lt less =
       ap (λ b. is_among (cond b (occurrence m (w.copy * lanes_of counters + j) (memory_order core)) (w.number m)) (flat_map owned_in (nodes_in (memory_order core) (in_lane (memory_order core) counters owned w l) stages))) i
-      ∙ lane_apart core (in_lane (memory_order core) counters owned w l) stages own (λ n. lane_fits w.copy (lanes_of counters) l (occurrences n owned) (copies_in_stages stages n) (occurrences n (memory_order core)) lt (h.enough n))
-      m (w.copy * lanes_of counters + j) (bound m j i less) (stages_apart core around earlier counters style owned stages h.right m i)
+      ∙ lane_apart core (in_lane (memory_order core) counters owned w l) m (w.copy * lanes_of counters + j) (bound m j i less) stages own
+      (λ n. lane_fits w.copy (lanes_of counters) l (occurrences n owned) (copies_in_stages stages n) (occurrences n (memory_order core)) lt (h.enough n)) (stages_apart core around earlier counters style owned stages h.right m i)
 
   -- the node in lanes
   abbrev laned : PlainNode
@@ -130,10 +130,10 @@ module _ (core : PlainCore) (is : IsCore core) (owns : OwnsInLanes core.root) (l
   Left t ended = (n : ℕ) → n < length (unrolled core).mems → ((m : ℕ) → is_usable core around m ≡ true → w.number m ≡ n → ⊥) → is_among n (owned_in laned) ≡ false → ended n ≡ t n
 
   none_left : (t : Store) → Left t t
-  none_left t n lt outer free = refl
+  none_left t n lt out free = refl
 
   both_left : (t u v : Store) → Left t u → Left u v → Left t v
-  both_left t u v f g n lt outer free = g n lt outer free ∙ f n lt outer free
+  both_left t u v f g n lt out free = g n lt out free ∙ f n lt out free
 
   module _ (plain lanes : Scope) (agree : ScopesAgree w plain lanes) (bs : List Bounds) (long : length bs ≡ length counters) where
     -- a group in the core, and in lanes
@@ -158,9 +158,19 @@ module _ (core : PlainCore) (is : IsCore core) (owns : OwnsInLanes core.root) (l
         let g : IsGroup core around inside_lanes w counters owned (λ l. in_group plain (loops_of plainly counters bs) (lane_values counters l values)) (in_group lanes (loops_of scope.in_lanes counters bs) values) count =
         groups_are core room is owns around inside w h.together h.copies counters owned bound (owned_inside core around earlier h.owned_before counters owned right.1) (owned_apart core around earlier h.owned_before owned right.1)
         plain lanes agree bs values long first.1.values_long count first.1.some first.1.most first.1.live first.1.masked in
+        let x =
         lanes_group.group_follows core nodes is.memories turns around inside_lanes w counters style owned no_stream (λ l. in_group plain (loops_of plainly counters bs) (lane_values counters l values)) (in_group lanes (loops_of scope.in_lanes counters bs) values) count g
         not_dram stages (earlier ++ owned) firsts none h.right.1 go apart (λ l. is_live (loops_of plainly counters bs) (lane_values counters l values)) (is_live (loops_of scope.in_lanes counters bs) values)
-        (λ l lt. live_in counters bs values l long ∙ first.1.live l lt) first.1.live first.1.masked s t after gs fits alike there
+        (λ l lt. live_in counters bs values l long ∙ first.1.live l lt) first.1.live first.1.masked s t after gs fits alike there in
+        record {
+          answer = x.answer;
+          ended = x.ended;
+          ran = x.ran;
+          agree = x.agree;
+          left = x.left;
+          fits = x.fits;
+          related = tt;
+        }
 
     groups_follow : (all : List (List ℤ)) → All HasFirst all → Follows core around w Left none_left both_left Any (in_order in_core (flat_map cut all)) (in_order in_all_lanes all)
     unfolding in_order pure
@@ -207,7 +217,7 @@ module _ (core : PlainCore) (is : IsCore core) (owns : OwnsInLanes core.root) (l
       let long : length bs ≡ length counters = order_long (bounds core plainly turns plain) counters s first.1 bs first.2 in
       let on : GoOn counters = goes_on core around counters each in
       let x : Followed core around w Left none_left both_left (Same core around w Left none_left both_left) (in_order (bounds (unrolled core) scope.in_lanes turns lanes) (counters_in w counters)) t bs first.1 =
-      all_bounds_follow core around w Left none_left both_left inside h.together h.copies (room is owns around w h.copies) plain lanes agree (λ u v l n lt outer free. l n outer) is.memories lists turns counters h.plain.0 each s t first.1 bs fits alike first.2 in
+      all_bounds_follow core around w Left none_left both_left inside h.together h.copies (room is owns around w h.copies) plain lanes agree (λ u v l n lt out free. l n out) is.memories lists turns counters h.plain.0 each s t first.1 bs fits alike first.2 in
       let all : List (List ℤ) = group_values (loops_of scope.in_lanes counters bs) in
       let y : Followed core around w Left none_left both_left Any (in_order (in_all_lanes plain lanes agree bs long) all) x.ended second.0 second.1 =
       groups_follow plain lanes agree bs long all (first_are_live counters bs long h.laned.0 on) first.1 x.ended second.1 second.0 x.fits x.agree
@@ -232,7 +242,7 @@ module _ (core : PlainCore) (is : IsCore core) (owns : OwnsInLanes core.root) (l
         x.1,
         ap (λ node. run (unrolled core) scope.in_lanes turns node lanes t) laned_is ∙ x.2,
         x.3,
-        (λ n lt outer free. x.4 n lt outer (ap (λ node. is_among n (owned_in node)) (sym laned_is) ∙ free)),
+        (λ n lt out free. x.4 n lt out (ap (λ node. is_among n (owned_in node)) (sym laned_is) ∙ free)),
       )
 
 pub stages_go : (core : PlainCore) → ListsFit core → NodesFit core → PlacesHaveRoom core → StagesGo core

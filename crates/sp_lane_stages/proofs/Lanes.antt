@@ -35,7 +35,7 @@ use Rattle.sp_lane_nodes.proofs.Nodes.{Any}
 use Rattle.sp_lane_outers.specs.Stages.{AllGoAlong}
 use Rattle.sp_lane_outers.proofs.Lone.{turn_of}
 use Rattle.sp_lane_outers.proofs.Renewing.{Made, make_all, made_fit}
-use Rattle.sp_lane_stages.specs.Laws.{AreFirst}
+use Rattle.sp_lane_stages.specs.Laws.{AreOfFirst}
 use Rattle.sp_lane_stages.proofs.Passing.{neither, Passed, passes, rests}
 
 -- the end of a group that is of no stream block
@@ -61,12 +61,9 @@ less_of l more count e = omega (arith, e)
 next_of : (l more count : ℕ) → l + suc more ≡ count → suc l + more ≡ count
 next_of l more count e = omega (arith, e)
 
-more_of : (a more d : ℕ) → suc (more + d) ≡ suc more + d
-more_of a more d = omega arith
-
 module _ (core : PlainCore) (nodes : NodesFit core) (memories : are_memories_right core ≡ true) (turns : ℕ) (around inside_lanes : Around) (w : Within) (counters : List PlainCounter) (style : Style) (owned : List ℕ) (no_stream : is_stream style ≡ false)
     (plain : ℕ → Scope) (lanes : Scope) (count : ℕ) (g : IsGroup core around inside_lanes w counters owned plain lanes count)
-    (not_dram : (r : ℕ) → is_among (dram_number core r) owned ≡ false) (stages : PlainStages) (earlier : List ℕ) (firsts : AreFirst stages) (none : NoneCombines core stages) (right : AreRight core (within around counters owned) earlier stages)
+    (not_dram : (r : ℕ) → is_among (dram_number core r) owned ≡ false) (stages : PlainStages) (earlier : List ℕ) (firsts : AreOfFirst stages) (none : NoneCombines core stages) (right : AreRight core (within around counters owned) earlier stages)
     (go : (l : ℕ) → l < lanes_of counters → AllGoAlong core turns (within around counters owned) (in_lane (memory_order core) counters owned w l) stages)
     (apart : (m l j : ℕ) → is_among m owned ≡ true → l < lanes_of counters → j < lanes_of counters
     → is_among ((in_lane (memory_order core) counters owned w j).number m) (flat_map owned_in (nodes_in (memory_order core) (in_lane (memory_order core) counters owned w l) stages)) ≡ false)

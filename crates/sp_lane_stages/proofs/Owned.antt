@@ -8,15 +8,15 @@ use Rattle.sp_core.specs.Around.{Around, within, is_port_kind}
 use Rattle.sp_core.specs.Declarations.{mem, is_among}
 use Rattle.sp_core.specs.Invariant.{owned_in, owned_in_stages, IsRight}
 use Rattle.sp_core.specs.NodeRules.{is_owned_once}
-use Rattle.sp_core.specs.PlainCore.{PlainCounter, PlainStages, outer, PlainCore}
+use Rattle.sp_core.specs.PlainCore.{PlainCounter, PlainNode, PlainStages, outer, no_stage, more_stage, PlainCore}
 use Rattle.sp_lanes.specs.Order.{memory_order, occurrence}
-use Rattle.sp_lanes.specs.Unrolled.{nodes_in}
+use Rattle.sp_lanes.specs.Unrolled.{node_in, nodes_in}
 use Rattle.sp_lanes.specs.Within.{Within}
 use Rattle.sp_words.specs.declared.kind.Style.{Style}
-use Rattle.sp_copies.specs.Copies.{one_if, occurrences, copies_in_stages, OwnInLanes}
+use Rattle.sp_copies.specs.Copies.{one_if, occurrences, copies_in, copies_in_stages, OwnsInLanes, OwnInLanes}
 use Rattle.sp_copies.proofs.Found.{are_apart}
 use Rattle.sp_copies.proofs.MemoryRules.{count_among, node_once}
-use Rattle.sp_copies.proofs.Owners.{among_count, no_copies_of, Fits, nodes_own}
+use Rattle.sp_copies.proofs.Owners.{among_count, no_copies, part_fits, Fits, node_owns}
 use Rattle.sp_copies.proofs.Totals.{span}
 use Rattle.sp_unrolled_rules.proofs.Givens.{append_none}
 use Rattle.sp_unrolled_rules.proofs.Places.{among_both}
@@ -77,10 +77,32 @@ tells_copy order m k l x j h = elim (eqb_tells (occurrence x j order) (occurrenc
       ]
     ]
 
--- so no copy of it is owned in a lane's stages
-pub lane_apart : (core : PlainCore) (w : Within) (stages : PlainStages) → OwnInLanes stages → Fits (memory_order core) (copies_in_stages stages) w → (m k : ℕ) → k < occurrences m (memory_order core) → is_among m (owned_in_stages stages) ≡ false
-    → is_among (occurrence m k (memory_order core)) (flat_map owned_in (nodes_in (memory_order core) w stages)) ≡ false
-lane_apart core w stages own fits m k lt apart =
-    let none : occurrences m (owned_in_stages stages) ≡ 0 = none_counted m (owned_in_stages stages) apart in
-    not_among (occurrence m k (memory_order core)) (flat_map owned_in (nodes_in (memory_order core) w stages))
-    (nodes_own (memory_order core) (occurrence m k (memory_order core)) m k (tells_copy (memory_order core) m k lt) stages w own (omega (arith, none)) fits ∙ ap (λ n. span (w.copy * n) n k) (no_copies_of m stages none))
+-- what is in none of two lists
+neither : (xs ys : List ℕ) (n : ℕ) → is_among n (xs ++ ys) ≡ false → (is_among n xs ≡ false) × (is_among n ys ≡ false)
+neither xs ys n e = by (is_among n xs) (is_among n ys) (sym (among_both n xs ys) ∙ e)
+  where
+    by : (a b : Bool) → (a || b) ≡ false → (a ≡ false) × (b ≡ false)
+    by true b e = absurd (true≢false e)
+    by false b e = (refl, e)
+
+-- so no copy of it is owned in a node of a lane, nor in a lane's stages
+module _ (core : PlainCore) (w : Within) (m k : ℕ) (lt : k < occurrences m (memory_order core)) where
+  node_apart : (node : PlainNode) → OwnsInLanes node → Fits (memory_order core) (copies_in node) w → is_among m (owned_in node) ≡ false → is_among (occurrence m k (memory_order core)) (owned_in (node_in (memory_order core) w node)) ≡ false
+  node_apart node own fits apart =
+      let none : occurrences m (owned_in node) ≡ 0 = none_counted m (owned_in node) apart in
+      not_among (occurrence m k (memory_order core)) (owned_in (node_in (memory_order core) w node))
+      (node_owns (memory_order core) (occurrence m k (memory_order core)) m k (tells_copy (memory_order core) m k lt) node w own (omega (arith, none)) fits ∙ ap (λ n. span (w.copy * n) n k) (no_copies m node none))
+
+  pub lane_apart : (stages : PlainStages) → OwnInLanes stages → Fits (memory_order core) (copies_in_stages stages) w → is_among m (owned_in_stages stages) ≡ false
+      → is_among (occurrence m k (memory_order core)) (flat_map owned_in (nodes_in (memory_order core) w stages)) ≡ false
+  unfolding nodes_in
+  lane_apart no_stage own fits apart = refl
+  lane_apart (more_stage first last true node rest) own fits apart =
+      lane_apart rest own.2 (λ n. (part_fits w.copy (copies_in node n) (copies_in_stages rest n) (occurrences n (memory_order core)) (fits n)).1) (neither (owned_in node) (owned_in_stages rest) m apart).1
+  lane_apart (more_stage first last false node rest) own fits apart =
+      let i : ℕ = occurrence m k (memory_order core) in
+      let p = neither (owned_in node) (owned_in_stages rest) m apart in
+      among_both i (owned_in (node_in (memory_order core) w node)) (flat_map owned_in (nodes_in (memory_order core) w rest))
+      ∙ ap (λ b. b || is_among i (flat_map owned_in (nodes_in (memory_order core) w rest)))
+      (node_apart node own.0 (λ n. (part_fits w.copy (copies_in node n) (copies_in_stages rest n) (occurrences n (memory_order core)) (fits n)).0) p.0)
+      ∙ lane_apart rest own.1 (λ n. (part_fits w.copy (copies_in node n) (copies_in_stages rest n) (occurrences n (memory_order core)) (fits n)).1) p.1

@@ -26,7 +26,7 @@ use Rattle.sp_lane_groups.proofs.Renewed.{bind_known, bind_split}
 use Rattle.sp_lane_words.proofs.Masks.{one_live}
 use Rattle.sp_lane_inners.specs.Along.{AgreeAt}
 use Rattle.sp_lane_outers.specs.Stages.{AllGoAlong}
-use Rattle.sp_lane_stages.specs.Laws.{AreFirst}
+use Rattle.sp_lane_stages.specs.Laws.{AreOfFirst}
 
 -- what is in none of two lists
 pub neither : (xs ys : List ℕ) (n : ℕ) → is_among n (xs ++ ys) ≡ false → (is_among n xs ≡ false) × (is_among n ys ≡ false)
@@ -56,7 +56,7 @@ module _ (core : PlainCore) (nodes : NodesFit core) (memories : are_memories_rig
     pub runs : (rest : PlainStages) (g : Runs) (last : Store) → run_there rest ended ≡ went g last → (h : Runs) × (run_there (stages_in l (nodes_in (memory_order core) w xs) rest) t ≡ went h last)
 
   -- a lane that has an iteration
-  pub passes : too l ≡ true → (live : ℕ → Bool) → live 0 ≡ true → (xs : PlainStages) (earlier : List ℕ) → AreFirst xs → NoneCombines core xs → AllGoAlong core turns place w xs → AreRight core place earlier xs
+  pub passes : too l ≡ true → (live : ℕ → Bool) → live 0 ≡ true → (xs : PlainStages) (earlier : List ℕ) → AreOfFirst xs → NoneCombines core xs → AllGoAlong core turns place w xs → AreRight core place earlier xs
       → (s t after : Store) (r : Runs) → StoreFits core s → AgreeAt core place w s t → run_stages core plainly turns xs live plain s ≡ went r after → Passed xs t after
   unfolding run_stages nodes_in pure
   passes on live first no_stage earlier firsts none go right s t after r fits agrees ran = record {

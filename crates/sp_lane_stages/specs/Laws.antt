@@ -13,9 +13,9 @@ use Rattle.sp_lane_inners.specs.Along.{GoesAlong, StandsIn}
 use Rattle.sp_lane_outers.specs.Stages.{AllGoAlong}
 
 -- stages are of the first lane, as they are before lanes stand one after the other
-abbrev pub AreFirst : PlainStages → Type 0
-AreFirst no_stage = Unit {0}
-AreFirst (more_stage first last comb node rest) = (first ≡ 0) × (last ≡ 0) × AreFirst rest
+abbrev pub AreOfFirst : PlainStages → Type 0
+AreOfFirst no_stage = Unit {0}
+AreOfFirst (more_stage first last comb node rest) = (first ≡ 0) × (last ≡ 0) × AreOfFirst rest
 
 -- a controller of several lanes that is no stream block, and whose stages own in each lane what they own, goes along where none of
 -- its stages combines, and each goes along in each lane
@@ -23,5 +23,5 @@ abbrev pub StagesGo : PlainCore → Type 0
 StagesGo core =
     IsCore core → OwnsInLanes core.root
     → (turns : ℕ) (around inside : Around) (earlier : List ℕ) (w : Within) (counters : List PlainCounter) (style : Style) (owned : List ℕ) (stages : PlainStages) → (lanes_of counters == 1) ≡ false → is_stream style ≡ false
-    → NoneCombines core stages → AreFirst stages → OwnInLanes stages → StandsIn core around inside earlier w (outer counters style owned stages)
+    → NoneCombines core stages → AreOfFirst stages → OwnInLanes stages → StandsIn core around inside earlier w (outer counters style owned stages)
     → ((l : ℕ) → l < lanes_of counters → AllGoAlong core turns (within around counters owned) (in_lane (memory_order core) counters owned w l) stages) → GoesAlong core turns around w (outer counters style owned stages)

@@ -19,7 +19,7 @@ use Rattle.sp_lane_inners.specs.Laws.{InnersGo}
 use Rattle.sp_lane_nodes.specs.Laws.{BranchesStand, BranchesGo, FsmsStand, FsmsGo}
 use Rattle.sp_lane_outers.specs.Laws.{OutersStand, OutersGo}
 use Rattle.sp_lane_outers.specs.Stages.{AllGoAlong, AllStandIn}
-use Rattle.sp_lane_stages.specs.Laws.{AreFirst, StagesGo}
+use Rattle.sp_lane_stages.specs.Laws.{AreOfFirst, StagesGo}
 use Rattle.sp_lane_transfers.specs.Laws.{TransfersGo}
 use Rattle.sp_lane_trees.specs.Laws.{NodesGo}
 use Rattle.sp_lane_trees.specs.Alone.{CombinesAlone, CombineAlone}
@@ -73,7 +73,7 @@ module _ (core : PlainCore) (parts : Parts core) (is : IsCore core) (owns : Owns
   last_goes around inside earlier w first last (sparse kind d m index spans count par) rest owned one h s = absurd h
 
   -- stages of the first lane
-  are_first : (stages : PlainStages) → AreEnded core stages → AreFirst stages
+  are_first : (stages : PlainStages) → AreEnded core stages → AreOfFirst stages
   are_first no_stage e = tt
   are_first (more_stage first last true node rest) e = (e.0, e.1, are_first rest e.2)
   are_first (more_stage first last false node rest) e = (e.0, e.1, are_first rest e.3)
