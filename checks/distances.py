@@ -259,7 +259,7 @@ def main():
     text = "".join(row + "\n" for row in distance_rows(r, 120) + ["stages"] + stage_rows(r, 60))
     if sys.argv[1:] == ["--check"]:
         here = os.path.dirname(os.path.abspath(__file__))
-        with open(os.path.join(here, "../crates/sp_deps/src/rows.rt")) as f:
+        with open(os.path.join(here, "../crates/base_tests/src/deps/rows.rt")) as f:
             stands = f.read()
         missing = [row for row in text.splitlines() if row != "stages" and row not in stands]
         print("the rows stand in the tests" if not missing else f"{len(missing)} rows differ")

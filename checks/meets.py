@@ -99,9 +99,9 @@ def main():
     made = rows(random.Random(20251128), 80, False) + rows(random.Random(20261128), 24, True)
     if sys.argv[1:] == ["--check"]:
         here = os.path.dirname(os.path.abspath(__file__))
-        with open(os.path.join(here, "../crates/sp_meets/src/rows.rt")) as f:
+        with open(os.path.join(here, "../crates/form_tests/src/meets/rows.rt")) as f:
             stands = f.read()
-        with open(os.path.join(here, "../crates/sp_meets/src/meets_tests.rt")) as f:
+        with open(os.path.join(here, "../crates/form_tests/src/meets/loops.rt")) as f:
             wrong = wrong_loops(f.read())
         missing = [row for row in made if row not in stands]
         print("the rows stand in the tests" if not missing else f"{len(missing)} rows differ")

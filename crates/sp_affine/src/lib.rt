@@ -10,6 +10,3 @@ mod symbol;
 pub use arithmetic::{add, minus, scale};
 pub use form::{Form, FormError};
 pub use range::{are_counter_ranges, interval};
-
-#[cfg(test)]
-mod tests;

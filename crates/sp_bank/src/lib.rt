@@ -22,6 +22,3 @@ pub use place::{bank_of, offset_of};
 pub use scheme::Scheme;
 pub use searching::search;
 pub use separation::apart;
-
-#[cfg(test)]
-mod tests;

@@ -16,8 +16,6 @@ mod operation_rules;
 mod parts;
 mod shown;
 mod size;
-#[cfg(test)]
-mod tests;
 mod typed;
 
 pub use access::{AccessForms, Meet, Meets};

@@ -19,8 +19,3 @@ pub use examples::{worked_earlier_counters, worked_steps};
 pub use laws::{distances_are_sound, stages_are_sound};
 pub use pairs::distance;
 pub use stages::stage_meet;
-
-#[cfg(test)]
-mod rows;
-#[cfg(test)]
-mod tests;

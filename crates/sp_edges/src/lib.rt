@@ -24,6 +24,3 @@ pub use memory_input::{MemFile, MemInputs};
 pub use memory_output::{MemSink, SinkStop};
 pub use output::{Sink, SinkFailed, put_text};
 pub use std::alloc::AllocError as NoMemory;
-
-#[cfg(test)]
-mod tests;

@@ -4,8 +4,6 @@
 mod connected;
 mod graph;
 mod search;
-#[cfg(test)]
-mod tests;
 
 pub use connected::{components, numbers_tell_components};
 pub use graph::Graph;

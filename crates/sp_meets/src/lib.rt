@@ -19,10 +19,3 @@ pub use collect::meets;
 pub use examples::{worked_loops, worked_stages, worked_transfers};
 pub use least::least_distance;
 pub use std::alloc::AllocError as NoMemory;
-
-#[cfg(test)]
-mod meets_tests;
-#[cfg(test)]
-mod rows;
-#[cfg(test)]
-mod tests;

@@ -4,8 +4,6 @@
 mod least;
 mod order;
 mod schedule;
-#[cfg(test)]
-mod tests;
 
 pub use least::least_within;
 pub use order::Order;

@@ -5,8 +5,6 @@
 
 mod block;
 mod raw;
-#[cfg(test)]
-mod tests;
 
 ghost use Rattle.std.specs.Prelude.{◌≡◌, ℕ, ◌*◌, ◌^◌, ◌<◌, length, replicate, slice_get, slice_set, Some, IfOk, IsOk};
 ghost use Rattle.sp_packed.specs.Elements.{IsWidth};

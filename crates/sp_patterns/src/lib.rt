@@ -19,6 +19,3 @@ pub use forms::forms_of;
 pub use place::CounterPlace;
 pub use std::alloc::AllocError as NoMemory;
 pub use walk::patterns;
-
-#[cfg(test)]
-mod tests;

@@ -8,8 +8,6 @@ mod laws;
 mod number;
 mod program;
 mod statement;
-#[cfg(test)]
-mod tests;
 
 pub use declaration::MemDecl;
 pub use examples::{

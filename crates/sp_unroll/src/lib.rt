@@ -13,8 +13,6 @@ mod order;
 mod parts;
 mod renamed;
 mod shared;
-#[cfg(test)]
-mod tests;
 mod unrolled;
 mod within;
 

@@ -6,9 +6,6 @@ ghost use Rattle.sp_words.specs.declared.types.Ty.{Ty};
 ghost use Rattle.sp_words.specs.WholeNumbers.{with_sign};
 ghost use Rattle.sp_words.specs.Words.{IsWord, has_sign, value_of};
 
-#[cfg(test)]
-mod tests;
-
 use crate::NoMemory;
 use crate::types::Ty;
 use crate::words::{is_negative, mask, value, word_of};

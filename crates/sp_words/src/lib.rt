@@ -8,14 +8,8 @@ mod laws;
 mod memory_kind;
 mod memory_laws;
 mod memory_number;
-#[cfg(test)]
-mod memory_tests;
-#[cfg(test)]
-mod name_tests;
 mod names;
 mod operators;
-#[cfg(test)]
-mod tests;
 mod types;
 mod words;
 

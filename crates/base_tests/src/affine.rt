@@ -1,6 +1,6 @@
 ghost use Rattle.std.specs.Prelude.{◌≡◌, IfOk, length};
 
-use super::*;
+use sp_affine::{Form, FormError, add, are_counter_ranges, interval, minus, scale};
 use std::alloc::{AllocError, Global};
 use std::test::Fail;
 

@@ -1,5 +1,5 @@
 // What the inputs and sinks answer, call by call.
-use crate::{
+use sp_edges::{
     HostInputs, HostSink, InputFault, Inputs, MemFile, MemInputs, MemSink, Sink, SinkFailed,
     SinkStop, put_text,
 };

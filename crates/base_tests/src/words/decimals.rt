@@ -1,8 +1,7 @@
 ghost use Rattle.std.specs.Prelude.{◌↔◌, IsTrue};
 ghost use Rattle.sp_words.specs.Decimal.{AreDigits};
 
-use super::*;
-use crate::{FixTy, Ty, is_word};
+use sp_words::{FixTy, Ty, is_word, of_decimal, value_text};
 use std::process::Abort;
 use std::test::Fail;
 

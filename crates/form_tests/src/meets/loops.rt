@@ -1,5 +1,5 @@
-use crate::meets;
 use sp_core::{Core, CoreCounter, CoreError, CoreMem, Meet, Node, Op, OpKind};
+use sp_meets::meets;
 use sp_patterns::patterns;
 use sp_words::{BinOp, Kind, Ports, Ty};
 use std::alloc::{AllocError, Global};

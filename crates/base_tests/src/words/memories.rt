@@ -1,4 +1,8 @@
-use super::*;
+use sp_words::{
+    ArgIn, ArgOut, Dram, Fifo, Kind, LineBuf, MemId, MemKind, ReadPort, Readable, Reg, Sram,
+    Writable, WritePort, accesses_are_footprints, fresh_memories_fit, kinds_decide,
+    ports_keep_to_their_kinds, states_are_what_is_held, types_name_their_kinds,
+};
 
 fn said<K: MemKind>() -> (Kind, u8, u8) {
     (K::KIND, K::MIN_RANK, K::MAX_RANK)

@@ -1,4 +1,4 @@
-use crate::{Core, CoreError, CoreMem, Node, Op, OpKind};
+use sp_core::{Core, CoreError, CoreMem, Node, Op, OpKind};
 use sp_words::{BinOp, Kind, PortDecl, Ports, Ty};
 use std::alloc::Global;
 use std::test::Fail;

@@ -1,9 +1,9 @@
 ghost use Rattle.std.specs.Prelude.{◌≡◌, ◌≤◌, IfOk, length, take};
 
-use crate::least_distance;
-use crate::rows::OWN;
+use crate::meets::rows::OWN;
 use sp_affine::Form;
 use sp_deps::{Access, Dist, Footprint, LoopRange, is_footprint};
+use sp_meets::least_distance;
 use std::alloc::{AllocError, Global};
 use std::process::Abort;
 use std::test::Fail;

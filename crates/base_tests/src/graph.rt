@@ -1,4 +1,4 @@
-use super::*;
+use sp_graph::{Graph, NoMemory, components};
 use std::alloc::Global;
 use std::test::Fail;
 

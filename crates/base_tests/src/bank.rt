@@ -1,6 +1,9 @@
-use super::*;
 use smallvec::SmallVec;
 use sp_affine::Form;
+use sp_bank::{
+    CertError, Scheme, apart, are_groups, bank_of, certify, check_certificate, is_group, offset_of,
+    search, separates,
+};
 use std::alloc::Global;
 use std::process::Abort;
 use std::test::Fail;

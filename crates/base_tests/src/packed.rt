@@ -1,7 +1,7 @@
 ghost use Rattle.std.specs.Prelude.{◌≡◌, ◌^◌, ◌<◌};
 ghost use Rattle.sp_packed.specs.Elements.{IsWidth};
 
-use crate::{NoMemory, Packed};
+use sp_packed::{NoMemory, Packed};
 use std::alloc::Global;
 use std::process::Abort;
 use std::test::Fail;

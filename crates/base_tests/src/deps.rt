@@ -1,11 +1,13 @@
 ghost use Rattle.std.specs.Prelude.{◌≡◌, ◌≤◌, ◌++◌, IfOk, length, take};
 
-use crate::rows::{DISTANCES, STAGES};
-use crate::{
+mod rows;
+
+use crate::deps::rows::{DISTANCES, STAGES};
+use sp_affine::Form;
+use sp_deps::{
     Access, Dist, Footprint, LoopRange, are_loop_ranges, distance, has_counters, is_footprint,
     stage_meet,
 };
-use sp_affine::Form;
 use std::alloc::{AllocError, Global};
 use std::process::Abort;
 use std::test::Fail;

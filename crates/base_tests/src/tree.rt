@@ -1,4 +1,4 @@
-use crate::{CtrId, Program, ValId};
+use sp_tree::{CtrId, Program, ValId};
 use sp_words::Ports;
 
 #[test]

@@ -1,4 +1,4 @@
-use super::*;
+use sp_modulo::{Order, Schedule, are_fitting, least_schedule};
 use std::alloc::Global;
 use std::process::Abort;
 

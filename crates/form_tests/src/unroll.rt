@@ -1,5 +1,5 @@
-use crate::{in_lanes, memories_in_lanes, unroll};
 use sp_core::{Core, CoreCounter, CoreError, CoreMem, Node, Op, OpKind, Stage};
+use sp_unroll::{in_lanes, memories_in_lanes, unroll};
 use sp_words::{BinOp, Kind, Ports, Style, Ty};
 use std::alloc::{AllocError, Global};
 use std::test::Fail;

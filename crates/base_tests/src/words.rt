@@ -1,6 +1,13 @@
 ghost use Rattle.std.specs.Prelude.{◌<◌};
 
-use super::*;
+mod decimals;
+mod memories;
+mod names;
+
+use sp_words::{
+    FixTy, Input, PortDecl, Ports, Ty, add, and, cast, div, eq, fits, is_word, lt, max, min, mul,
+    not, or, rem, shl, shr, sub, xor,
+};
 use std::alloc::{AllocError, Global};
 use std::process::Abort;
 use std::test::Fail;

@@ -1,4 +1,4 @@
-use crate::{is_name, is_reserved};
+use sp_words::{is_name, is_reserved};
 
 /// Each line: a text, whether it is a name, and whether it is a word of the language.
 const TEXTS: &str = "x yes no

@@ -1,6 +1,6 @@
-use crate::{CounterPlace, forms_of, patterns};
 use sp_affine::Form;
 use sp_core::{Core, CoreCounter, CoreError, CoreMem, CoreSpan, Node, Op, OpKind, Stage};
+use sp_patterns::{CounterPlace, forms_of, patterns};
 use sp_words::{BinOp, Kind, PortDecl, Ports, Style, Ty, UnOp};
 use std::alloc::{AllocError, Global};
 use std::process::Abort;

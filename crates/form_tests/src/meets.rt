@@ -1,0 +1,3 @@
+mod distances;
+mod loops;
+mod rows;
