@@ -1,0 +1,4 @@
+pub mod Numbers
+pub mod Ports
+pub mod Stores
+pub mod Whole

@@ -1,0 +1,22 @@
+-- A law of whole cores in lanes, as a statement.
+use Rattle.std.specs.Prelude.{◌≡◌, ℕ, List}
+use Rattle.sp_words.specs.Ports.{PlainInput}
+use Rattle.sp_tree.specs.PlainProgram.{PlainProgram}
+use Rattle.sp_core.specs.History.{History}
+use Rattle.sp_core.specs.Inputs.{InputFits}
+use Rattle.sp_core.specs.Meaning.{ended, meaning}
+use Rattle.sp_core.specs.PlainCore.{PlainCore}
+use Rattle.sp_core.specs.Scope.{plainly, in_lanes}
+use Rattle.sp_sugar.specs.Core.{core_of}
+use Rattle.sp_lanes.specs.Unrolled.{unrolled}
+use Rattle.sp_lane_trees.specs.Alone.{CombinesAlone}
+
+-- where a core ends, read plainly, it ends in lanes with the same words, read in lanes
+abbrev pub EndsInLanes : PlainCore → Type 0
+EndsInLanes core =
+    (turns : ℕ) (input : PlainInput) → InputFits core input → (outs : List ℕ) (drams : List (List ℕ)) (h : History) → meaning plainly turns core input ≡ ended outs drams h
+    → (g : History) × (meaning in_lanes turns (unrolled core) input ≡ ended outs drams g)
+
+-- so does the core of a program where each controller with a stage that combines has one lane
+abbrev pub ProgramGoes : PlainProgram → Type 0
+ProgramGoes p = CombinesAlone (core_of p) (core_of p).root → EndsInLanes (core_of p)

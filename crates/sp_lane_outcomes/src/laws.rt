@@ -1,0 +1,19 @@
+//! A law of whole cores. The function does nothing: what it ensures is the law.
+
+ghost use Rattle.sp_tree.specs.Invariant.{IsProgram};
+ghost use Rattle.sp_tree.specs.PlainProgram.{PlainProgram};
+ghost use Rattle.sp_lane_outcomes.specs.Laws.{ProgramGoes};
+
+use sp_first_resets::programs_stand;
+use sp_lane_endings::programs_end;
+use sp_lane_trees::nodes_go;
+
+/// Where the core of a program ends, and each of its controllers with a stage that combines has one lane, the core in lanes ends
+/// with the same words of outputs and of DRAMs.
+pub fn programs_go()
+    ensures { (p : PlainProgram) → IsProgram p → ProgramGoes p }
+{
+    programs_stand();
+    programs_end();
+    nodes_go();
+}

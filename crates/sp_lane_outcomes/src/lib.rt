@@ -1,0 +1,6 @@
+//! How the core of a program ends in lanes.
+#![tactic(auto)]
+
+mod laws;
+
+pub use laws::programs_go;
