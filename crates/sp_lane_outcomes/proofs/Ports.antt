@@ -1,5 +1,5 @@
 -- Arguments and outputs of a core in lanes stand in their order.
-use Rattle.std.proofs.Common.{◌≡◌, ◌⊎◌, inl, inr, ℕ, zero, suc, ◌+◌, ◌<◌, ◌≤◌, Bool, true, false, not, List, [], ◌∷◌, ◌++◌, length, map, refl, sym, ◌∙◌, ap, subst, arith, ◌==◌, nat_lt}
+use Rattle.std.proofs.Common.{◌≡◌, ◌⊎◌, inl, inr, ℕ, zero, suc, ◌+◌, ◌≤◌, Bool, true, false, not, List, [], ◌++◌, length, map, refl, sym, ◌∙◌, ap, subst, arith}
 use Rattle.std.proofs.lemmas.Bool.{true≢false}
 use Rattle.std.specs.Prelude.{filter}
 use Rattle.sp_words.specs.declared.kind.Kind.{Kind}
@@ -9,13 +9,12 @@ use Rattle.sp_core.specs.Elements.{numbers_below}
 use Rattle.sp_core.specs.Invariant.{owned_in}
 use Rattle.sp_core.specs.Meaning.{numbers_of}
 use Rattle.sp_core.specs.NodeRules.{is_owned_once}
-use Rattle.sp_core.specs.PlainCore.{PlainMem, no_mem, PlainCore}
+use Rattle.sp_core.specs.PlainCore.{no_mem, PlainCore}
 use Rattle.sp_lanes.specs.Order.{is_port, is_written, is_added, memories_in, memories_where, memory_order, occurrence, placed}
 use Rattle.sp_copies.specs.Copies.{occurrences}
 use Rattle.sp_copies.specs.Rules.{ArePortsWritten}
 use Rattle.sp_copies.proofs.Counts.{node_kept, node_left, where_left}
 use Rattle.sp_copies.proofs.Owners.{no_copies, among_count}
-use Rattle.sp_copies.proofs.MemoryRules.{count_among}
 use Rattle.sp_copies.proofs.PortOrder.{filter_append, filter_none, filter_twice, listed, numbers_rise, owned_rise, base_past, base_free}
 use Rattle.sp_lane_inners.proofs.Owners.{each_owned}
 use Rattle.sp_unrolled_rules.proofs.Givens.{append_none}

@@ -1,6 +1,6 @@
 -- Stores before a core begins, and the words with which it ends, in the core and in lanes.
-use Rattle.std.proofs.Common.{◌≡◌, ℕ, ◌+◌, ◌<◌, Bool, true, false, ◌&&◌, ◌||◌, List, [], ◌∷◌, ◌++◌, length, map, Option, Some, None, refl, sym, ◌∙◌, ap, subst, arith, inl, inr, ◌==◌, nat_lt}
-use Rattle.std.proofs.lemmas.Bool.{and_parts, and_from, true≢false, ltb-true, lt-ltb, eq-eqb, ne_eqb, or_right}
+use Rattle.std.proofs.Common.{◌≡◌, ℕ, ◌+◌, ◌<◌, true, false, ◌||◌, List, [], ◌∷◌, length, map, Option, Some, None, refl, sym, ◌∙◌, ap, subst, arith, inl, inr, ◌==◌, nat_lt}
+use Rattle.std.proofs.lemmas.Bool.{and_parts, ltb-true, eq-eqb, ne_eqb, or_right}
 use Rattle.std.proofs.lemmas.Bool.Decides.{eqb_tells}
 use Rattle.std.specs.Prelude.{slice_index}
 use Rattle.sp_words.specs.Memory.{Contents, words}
@@ -8,10 +8,10 @@ use Rattle.sp_words.specs.Ports.{PlainInput}
 use Rattle.sp_core.specs.Around.{nothing, is_port_kind, is_usable}
 use Rattle.sp_core.specs.Declarations.{mem, dram_number, is_among}
 use Rattle.sp_core.specs.Elements.{numbers_below}
-use Rattle.sp_core.specs.Meaning.{is_arg, is_out, args_of, outs_of, drams_of, hold_each, first_store, out_words, dram_words}
+use Rattle.sp_core.specs.Meaning.{args_of, outs_of, drams_of, hold_each, first_store, out_words, dram_words}
 use Rattle.sp_core.specs.PlainCore.{PlainCore}
 use Rattle.sp_core.specs.Store.{Store, hold, words_of}
-use Rattle.sp_lanes.specs.Order.{is_port, memory_order}
+use Rattle.sp_lanes.specs.Order.{memory_order}
 use Rattle.sp_lanes.specs.Unrolled.{unrolled}
 use Rattle.sp_lanes.specs.Within.{Within, outside}
 use Rattle.sp_unrolled_rules.specs.Places.{GoTogether}

@@ -1,19 +1,17 @@
 -- The core of a program in lanes ends as the core does.
-use Rattle.std.proofs.Common.{◌≡◌, ℕ, ◌+◌, ◌<◌, Bool, true, false, ◌&&◌, ◌||◌, List, [], ◌∷◌, length, map, refl, sym, ◌∙◌, ap, subst, nat_lt}
+use Rattle.std.proofs.Common.{◌≡◌, ℕ, Bool, true, false, ◌||◌, List, [], length, map, refl, sym, ◌∙◌, ap, nat_lt}
 use Rattle.std.proofs.lemmas.Bool.{and_from, true≢false, lt-ltb}
-use Rattle.sp_words.specs.Ports.{PlainInput}
 use Rattle.sp_tree.specs.Invariant.{IsProgram}
 use Rattle.sp_tree.specs.PlainProgram.{PlainProgram}
 use Rattle.sp_core.specs.Around.{nothing, is_port_kind, is_usable}
 use Rattle.sp_core.specs.Declarations.{mem, is_among}
 use Rattle.sp_core.specs.Elements.{numbers_below}
 use Rattle.sp_core.specs.History.{History}
-use Rattle.sp_core.specs.Inputs.{InputFits}
 use Rattle.sp_core.specs.Invariant.{IsCore, owned_in}
-use Rattle.sp_core.specs.Meaning.{is_arg, is_out, args_of, outs_of, first_store, run_core, Outcome, ended, failed, unfinished, outcome, meaning, out_words, dram_words}
+use Rattle.sp_core.specs.Meaning.{is_arg, is_out, args_of, outs_of, first_store, run_core, Outcome, ended, outcome, meaning, out_words, dram_words}
 use Rattle.sp_core.specs.NodeRules.{is_owned_once}
 use Rattle.sp_core.specs.PlainCore.{PlainCore}
-use Rattle.sp_core.specs.Scope.{plainly, in_lanes, no_scope}
+use Rattle.sp_core.specs.Scope.{plainly, no_scope}
 use Rattle.sp_core.specs.Sequential.{run}
 use Rattle.sp_core.specs.Step.{Went, went, stopped, more}
 use Rattle.sp_core.specs.Store.{Store}
@@ -21,7 +19,7 @@ use Rattle.sp_fitting.proofs.Inputs.{first_fits}
 use Rattle.sp_sugar.specs.Core.{core_of}
 use Rattle.sp_sugar.proofs.Cores.{core_is_right}
 use Rattle.sp_lanes.specs.Order.{is_port, memory_order}
-use Rattle.sp_lanes.specs.Unrolled.{unrolled, node_in}
+use Rattle.sp_lanes.specs.Unrolled.{unrolled}
 use Rattle.sp_lanes.specs.Within.{outside}
 use Rattle.sp_copies.specs.Copies.{OwnsInLanes}
 use Rattle.sp_copies.specs.Rules.{ArePortsWritten}
@@ -29,15 +27,14 @@ use Rattle.sp_copies.proofs.MemoryRules.{node_once}
 use Rattle.sp_laned.proofs.Ports.{may_have_lanes}
 use Rattle.sp_first_resets.specs.Laws.{RootStands}
 use Rattle.sp_lane_endings.specs.Ending.{IsEnded}
-use Rattle.sp_lane_inners.specs.Along.{GoesAlong, StandsIn}
-use Rattle.sp_lane_trees.specs.Alone.{CombinesAlone}
+use Rattle.sp_lane_inners.specs.Along.{GoesAlong}
 use Rattle.sp_lane_trees.specs.Laws.{NodesGo}
 use Rattle.sp_lane_outcomes.specs.Laws.{EndsInLanes, ProgramGoes}
 use Rattle.sp_lane_outcomes.proofs.Numbers.{below_less}
 use Rattle.sp_lane_outcomes.proofs.Ports as ports
 use Rattle.sp_lane_outcomes.proofs.Stores.{first_agree, outs_agree, drams_agree}
 use Rattle.sp_words.specs.declared.kind.Kind.{Kind}
-use Rattle.sp_words.specs.declared.kind.Kind.TheVariants.{Reg, Sram, Fifo, LineBuf, Dram, ArgIn, ArgOut}
+use Rattle.sp_words.specs.declared.kind.Kind.TheVariants.{ArgIn, ArgOut}
 
 arg_is_port : (k : Kind) → is_arg k ≡ true → is_port_kind k ≡ true
 arg_is_port ArgIn e = refl

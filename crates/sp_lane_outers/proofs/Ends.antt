@@ -2,14 +2,14 @@
 use Rattle.std.proofs.Common.{◌≡◌, ℕ, Bool, true, false, ◌||◌, List, [], ◌∷◌, length, map, refl, sym, ◌∙◌, ap, subst, nat_le, ◌==◌}
 use Rattle.std.proofs.lemmas.Bool.{true≢false, eq-eqb, or_right}
 use Rattle.sp_words.specs.declared.kind.Style.{Style}
-use Rattle.sp_words.specs.declared.kind.Style.TheVariants.{Pipe, Sequential, Stream}
+use Rattle.sp_words.specs.declared.kind.Style.TheVariants.{Stream}
 use Rattle.sp_words.specs.Interface.{word_count}
 use Rattle.sp_core.specs.Around.{Around, is_usable}
-use Rattle.sp_core.specs.Declarations.{mem, depth, is_among}
+use Rattle.sp_core.specs.Declarations.{depth, is_among}
 use Rattle.sp_core.specs.PlainCore.{PlainMem, PlainCore}
 use Rattle.sp_core.specs.Scope.{Reading}
 use Rattle.sp_core.specs.Sequential.{holds_depth, end_of_group}
-use Rattle.sp_core.specs.Step.{Step, went, pure, ◌>>=◌, stop, ensure, look, in_order}
+use Rattle.sp_core.specs.Step.{Step, pure, ◌>>=◌, stop, ensure, look, in_order}
 use Rattle.sp_core.specs.Store.{Store, queue_of}
 use Rattle.sp_lanes.specs.Unrolled.{unrolled}
 use Rattle.sp_lanes.specs.Within.{Within}

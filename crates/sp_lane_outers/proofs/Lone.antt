@@ -1,11 +1,11 @@
 -- A group of a body with one lane, in lanes: its memories are made fresh, its stages run, and it ends.
-use Rattle.std.proofs.Common.{◌≡◌, ℕ, ◌+◌, ◌<◌, Bool, true, false, ◌||◌, List, [], ◌∷◌, ◌++◌, length, map, Option, Some, refl, sym, ◌∙◌, ap, subst, arith}
+use Rattle.std.proofs.Common.{◌≡◌, ℕ, ◌<◌, Bool, true, false, List, [], ◌++◌, length, map, Some, refl, sym, ◌∙◌, ap, subst, arith}
 use Rattle.std.proofs.lemmas.Bool.{true≢false}
 use Rattle.std.specs.Prelude.{flat_map}
 use Rattle.sp_words.specs.Memory.{fresh_of}
 use Rattle.sp_words.specs.declared.kind.Style.{Style}
 use Rattle.sp_core.specs.Around.{Around, within, lanes_of, is_usable}
-use Rattle.sp_core.specs.Declarations.{mem, dram_number, fresh, is_among}
+use Rattle.sp_core.specs.Declarations.{dram_number, is_among}
 use Rattle.sp_core.specs.Elements.{numbers_below}
 use Rattle.sp_core.specs.History.{Runs}
 use Rattle.sp_core.specs.Invariant.{owned_in, owned_in_stages, AreRight}
@@ -20,7 +20,7 @@ use Rattle.sp_fitting.specs.Fitting.{StoreFits}
 use Rattle.sp_fitting.specs.Laws.{NodesFit}
 use Rattle.sp_lanes.specs.Order.{memory_order}
 use Rattle.sp_lanes.specs.Unrolled.{unrolled, owned_in_lanes, node_in, left_as_they_are}
-use Rattle.sp_lanes.specs.Within.{Within, in_lane, counters_in}
+use Rattle.sp_lanes.specs.Within.{Within, in_lane}
 use Rattle.sp_unrolled_rules.specs.Places.{GoTogether}
 use Rattle.sp_unrolled_rules.proofs.Givens.{append_none}
 use Rattle.sp_live_lanes.specs.Stores.{AreCopies}

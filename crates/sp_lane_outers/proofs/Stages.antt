@@ -5,7 +5,7 @@ use Rattle.std.proofs.lemmas.Bool.{true≢false}
 use Rattle.std.specs.Prelude.{int_lt}
 use Rattle.sp_core.specs.Around.{Around}
 use Rattle.sp_core.specs.Declarations.{is_among}
-use Rattle.sp_core.specs.History.{Bounds, last_word, History, Runs, no_run, masked_run, more_run}
+use Rattle.sp_core.specs.History.{Bounds, last_word, Runs, no_run, masked_run, more_run}
 use Rattle.sp_core.specs.Elements.{index_value}
 use Rattle.sp_core.specs.Invariant.{owned_in, owned_in_stages, AreRight}
 use Rattle.sp_core.specs.MemoryRules.{are_memories_right}

@@ -1,10 +1,9 @@
 -- The stages of a body stand in each lane where its controller does.
-use Rattle.std.proofs.Common.{◌≡◌, ◌⊎◌, inl, inr, ℕ, ◌+◌, ◌*◌, ◌<◌, ◌≤◌, Bool, true, false, ◌||◌, List, [], ◌∷◌, ◌++◌, Option, Some, None, refl, sym, ◌∙◌, ap, subst, arith}
+use Rattle.std.proofs.Common.{◌≡◌, ◌⊎◌, inl, inr, ℕ, ◌+◌, ◌*◌, ◌<◌, ◌≤◌, Bool, true, false, ◌||◌, List, ◌++◌, Some, None, refl, sym, ◌∙◌, subst}
 use Rattle.sp_core.specs.Around.{Around, within, lanes_of}
 use Rattle.sp_core.specs.Declarations.{is_among}
 use Rattle.sp_core.specs.Invariant.{owned_in, AreRight}
-use Rattle.sp_core.specs.PlainCore.{PlainCounter, PlainNode, PlainStages, inner, outer, fsm, branch, load, store, sparse, no_stage, more_stage, PlainCore}
-use Rattle.sp_words.specs.declared.kind.Style.{Style}
+use Rattle.sp_core.specs.PlainCore.{PlainNode, PlainStages, inner, outer, fsm, branch, load, store, sparse, no_stage, more_stage, PlainCore}
 use Rattle.sp_lanes.specs.Order.{memory_order}
 use Rattle.sp_lanes.specs.Unrolled.{unrolled, owned_in_lanes}
 use Rattle.sp_lanes.specs.Within.{Within, in_lane, counters_in}
@@ -17,7 +16,7 @@ use Rattle.sp_live_lanes.proofs.Copies.{copies_stand}
 use Rattle.sp_plain_cores.specs.Nodes.{AreStagesPlain}
 use Rattle.sp_unrolled_rules.specs.Places.{GoTogether}
 use Rattle.sp_unrolled_rules.proofs.Places.{among_both, lane_together}
-use Rattle.sp_lane_inners.specs.Along.{StagesResetFirst, StandsIn}
+use Rattle.sp_lane_inners.specs.Along.{StagesResetFirst}
 use Rattle.sp_lane_outers.specs.Laws.{OutersStand}
 use Rattle.sp_lane_outers.specs.Stages.{AllStandIn}
 

@@ -1,6 +1,6 @@
 -- The run of a controller with stages in several lanes: its bounds, and then its groups.
-use Rattle.std.proofs.Common.{◌≡◌, ℕ, zero, suc, ◌+◌, ◌*◌, ◌<◌, ◌≤◌, Bool, true, false, cond, ◌&&◌, ℤ, List, [], ◌∷◌, ◌++◌, length, map, All, Option, None, refl, sym, ◌∙◌, ap, subst, arith, ◌==◌}
-use Rattle.std.proofs.lemmas.Bool.{and_parts, ltb-true, eq-eqb}
+use Rattle.std.proofs.Common.{◌≡◌, ℕ, zero, suc, ◌+◌, ◌*◌, ◌<◌, Bool, true, false, cond, ℤ, List, [], ◌∷◌, ◌++◌, length, map, All, Option, None, refl, sym, ◌∙◌, ap, subst, arith, ◌==◌}
+use Rattle.std.proofs.lemmas.Bool.{and_parts, ltb-true}
 use Rattle.std.proofs.lemmas.List.Elements.{All-head, All-tail}
 use Rattle.std.specs.Prelude.{flat_map, option_map}
 use Rattle.sp_words.specs.declared.kind.Style.{Style}
@@ -8,7 +8,7 @@ use Rattle.sp_core.specs.Around.{Around, within, lanes_of, is_usable}
 use Rattle.sp_core.specs.Declarations.{dram_number, is_stream, is_among}
 use Rattle.sp_core.specs.Elements.{numbers_below}
 use Rattle.sp_core.specs.History.{Bounds, History, Runs, outer_ran, groups_of}
-use Rattle.sp_core.specs.Invariant.{IsCore, owned_in, AreRight}
+use Rattle.sp_core.specs.Invariant.{IsCore, owned_in}
 use Rattle.sp_core.specs.NodeRules.{is_owned_once, are_counters_right, are_lanes_right, is_node_right}
 use Rattle.sp_core.specs.PlainCore.{PlainCounter, PlainNode, PlainStages, outer, no_stage, more_stage, PlainCore}
 use Rattle.sp_core.specs.Scope.{plainly, Loop, loops_of, counts_of, group_values, is_live, Scope, in_group}
@@ -30,10 +30,10 @@ use Rattle.sp_live_lanes.specs.Stores.{ScopesAgree, lane_values}
 use Rattle.sp_live_lanes.proofs.Along.{store_of}
 use Rattle.sp_lane_groups.specs.Groups.{lanes_from, IsGroup}
 use Rattle.sp_lane_groups.proofs.Places.{groups_are}
-use Rattle.sp_lane_groups.proofs.Renewed.{bind_known, bind_split, order_on, order_split, order_none}
+use Rattle.sp_lane_groups.proofs.Renewed.{bind_known, bind_split, order_on, order_none}
 use Rattle.sp_lane_values.specs.Lanes.{GoOn, iterations_of, AreFirst}
 use Rattle.sp_lane_values.proofs.Cut.{groups_cut, first_are_live}
-use Rattle.sp_lane_inners.specs.Along.{AgreeAt, LeavesBut, GoesAlong, StandsIn}
+use Rattle.sp_lane_inners.specs.Along.{AgreeAt, GoesAlong, StandsIn}
 use Rattle.sp_lane_inners.proofs.Bounds.{order_long, each_right, goes_on, loops_kept, all_bounds_follow}
 use Rattle.sp_lane_inners.proofs.Follows.{Followed, Follows, Same}
 use Rattle.sp_lane_inners.proofs.Owners.{each_owned, owned_apart, owned_inside}

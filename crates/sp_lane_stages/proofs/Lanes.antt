@@ -1,5 +1,5 @@
 -- A group of a body with several lanes: the stages of its lanes, one lane after the other.
-use Rattle.std.proofs.Common.{◌≡◌, ℕ, zero, suc, ◌+◌, ◌*◌, ◌<◌, ◌≤◌, Bool, true, false, ◌||◌, ◌&&◌, List, [], ◌∷◌, ◌++◌, length, map, Option, Some, refl, sym, ◌∙◌, ap, subst, arith, nat_lt, ◌==◌}
+use Rattle.std.proofs.Common.{◌≡◌, ℕ, zero, suc, ◌+◌, ◌<◌, ◌≤◌, Bool, true, false, ◌||◌, List, [], ◌∷◌, ◌++◌, length, map, Some, refl, sym, ◌∙◌, ap, subst, arith, nat_lt}
 use Rattle.std.proofs.lemmas.Bool.{and_parts, ltb-true, true≢false}
 use Rattle.std.specs.Prelude.{flat_map}
 use Rattle.sp_words.specs.Memory.{fresh_of}
@@ -10,7 +10,7 @@ use Rattle.sp_core.specs.Declarations.{mem, dram_number, fresh, is_stream, is_am
 use Rattle.sp_core.specs.History.{Runs, no_run}
 use Rattle.sp_core.specs.Invariant.{owned_in, owned_in_stages, AreRight}
 use Rattle.sp_core.specs.MemoryRules.{are_memories_right}
-use Rattle.sp_core.specs.PlainCore.{PlainCounter, PlainMem, PlainNode, PlainStages, no_stage, more_stage, PlainCore}
+use Rattle.sp_core.specs.PlainCore.{PlainCounter, PlainMem, PlainNode, PlainStages, no_stage, PlainCore}
 use Rattle.sp_core.specs.Scope.{Reading, plainly, Scope}
 use Rattle.sp_core.specs.Scope as scope
 use Rattle.sp_core.specs.Sequential.{renew, end_of_group, run_stages}
@@ -18,19 +18,18 @@ use Rattle.sp_core.specs.Step.{Step, went, pure, ◌>>=◌, ◌>>◌, in_order}
 use Rattle.sp_core.specs.Store.{Store}
 use Rattle.sp_fitting.specs.Fitting.{StoreFits}
 use Rattle.sp_fitting.specs.Laws.{NodesFit}
-use Rattle.sp_lanes.specs.Order.{memory_order, occurrence}
-use Rattle.sp_lanes.specs.Unrolled.{unrolled, owned_in_lanes, node_in, nodes_in, stages_in, stages_by_lane}
+use Rattle.sp_lanes.specs.Order.{memory_order}
+use Rattle.sp_lanes.specs.Unrolled.{unrolled, owned_in_lanes, nodes_in, stages_in, stages_by_lane}
 use Rattle.sp_lanes.specs.Within.{Within, in_lane}
 use Rattle.sp_laned.specs.Marks.{NoneCombines}
-use Rattle.sp_unrolled_rules.specs.Places.{GoTogether}
 use Rattle.sp_unrolled_rules.proofs.Places.{among_both}
 use Rattle.sp_live_lanes.proofs.Along.{store_of}
 use Rattle.sp_lane_groups.specs.Groups.{lanes_from, IsGroup}
 use Rattle.sp_lane_groups.proofs.Among.{row_in, row_out}
-use Rattle.sp_lane_groups.proofs.Apart.{own_number, out_number, out_usable, in_usable, own_out, own_own}
+use Rattle.sp_lane_groups.proofs.Apart.{out_number, out_usable, in_usable, own_out, own_own}
 use Rattle.sp_lane_groups.proofs.Renewed.{bind_known, bind_split, order_split, order_none}
 use Rattle.sp_lane_inners.specs.Along.{AgreeAt}
-use Rattle.sp_lane_inners.proofs.Follows.{no_copy, Followed, Follows}
+use Rattle.sp_lane_inners.proofs.Follows.{no_copy, Follows}
 use Rattle.sp_lane_nodes.proofs.Nodes.{Any}
 use Rattle.sp_lane_outers.specs.Stages.{AllGoAlong}
 use Rattle.sp_lane_outers.proofs.Lone.{turn_of}

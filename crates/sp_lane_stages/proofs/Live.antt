@@ -1,5 +1,5 @@
 -- Which lanes have an iteration: in lanes, and at the values of a lane.
-use Rattle.std.proofs.Common.{◌≡◌, ℕ, ◌*◌, ℤ, pos, ◌+ℤ◌, List, [], ◌∷◌, length, refl, sym, ◌∙◌, ap, arith}
+use Rattle.std.proofs.Common.{◌≡◌, ℕ, ◌*◌, ℤ, pos, ◌+ℤ◌, List, [], ◌∷◌, length, refl, ◌∙◌, ap, arith}
 use Rattle.std.proofs.Math.IntN.{+ℤ_idr}
 use Rattle.std.specs.Prelude.{int_lt}
 use Rattle.sp_core.specs.Elements.{index_value}

@@ -1,10 +1,10 @@
 -- What the stages of a lane own is no copy of what their controller owns.
-use Rattle.std.proofs.Common.{◌≡◌, ℕ, zero, suc, ◌+◌, ◌*◌, ◌<◌, ◌≤◌, Bool, true, false, ◌&&◌, ◌||◌, not, List, [], ◌∷◌, ◌++◌, length, refl, sym, ◌∙◌, ap, subst, arith, inl, inr, ◌==◌, nat_lt}
+use Rattle.std.proofs.Common.{◌≡◌, ℕ, zero, suc, ◌*◌, ◌<◌, ◌≤◌, Bool, true, false, ◌&&◌, ◌||◌, not, List, [], ◌∷◌, ◌++◌, length, refl, sym, ◌∙◌, ap, subst, arith, inl, inr, ◌==◌, nat_lt}
 use Rattle.std.proofs.lemmas.Bool.{and_parts, true≢false, eq-eqb}
 use Rattle.std.proofs.lemmas.Bool.Decides.{eqb_tells}
 use Rattle.std.proofs.lemmas.List.{append_assoc}
 use Rattle.std.specs.Prelude.{flat_map}
-use Rattle.sp_core.specs.Around.{Around, within, is_port_kind}
+use Rattle.sp_core.specs.Around.{Around, is_port_kind}
 use Rattle.sp_core.specs.Declarations.{mem, is_among}
 use Rattle.sp_core.specs.Invariant.{owned_in, owned_in_stages, IsRight}
 use Rattle.sp_core.specs.NodeRules.{is_owned_once}

@@ -1,10 +1,10 @@
 -- The stages of one lane, before those of the lanes after it.
-use Rattle.std.proofs.Common.{◌≡◌, ℕ, zero, suc, ◌+◌, ◌<◌, Bool, true, false, ◌||◌, List, [], ◌∷◌, ◌++◌, length, refl, sym, ◌∙◌, ap, subst}
+use Rattle.std.proofs.Common.{◌≡◌, ℕ, ◌<◌, Bool, true, false, ◌||◌, List, [], ◌∷◌, ◌++◌, length, refl, sym, ◌∙◌, ap, subst}
 use Rattle.std.proofs.lemmas.Bool.{true≢false}
 use Rattle.std.specs.Prelude.{flat_map}
 use Rattle.sp_core.specs.Around.{Around, is_usable}
 use Rattle.sp_core.specs.Declarations.{is_among}
-use Rattle.sp_core.specs.History.{Runs, no_run, masked_run, more_run}
+use Rattle.sp_core.specs.History.{Runs, masked_run, more_run}
 use Rattle.sp_core.specs.Invariant.{owned_in, AreRight}
 use Rattle.sp_core.specs.MemoryRules.{are_memories_right}
 use Rattle.sp_core.specs.PlainCore.{PlainNode, PlainStages, no_stage, more_stage, PlainCore}

@@ -1,12 +1,12 @@
 -- The parts of a slice in lanes.
-use Rattle.std.proofs.Common.{◌≡◌, ℕ, true, ◌&&◌, List, [], ◌∷◌, refl}
+use Rattle.std.proofs.Common.{◌≡◌, ℕ, true, List, [], ◌∷◌, refl}
 use Rattle.std.proofs.lemmas.Bool.{and_parts}
 use Rattle.std.specs.List.{list_all}
 use Rattle.sp_core.specs.Around.{Around}
-use Rattle.sp_core.specs.History.{Taken, one, both}
+use Rattle.sp_core.specs.History.{one, both}
 use Rattle.sp_core.specs.MemoryRules.{are_memories_right}
 use Rattle.sp_core.specs.NodeRules.{is_span_right}
-use Rattle.sp_core.specs.OperationRules.{are_operations_right, is_bound}
+use Rattle.sp_core.specs.OperationRules.{is_bound}
 use Rattle.sp_core.specs.Operations.{operations}
 use Rattle.sp_core.specs.PlainCore.{PlainOp, PlainSpan, single, range, PlainCore}
 use Rattle.sp_core.specs.Scope.{plainly, Scope}

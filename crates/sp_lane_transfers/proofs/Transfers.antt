@@ -1,17 +1,15 @@
 -- A transfer in lanes: its slice or its count, and then its words.
-use Rattle.std.proofs.Common.{◌≡◌, ℕ, Bool, true, false, ◌&&◌, ◌||◌, List, [], ◌∷◌, length, map, Option, Some, None, refl, sym, ◌∙◌, ap, subst, ◌==◌, nat_le, nat_lt}
+use Rattle.std.proofs.Common.{◌≡◌, ℕ, Bool, true, false, ◌&&◌, ◌||◌, List, [], length, Option, Some, None, refl, sym, ◌∙◌, ap, ◌==◌, nat_le, nat_lt}
 use Rattle.std.proofs.lemmas.Bool.{and_parts, true≢false}
 use Rattle.std.specs.List.{list_all}
-use Rattle.std.specs.Prelude.{option_map}
 use Rattle.sp_words.specs.Types.{int_type}
-use Rattle.sp_core.specs.declared.node.SparseKind.{SparseKind}
 use Rattle.sp_core.specs.declared.node.SparseKind.TheVariants.{Gather, Scatter, WideLoad, WideStore}
 use Rattle.sp_core.specs.Around.{Around, is_usable}
 use Rattle.sp_core.specs.Declarations.{mem, dram}
 use Rattle.sp_core.specs.Elements.{index_value, natural, numbers_below}
 use Rattle.sp_core.specs.History.{Entry, History, Taken, last_word, picked}
 use Rattle.sp_core.specs.Invariant.{IsCore}
-use Rattle.sp_core.specs.NodeRules.{is_sram, is_line, range_count, ends_in_range, is_span_right, is_slice_right, is_sram_here, fits_sram, fits_line, are_places, is_pick_right, is_none, is_wide_right, is_node_right, is_owned_once, owned_by}
+use Rattle.sp_core.specs.NodeRules.{is_sram, is_line, range_count, ends_in_range, is_span_right, is_slice_right, is_sram_here, fits_sram, fits_line, are_places, is_pick_right, is_none, is_wide_right, is_node_right, is_owned_once}
 use Rattle.sp_core.specs.OperationRules.{is_bound}
 use Rattle.sp_core.specs.Operations.{operations}
 use Rattle.sp_core.specs.PlainCore.{PlainOp, PlainSpan, PlainNode, inner, outer, fsm, branch, load, store, sparse, PlainCore}
@@ -34,9 +32,8 @@ use Rattle.sp_live_lanes.proofs.Accesses.{Same, same_declared}
 use Rattle.sp_lane_groups.proofs.Renewed.{bind_known, bind_split}
 use Rattle.sp_plain_cores.specs.Nodes.{AreSpansPlain}
 use Rattle.sp_lane_inners.specs.Along.{AgreeAt, LeavesBut, GoesAlong, StandsIn}
-use Rattle.sp_lane_inners.proofs.Follows.{Followed}
 use Rattle.sp_lane_transfers.specs.Laws.{TransfersGo}
-use Rattle.sp_lane_transfers.proofs.Moving.{Alike, Others, Moved, Moves, pure_moves, bind_moves, order_moves}
+use Rattle.sp_lane_transfers.proofs.Moving.{Alike, Others, Moves, pure_moves, bind_moves, order_moves}
 use Rattle.sp_lane_transfers.proofs.Spans.{bound_follows, spans_follow}
 use Rattle.sp_lane_transfers.proofs.Words.{load_slices, store_slices, gathers, scatters}
 

@@ -1,5 +1,5 @@
 -- Nodes in which a controller with stages has one lane wherever one of its stages combines.
-use Rattle.std.specs.Prelude.{◌≡◌, ◌⊎◌, ℕ, true, false}
+use Rattle.std.specs.Prelude.{◌≡◌, ◌⊎◌, true, false}
 use Rattle.sp_core.specs.Around.{lanes_of}
 use Rattle.sp_core.specs.PlainCore.{PlainNode, PlainStages, outer, fsm, branch, no_stage, more_stage, PlainCore}
 use Rattle.sp_laned.specs.Marks.{NoneCombines}

@@ -1,4 +1,4 @@
-use Rattle.sp_lane_trees.proofs.Tree.{Parts, nodes_go}
+use Rattle.sp_lane_trees.proofs.Tree.{nodes_go}
 use Rattle.sp_lane_trees.proofs.laws.nodes_go.Goals as goal
 
 pub returns : goal.returns
