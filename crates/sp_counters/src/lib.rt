@@ -8,8 +8,6 @@ mod counting;
 mod laws;
 mod masks;
 mod part;
-#[cfg(test)]
-mod tests;
 mod wide;
 
 pub use counting::emit;

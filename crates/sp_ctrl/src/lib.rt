@@ -5,8 +5,6 @@ mod choices;
 mod emitting;
 mod examples;
 mod part;
-#[cfg(test)]
-mod tests;
 
 pub use emitting::emit;
 pub use examples::worked_branch;

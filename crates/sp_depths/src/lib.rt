@@ -4,8 +4,6 @@
 mod depths;
 mod laws;
 mod spread;
-#[cfg(test)]
-mod tests;
 
 pub use depths::depth;
 pub use laws::depths_are_right;

@@ -7,8 +7,6 @@ mod bits;
 mod gates;
 mod laws;
 mod tested;
-#[cfg(test)]
-mod tests;
 
 pub use bits::{both, either, equals, negate, one, register};
 pub use gates::{cast, choose, constant, delay, drive, hold, invert, operate, reserve, shift};

@@ -3,8 +3,6 @@
 
 mod laws;
 mod live;
-#[cfg(test)]
-mod tests;
 mod words;
 
 pub use laws::lanes_have_words;

@@ -5,8 +5,6 @@
 mod builder;
 mod cell;
 mod check;
-#[cfg(test)]
-mod check_tests;
 mod error;
 mod laws;
 mod loops;
@@ -15,10 +13,6 @@ mod nets;
 mod order;
 mod parts;
 mod tables;
-#[cfg(test)]
-mod tests;
-#[cfg(test)]
-mod text_cells;
 
 pub use builder::Builder;
 pub use cell::{Cell, CellOp, CellShift, NetId, Port};

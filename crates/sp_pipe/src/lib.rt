@@ -13,8 +13,6 @@ mod masks;
 mod operands;
 mod operators;
 mod part;
-#[cfg(test)]
-mod tests;
 mod words;
 
 pub use emitting::emit;

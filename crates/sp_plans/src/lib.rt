@@ -5,8 +5,6 @@ mod core_plan;
 mod laws;
 mod mems;
 mod nodes;
-#[cfg(test)]
-mod tests;
 
 pub use core_plan::planned;
 pub use laws::{best_plans_have_few_copies, chosen_plans_are_valid, plans_are_valid_by_parts};

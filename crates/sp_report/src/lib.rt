@@ -3,8 +3,6 @@
 
 mod memories;
 mod nodes;
-#[cfg(test)]
-mod tests;
 mod text;
 
 pub use std::alloc::AllocError as NoMemory;

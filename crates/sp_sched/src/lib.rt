@@ -5,8 +5,6 @@ mod body;
 mod laws;
 mod least;
 mod orders;
-#[cfg(test)]
-mod tests;
 
 pub use laws::least_plans_are_right;
 pub use least::schedule;

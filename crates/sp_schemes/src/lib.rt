@@ -6,8 +6,6 @@ mod chosen;
 mod groups;
 mod laws;
 mod standing;
-#[cfg(test)]
-mod tests;
 
 pub use chosen::schemes;
 pub use laws::chosen_schemes_are_right;

@@ -5,8 +5,6 @@ mod chains;
 mod members;
 mod part;
 mod slots;
-#[cfg(test)]
-mod tests;
 
 pub use chains::{emit_chains, emit_end};
 pub use part::{Chain, Member, Sequence, Slot};

@@ -11,8 +11,6 @@ mod names;
 mod pairs;
 mod planned;
 mod runs;
-#[cfg(test)]
-mod tests;
 
 pub use examples::{worked_chains, worked_places, worked_slots};
 pub use finest::{chains, slots};

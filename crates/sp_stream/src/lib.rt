@@ -6,8 +6,6 @@ mod examples;
 mod fifos;
 mod laws;
 mod stages;
-#[cfg(test)]
-mod tests;
 
 pub use block::proper;
 pub use examples::{worked_blocks_are_cores, worked_broken_blocks, worked_proper_blocks};

@@ -3,8 +3,6 @@
 
 mod mems;
 mod nodes;
-#[cfg(test)]
-mod tests;
 mod validity;
 
 pub use validity::valid;
