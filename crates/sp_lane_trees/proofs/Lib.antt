@@ -1,1 +1,5 @@
+pub mod Numbers
+pub mod Ports
+pub mod Stores
 pub mod Tree
+pub mod Whole

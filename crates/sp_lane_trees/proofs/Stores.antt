@@ -20,7 +20,7 @@ use Rattle.sp_live_lanes.specs.Stores.{AreCopies}
 use Rattle.sp_live_lanes.proofs.Copies.{copies_stand, copies_apart}
 use Rattle.sp_lane_inners.specs.Along.{AgreeAt}
 use Rattle.sp_lane_inners.proofs.Follows.{no_copy}
-use Rattle.sp_lane_outcomes.proofs.Numbers.{map_same, map_twice}
+use Rattle.sp_lane_trees.proofs.Numbers.{map_same, map_twice}
 
 -- what stands in a store after something is held
 held_here : (s : Store) (k m : ℕ) (c : Contents) → k ≡ m → hold s m c k ≡ Some c

@@ -18,7 +18,7 @@ use Rattle.sp_copies.proofs.Owners.{no_copies, among_count}
 use Rattle.sp_copies.proofs.PortOrder.{filter_append, filter_none, filter_twice, listed, numbers_rise, owned_rise, base_past, base_free}
 use Rattle.sp_lane_inners.proofs.Owners.{each_owned}
 use Rattle.sp_unrolled_rules.proofs.Givens.{append_none}
-use Rattle.sp_lane_outcomes.proofs.Numbers.{map_same, map_self, passes, fewer, below_once, below_place, numbers_at}
+use Rattle.sp_lane_trees.proofs.Numbers.{map_same, map_self, passes, fewer, below_once, below_place, numbers_at}
 
 zero_or_more : (n : ℕ) → (n ≡ 0) ⊎ (1 ≤ n)
 zero_or_more zero = inl refl

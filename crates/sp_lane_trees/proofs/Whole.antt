@@ -29,10 +29,10 @@ use Rattle.sp_first_resets.specs.Laws.{RootStands}
 use Rattle.sp_lane_endings.specs.Ending.{IsEnded}
 use Rattle.sp_lane_inners.specs.Along.{GoesAlong}
 use Rattle.sp_lane_trees.specs.Laws.{NodesGo}
-use Rattle.sp_lane_outcomes.specs.Laws.{EndsInLanes, ProgramGoes}
-use Rattle.sp_lane_outcomes.proofs.Numbers.{below_less}
-use Rattle.sp_lane_outcomes.proofs.Ports as ports
-use Rattle.sp_lane_outcomes.proofs.Stores.{first_agree, outs_agree, drams_agree}
+use Rattle.sp_lane_trees.specs.Outcomes.{EndsInLanes, ProgramGoes}
+use Rattle.sp_lane_trees.proofs.Numbers.{below_less}
+use Rattle.sp_lane_trees.proofs.Ports as ports
+use Rattle.sp_lane_trees.proofs.Stores.{first_agree, outs_agree, drams_agree}
 use Rattle.sp_words.specs.declared.kind.Kind.{Kind}
 use Rattle.sp_words.specs.declared.kind.Kind.TheVariants.{ArgIn, ArgOut}
 

@@ -2,11 +2,11 @@
 
 ghost use Rattle.sp_tree.specs.Invariant.{IsProgram};
 ghost use Rattle.sp_tree.specs.PlainProgram.{PlainProgram};
-ghost use Rattle.sp_lane_outcomes.specs.Laws.{ProgramGoes};
+ghost use Rattle.sp_lane_trees.specs.Outcomes.{ProgramGoes};
 
+use crate::laws::nodes_go;
 use sp_first_resets::programs_stand;
 use sp_lane_endings::programs_end;
-use sp_lane_trees::nodes_go;
 
 /// Where the core of a program ends, and each of its controllers with a stage that combines has one lane, the core in lanes ends
 /// with the same words of outputs and of DRAMs.

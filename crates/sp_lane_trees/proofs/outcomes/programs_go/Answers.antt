@@ -1,5 +1,5 @@
-use Rattle.sp_lane_outcomes.proofs.Whole.{program_goes}
-use Rattle.sp_lane_outcomes.proofs.laws.programs_go.Goals as goal
+use Rattle.sp_lane_trees.proofs.Whole.{program_goes}
+use Rattle.sp_lane_trees.proofs.outcomes.programs_go.Goals as goal
 
 pub returns : goal.returns
 returns c p h = program_goes p (c.nodes_go.ensures _) (c.programs_stand.ensures p h) (c.programs_end.ensures p h) h

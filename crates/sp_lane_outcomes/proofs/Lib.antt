@@ -1,4 +1,0 @@
-pub mod Numbers
-pub mod Ports
-pub mod Stores
-pub mod Whole
