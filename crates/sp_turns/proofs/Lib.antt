@@ -1,0 +1,11 @@
+pub mod Outlines
+pub mod Falling
+pub mod LaneSums
+pub mod Steady
+pub mod Counted
+pub mod ProgramTurns
+pub mod GroupCounts
+pub mod CoreRounds
+pub mod NodeRounds
+pub mod SugarOutlines
+pub mod Whole
