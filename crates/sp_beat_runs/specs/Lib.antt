@@ -1,0 +1,4 @@
+pub mod Example
+pub mod Laws
+pub mod Runs
+pub mod Timelines

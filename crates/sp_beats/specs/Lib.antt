@@ -1,0 +1,3 @@
+pub mod Beats
+pub mod Example
+pub mod Fits
