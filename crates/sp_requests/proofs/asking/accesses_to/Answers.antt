@@ -1,6 +1,6 @@
-use Rattle.std.proofs.Common.{[], subst, arith}
+use Rattle.std.proofs.Common.{[], subst, arith, ◌+◌, ◌∙◌, ap, length}
 use Rattle.std.specs.List.{AllZip}
-use Rattle.std.proofs.lemmas.List.{take_all}
+use Rattle.std.proofs.lemmas.List.{take_all, length_push}
 use Rattle.std.proofs.lemmas.List.Elements.{All-nil, All-push}
 use Rattle.sp_gates.proofs.Growing.{Fills-none, Fills-join, HasNet-stays}
 use Rattle.sp_gates.proofs.Running.{runs_earlier}
@@ -13,6 +13,7 @@ use Rattle.sp_requests.proofs.asking.accesses_to.Goals as goal
 pub loop-r-init : goal.loop-r-init
 loop-r-init c = record {
   fills = Fills-none _;
+  each = ap length c.new-list.ensures.items;
   fit = rw c.new-list.ensures.items (All-nil (AccessFits c.args.builder.now));
   accesses = λ s run t. rw c.new-list.ensures.items tt;
 }
@@ -29,6 +30,7 @@ loop-r-preserved c =
     let fit = fits_kept _ _ i.fills.grows r (at_item (RequestFits c.args.builder.now) c.args.requests.now c.loop-r.r-index r c.requires c.loop-r-test.true c.r-item.is) in
     record {
       fills = Fills-join _ _ _ [] [] i.fills e.fills;
+      each = ap length c.in_ok-push.ensures.items ∙ length_push _ _ ∙ ap (λ n. n + 1) i.each;
       fit = rw c.in_ok-push.ensures.items
           (All-push (AccessFits c.wanted.new.builder) c.loop-r.list.items _ (accesses_kept _ _ e.fills.grows c.loop-r.list.items i.fit) (one_access c.wanted.new.builder c.in_ok-on.on r.place e.net (HasNet-stays _ _ _ _ e.fills.grows fit.place)));
       accesses = λ s run t. rw c.in_ok-push.ensures.items

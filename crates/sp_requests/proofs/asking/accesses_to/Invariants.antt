@@ -1,4 +1,4 @@
-use Rattle.std.proofs.Common.{ℕ, [], take, All}
+use Rattle.std.proofs.Common.{◌≡◌, ℕ, [], length, take, All}
 use Rattle.std.specs.List.{AllZip}
 use Rattle.sp_netlist.specs.Signals.{Signals}
 use Rattle.sp_gates.specs.Grows.{Fills}
@@ -10,6 +10,7 @@ use Rattle.sp_requests.proofs.asking.accesses_to.Given as goal
 abbrev pub invariant-loop-r : goal.invariant-loop-r
 invariant-loop-r l = record {
   fills : Fills l.fn.builder l.builder [];
+  each : length l.list.items ≡ l.r-index;
   fit : All (AccessFits l.builder) l.list.items;
   accesses : (s : Signals) → RunsOn s l.builder.cells → (t : ℕ) → AllZip (Asks s t l.copy l.bank) (take l.r-index l.requests) l.list.items;
 }
