@@ -1,0 +1,10 @@
+use Rattle.std.proofs.Common.{[]}
+use Rattle.sp_gates.proofs.Growing.{Fills-join}
+use Rattle.sp_gates.proofs.Running.{runs_earlier}
+use Rattle.sp_bank_ports.proofs.shared.write_port.Goals as goal
+
+pub returns-clause-fills : goal.returns-clause-fills
+returns-clause-fills c = Fills-join _ _ _ [] [] c.in_ok-access.ensures.fills c.in_ok-word.ensures.fills
+
+pub returns-clause-last : goal.returns-clause-last
+returns-clause-last c = λ s run t. record { access = c.in_ok-access.ensures.last s (runs_earlier _ _ s c.in_ok-word.ensures.fills.grows run) t; word = c.in_ok-word.ensures.word s run t }

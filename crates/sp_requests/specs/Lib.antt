@@ -1,0 +1,3 @@
+pub mod Requests
+pub mod Elements
+pub mod Laws
