@@ -1,7 +1,6 @@
 -- A combination whose words meet in order, after all lanes: its operations.
-use Rattle.std.proofs.Common.{◌≡◌, ℕ, suc, ◌+◌, ◌-◌, ◌<◌, ◌==◌, Bool, true, false, ◌||◌, List, [], ◌∷◌, ◌++◌, length, Option, Some, None, refl, sym, ◌∙◌, ap, arith, nat_le}
+use Rattle.std.proofs.Common.{◌≡◌, ℕ, ◌+◌, ◌-◌, ◌<◌, ◌==◌, true, false, ◌||◌, List, [], ◌∷◌, ◌++◌, length, Option, Some, None, refl, sym, ◌∙◌, ap, arith, nat_le}
 use Rattle.std.proofs.lemmas.Bool.{eq-eqb, ne_eqb, le-leb, or_left, or_right}
-use Rattle.std.specs.List.{list_any}
 use Rattle.std.specs.Prelude.{if◌then◌else◌}
 use Rattle.sp_words.specs.declared.types.Ty.{Ty}
 use Rattle.sp_words.specs.declared.types.Ty.TheVariants.{Bit}
@@ -11,7 +10,7 @@ use Rattle.sp_core.specs.PlainCore.{PlainOp}
 use Rattle.sp_sugar.specs.Combination.{operator_of}
 use Rattle.sp_sugar.specs.Operations.{computes, read_op, write_op, literal_op, under}
 use Rattle.sp_lanes.specs.Bodies.{Body, all_ops}
-use Rattle.sp_lanes.specs.Combined.{Meeting, takes, moved_place, met_ops, without_first, first_place, first_places, combined, after_joined, in_order}
+use Rattle.sp_lanes.specs.Combined.{Meeting, moved_place, met_ops, without_first, first_place, first_places, combined, after_joined, in_order}
 use Rattle.sp_lanes.specs.Joined.{LaneWord, is_balanced, lane_words}
 use Rattle.sp_combined_rules.proofs.Meets.{as_parts}
 use Rattle.sp_lane_combinations.proofs.Combining.{combining}

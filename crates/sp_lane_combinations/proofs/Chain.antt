@@ -111,15 +111,15 @@ module _ (core : PlainCore) (plain : ℕ → Scope) (owned : List ℕ) (before :
         flag es same (Some b) h = h
 
     -- what a combination leaves
-    left_other : (o : Option ℕ) (x : ℕ) (s : Store) (m : ℕ) → (m ≡ acc → ⊥) → ((b : ℕ) → o ≡ Some b → m ≡ b → ⊥) → combined_in core o acc x s m ≡ s m
+    pub left_other : (o : Option ℕ) (x : ℕ) (s : Store) (m : ℕ) → (m ≡ acc → ⊥) → ((b : ℕ) → o ≡ Some b → m ≡ b → ⊥) → combined_in core o acc x s m ≡ s m
     left_other None x s m ne far = put_other core acc x s m ne
     left_other (Some b) x s m ne far = put_other core b 1 (put core acc x s) m (far b refl) ∙ put_other core acc x s m ne
 
-    left_acc : (o : Option ℕ) (x : ℕ) (s : Store) → ((b : ℕ) → o ≡ Some b → acc ≡ b → ⊥) → combined_in core o acc x s acc ≡ Some (put_in core acc x (s acc))
+    pub left_acc : (o : Option ℕ) (x : ℕ) (s : Store) → ((b : ℕ) → o ≡ Some b → acc ≡ b → ⊥) → combined_in core o acc x s acc ≡ Some (put_in core acc x (s acc))
     left_acc None x s far = put_here core acc x s
     left_acc (Some b) x s far = put_other core b 1 (put core acc x s) acc (far b refl) ∙ put_here core acc x s
 
-    left_flag : (o : Option ℕ) (x : ℕ) (s : Store) → ((b : ℕ) → o ≡ Some b → acc ≡ b → ⊥) → (b : ℕ) → o ≡ Some b → combined_in core o acc x s b ≡ Some (put_in core b 1 (s b))
+    pub left_flag : (o : Option ℕ) (x : ℕ) (s : Store) → ((b : ℕ) → o ≡ Some b → acc ≡ b → ⊥) → (b : ℕ) → o ≡ Some b → combined_in core o acc x s b ≡ Some (put_in core b 1 (s b))
     left_flag None x s far b e = absurd (nothing e)
       where
         nothing : ◌≡◌ {A = Option ℕ} None (Some b) → ⊥
@@ -137,10 +137,10 @@ module _ (core : PlainCore) (plain : ℕ → Scope) (owned : List ℕ) (before :
         by true i = absurd (h i)
         by false i = refl
 
-    acc_not : is acc ≡ false
+    pub acc_not : is acc ≡ false
     acc_not = is_not acc (λ i. (asks.other acc i).0 refl)
 
-    flag_not : (b : ℕ) → begun ≡ Some b → is b ≡ false
+    pub flag_not : (b : ℕ) → begun ≡ Some b → is b ≡ false
     flag_not b e = is_not b (λ i. (asks.other b i).1 b e refl)
 
     -- after a combination the accumulator holds its word
@@ -154,7 +154,7 @@ module _ (core : PlainCore) (plain : ℕ → Scope) (owned : List ℕ) (before :
         differ e = omega (arith, e)
     holds_again (Some b) x s u (Some a) both e f h = ap Some (read_back (kind_of core acc) (dims core acc) x a (s acc) asks.acc_both (subst (λ c. word_in (kind_of core acc) (dims core acc) [] c ≡ Some a) e h.1.1))
 
-    holds_same : (o : Option ℕ) (s u : Store) (held : Option ℕ) → u acc ≡ s acc → ((b : ℕ) → o ≡ Some b → u b ≡ s b) → Holds core o acc u held → Holds core o acc s held
+    pub holds_same : (o : Option ℕ) (s u : Store) (held : Option ℕ) → u acc ≡ s acc → ((b : ℕ) → o ≡ Some b → u b ≡ s b) → Holds core o acc u held → Holds core o acc s held
     holds_same None s u None e f h = h
     holds_same None s u (Some a) e f h = subst (λ c. ReadsAs core acc c a) e h
     holds_same (Some b) s u None e f h = (subst (λ c. ReadsAs core b c 0) (f b refl) h.0, h.1)
@@ -192,7 +192,7 @@ module _ (core : PlainCore) (plain : ℕ → Scope) (owned : List ℕ) (before :
         )
 
     -- and after those that follow
-    more_left : (s u after : Store) (v : ℕ) (vs : List ℕ) → (held : Option ℕ) × Holds core begun acc s held × Written (after_word joint held v) s u → (vs ≡ [] → u ≡ after) → Accumulated u after vs → Accumulated s after (v ∷ vs)
+    pub more_left : (s u after : Store) (v : ℕ) (vs : List ℕ) → (held : Option ℕ) × Holds core begun acc s held × Written (after_word joint held v) s u → (vs ≡ [] → u ≡ after) → Accumulated u after vs → Accumulated s after (v ∷ vs)
     more_left s u after v [] first done rest = (first.0, first.1, subst (λ (z : Store). Written (after_word joint first.0 v) s z) (done refl) first.2)
     more_left s u after v (y ∷ vs) first done rest =
         let x : ℕ = after_word joint first.0 v in

@@ -38,7 +38,7 @@ module _ (is : ℕ → Bool) where
   abbrev pub Framed : (A : Type 0) → Step A → Type 0
   Framed A step = (s t after : Store) (a : A) → AgreeOn s t → step s ≡ went a after → FramedAt step s t after a
 
-  bind_framed : {A B : Type 0} (step : Step A) (rest : A → Step B) → Framed A step → ((a : A) → Framed B (rest a)) → Framed B (step >>= rest)
+  pub bind_framed : {A B : Type 0} (step : Step A) (rest : A → Step B) → Framed A step → ((a : A) → Framed B (rest a)) → Framed B (step >>= rest)
   bind_framed step rest f g s t after b agree e =
       let r = bind_split step rest s after b e in
       let x : FramedAt step s t r.1 r.0 = f s t r.1 r.0 agree r.2 in
@@ -62,7 +62,7 @@ module _ (is : ℕ → Bool) where
         kept_too = λ m n. refl;
       }
 
-  pure_framed : {A : Type 0} (a : A) → Framed A (pure a)
+  pub pure_framed : {A : Type 0} (a : A) → Framed A (pure a)
   unfolding pure
   pure_framed a s t after b agree e = same_framed (pure a) s t after b a agree refl refl e
 
@@ -78,7 +78,7 @@ module _ (is : ℕ → Bool) where
   unfolding look
   look_framed m f h s t after b agree e = same_framed (look (λ s. f (s m))) s t after b (f (s m)) agree refl (ap (λ c. went (f c) t) (agree m h)) e
 
-  change_framed : (m : ℕ) (f : Option Contents → Contents) → IsTrue (is m) → Framed (Unit {0}) (change (λ s. hold s m (f (s m))))
+  pub change_framed : (m : ℕ) (f : Option Contents → Contents) → IsTrue (is m) → Framed (Unit {0}) (change (λ s. hold s m (f (s m))))
   unfolding change
   change_framed m f h s t after b agree e =
       let now : hold s m (f (s m)) ≡ after = ap (store_of s) e in
@@ -98,7 +98,7 @@ module _ (is : ℕ → Bool) where
       apart k n v true i = absurd (true≢false (sym h ∙ ap is (sym (eqb-true k m i)) ∙ n))
       apart k n v false i = refl
 
-  framed_closed : IsClosed Framed is
+  pub framed_closed : IsClosed Framed is
   framed_closed = record {
     of_pure = pure_framed;
     of_bind = bind_framed;

@@ -88,7 +88,7 @@ fits_long [] (e ∷ es) h = absurd h
 fits_long (op ∷ ops) [] h = absurd h
 fits_long (op ∷ ops) (e ∷ es) h = ap suc (fits_long ops es h.1)
 
-have_words : (ops : List PlainOp) (word : ℕ) (ty : Ty) → word < length ops → gives (given_of ops) word ty ≡ true → (groups : List (List Entry)) → EachFits ops groups → EachHasWord ty word groups
+pub have_words : (ops : List PlainOp) (word : ℕ) (ty : Ty) → word < length ops → gives (given_of ops) word ty ≡ true → (groups : List (List Entry)) → EachFits ops groups → EachHasWord ty word groups
 have_words ops word ty lt given [] h = tt
 have_words ops word ty lt given (g ∷ groups) h = (let long = fits_long ops g h.0 in omega (arith, long, lt), word_fits ops g word ty h.0 given, have_words ops word ty lt given groups h.1)
 
@@ -103,7 +103,7 @@ words_alone ty word (g ∷ groups) h = (h.0, words_alone ty word groups h.2)
 module _ (core : PlainCore) (lists : ListsFit core) (fitting : WordsFit core) (laws : Laws) (memories : are_memories_right core ≡ true)
     (around inside : Around) (w : Within) (counters : List PlainCounter) (owned : List ℕ) (plain : ℕ → Scope) (lanes : Scope) (count : ℕ) (g : IsGroup core around inside w counters owned plain lanes count) (several : (lanes_of counters == 1) ≡ false)
     (before : List PlainOp) (begun : Option ℕ) (at word acc : ℕ) (ty : Ty) (comb : Comb) (is : ℕ → Bool) (asks : Asks core plain owned before begun at word acc ty comb is)
-    (p : ArePlain (before ++ combining begun at word acc ty comb)) (right : are_operations_right core (within around counters owned) (before ++ combining begun at word acc ty comb) ≡ true) (resets : ResetsFirst (waits_in core owned) (before ++ combining begun at word acc ty comb))
+    (p : ArePlain (before ++ combining begun at word acc ty comb)) (right : are_operations_right core (within around counters owned) (before ++ combining begun at word acc ty comb) ≡ true)
     (acc_out : is_among acc owned ≡ false) (flag_out : (b : ℕ) → begun ≡ Some b → is_among b owned ≡ false) where
   abbrev place : Around
   place = within around counters owned
@@ -111,7 +111,7 @@ module _ (core : PlainCore) (lists : ListsFit core) (fitting : WordsFit core) (l
   abbrev all : List PlainOp
   all = before ++ combining begun at word acc ty comb
 
-  parts : (are_operations_right core place before ≡ true) × CombinesRight core place (given_of before) begun word acc ty
+  pub parts : (are_operations_right core place before ≡ true) × CombinesRight core place (given_of before) begun word acc ty
   parts =
       let r = right_parts core place [] before (combining begun at word acc ty comb) right in
       (r.0, combines_right core place (given_of before) begun at word acc ty comb (let lt = asks.earlier in let same = asks.place in omega (arith, lt, same, given_length before)) r.1)
@@ -123,10 +123,10 @@ module _ (core : PlainCore) (lists : ListsFit core) (fitting : WordsFit core) (l
   usable_out : (t : Ty) (m : ℕ) → IsRegister core place t m → is_among m owned ≡ false → is_usable core around m ≡ true
   usable_out t m h o = in_usable core around inside w counters owned plain lanes count g m (register_usable core place t m h) o
 
-  acc_usable : is_usable core around acc ≡ true
+  pub acc_usable : is_usable core around acc ≡ true
   acc_usable = usable_out ty acc parts.1.accumulator acc_out
 
-  flag_usable : (b : ℕ) → begun ≡ Some b → is_usable core around b ≡ true
+  pub flag_usable : (b : ℕ) → begun ≡ Some b → is_usable core around b ≡ true
   flag_usable b e = usable_out Bit b (parts.1.flag b e) (flag_out b e)
 
   zero_lane : 0 < lanes_of counters
@@ -140,14 +140,14 @@ module _ (core : PlainCore) (lists : ListsFit core) (fitting : WordsFit core) (l
       let number : lane0.number m ≡ w.number m = out_number core around inside w counters owned plain lanes count g 0 m o in
       record { kinds = ap (kind_of (unrolled core)) (sym number) ∙ same.kinds; sizes = ap (dims (unrolled core)) (sym number) ∙ same.sizes }
 
-  acc_alike : Alike core (unrolled core) acc (w.number acc)
+  pub acc_alike : Alike core (unrolled core) acc (w.number acc)
   acc_alike = alike_at ty acc parts.1.accumulator acc_out
 
-  flag_alike : (b : ℕ) → begun ≡ Some b → Alike core (unrolled core) b (w.number b)
+  pub flag_alike : (b : ℕ) → begun ≡ Some b → Alike core (unrolled core) b (w.number b)
   flag_alike b e = alike_at Bit b (parts.1.flag b e) (flag_out b e)
 
   -- different memories have different copies
-  copies_differ : (m k : ℕ) → is_usable core around m ≡ true → is_usable core around k ≡ true → (m ≡ k → ⊥) → w.number m ≡ w.number k → ⊥
+  pub copies_differ : (m k : ℕ) → is_usable core around m ≡ true → is_usable core around k ≡ true → (m ≡ k → ⊥) → w.number m ≡ w.number k → ⊥
   copies_differ m k u v ne e = ne (copies_apart core around w g.copies m k u v e)
 
   abbrev bodies_in_lanes : List Body
@@ -170,7 +170,7 @@ module _ (core : PlainCore) (lists : ListsFit core) (fitting : WordsFit core) (l
   abbrev last_part : List Entry → List PlainOp
   last_part es = combining begun_there (length es + length (joined es).ops) (first_place (joined es).words) (w.number acc) ty comb
 
-  lane_ops_are : lane_ops ≡ all_ops bodies_in_lanes ++ combined (last_number counters) at bodies_in_lanes (combining begun_there at word (w.number acc) ty comb)
+  pub lane_ops_are : lane_ops ≡ all_ops bodies_in_lanes ++ combined (last_number counters) at bodies_in_lanes (combining begun_there at word (w.number acc) ty comb)
   lane_ops_are =
       laned_is (last_number counters) (in_lane (memory_order core) counters owned w) owned (lanes_of counters) at before begun word acc ty comb asks.place
       ∙ ap (λ o. all_ops bodies_in_lanes ++ combined (last_number counters) at bodies_in_lanes (combining o at word (lane0.number acc) ty comb)) (begun_same begun flag_out)
@@ -252,7 +252,7 @@ module _ (core : PlainCore) (lists : ListsFit core) (fitting : WordsFit core) (l
       (fs : List Entry) × (operations_after (unrolled core) lanes done (combined (last_number counters) at bodies_in_lanes (combining begun_there at word (w.number acc) ty comb)) between
       ≡ went fs (combined_in (unrolled core) begun_there (w.number acc) x between))
 
-  combine : (s : Store) → StoreFits core s → (done : List Entry) (between : Store) (v : List Entry) (vs : List (List Entry)) → LanesStand (lanes (last_number counters)).live done 0 bodies_in_lanes (v ∷ vs) → EachHasWord ty word (v ∷ vs)
+  pub combine : (s : Store) → StoreFits core s → (done : List Entry) (between : Store) (v : List Entry) (vs : List (List Entry)) → LanesStand (lanes (last_number counters)).live done 0 bodies_in_lanes (v ∷ vs) → EachHasWord ty word (v ∷ vs)
       → length done ≡ length (all_ops bodies_in_lanes) → (held : Option ℕ) → Holds core begun acc s held → Holds (unrolled core) begun_there (w.number acc) between held → (b : Bool) → is_balanced (operator_of comb) ty ≡ b
       → Leaves done between (in_turn op (after_word op held (word_at v word)) (words_of word vs))
   combine s fits done between v vs stand has long held here holds true balanced =
@@ -306,8 +306,8 @@ module _ (core : PlainCore) (lists : ListsFit core) (fitting : WordsFit core) (l
   some_body zero some s ended bodies ran = absurd (omega (arith, some))
   some_body (suc k) some s ended bodies ran = let r = order_split (body core plain owned before begun at word acc ty comb) 0 (lanes_from 1 k) s ended bodies ran in (r.0, r.2, r.5)
 
-  pub combined_goes : (s t after : Store) (groups : List (List Entry)) → StoreFits core s → HoldAlike core around w s t → in_order (λ l. iteration core (plain l) owned all) (lanes_from 0 count) s ≡ went groups after → EachMasked all groups → Went t after
-  combined_goes s t after groups fits alike ran bits =
+  pub combined_goes : ResetsFirst (waits_in core owned) all → (s t after : Store) (groups : List (List Entry)) → StoreFits core s → HoldAlike core around w s t → in_order (λ l. iteration core (plain l) owned all) (lanes_from 0 count) s ≡ went groups after → EachMasked all groups → Went t after
+  combined_goes resets s t after groups fits alike ran bits =
       let c : chain_of count 0 s s after = chained core plain owned before begun at word acc ty comb is asks count 0 s s after groups (flags groups bits) (λ m i. refl) ran in
       let masked = groups_masked core lists place plain owned before count s c.ended c.bodies memories parts.0 fits c.ran in
       let x = words_go core around inside w counters owned plain lanes count g several before s t c.ended c.bodies (plain_front before (combining begun at word acc ty comb) p) parts.0 (resets_front before (combining begun at word acc ty comb) (waits_in core owned) resets) alike c.ran masked.0 in

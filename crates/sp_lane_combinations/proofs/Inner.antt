@@ -21,7 +21,7 @@ use Rattle.sp_lanes.specs.Unrolled.{unrolled, owned_in_lanes, inner_ops, ops_in_
 use Rattle.sp_lanes.specs.Within.{Within, in_lane, ops_in}
 use Rattle.sp_copies.specs.Copies.{OwnsInLanes}
 use Rattle.sp_copies_room.specs.Laws.{PlacesHaveRoom}
-use Rattle.sp_laned.specs.Marks.{Combination, folded, reduced, element}
+use Rattle.sp_laned.specs.Marks.{Combination, folded, reduced, element, is_other}
 use Rattle.sp_live_lanes.specs.Stores.{ArePlain}
 use Rattle.sp_unrolled_rules.specs.Meetings.{given_of}
 use Rattle.sp_unrolled_rules.proofs.Givens.{given_length}
@@ -81,7 +81,7 @@ module _ (core : PlainCore) (owned : List ℕ) (ops : List PlainOp) (at : ℕ) w
       by true i = absurd (true≢false (sym (h m i) ∙ e))
       by false i = refl
 
-  parts_of : (c : Combination) → IsOneWord c → EndsIn core owned ops at c → Parts core owned ops at
+  pub parts_of : (c : Combination) → IsOneWord c → EndsIn core owned ops at c → Parts core owned ops at
   parts_of (folded word acc ty comb) one h = record {
     before = h.combined.before;
     begun = None;
@@ -132,6 +132,19 @@ module _ (core : PlainCore) (owned : List ℕ) (ops : List PlainOp) (at : ℕ) w
       second false b e = refl
   parts_of (element mems word c dims acc begun ty comb) one h = absurd one
 
+  -- its test tells the memories that aren't the combination's own, and it has the list's own operations before
+  pub parts_is : (c : Combination) (one : IsOneWord c) (h : EndsIn core owned ops at c) → (parts_of c one h).is ≡ is_other c
+  unfolding parts_of
+  parts_is (folded word acc ty comb) one h = refl
+  parts_is (reduced word acc begun ty comb) one h = refl
+  parts_is (element mems word c dims acc begun ty comb) one h = absurd one
+
+  pub parts_before : (c : Combination) (one : IsOneWord c) (h : EndsIn core owned ops at c) → (parts_of c one h).before ≡ h.combined.before
+  unfolding parts_of
+  parts_before (folded word acc ty comb) one h = refl
+  parts_before (reduced word acc begun ty comb) one h = refl
+  parts_before (element mems word c dims acc begun ty comb) one h = absurd one
+
 module _ (core : PlainCore) (lists : ListsFit core) (fitting : WordsFit core) (room : PlacesHaveRoom core) (laws : Laws) (is : IsCore core) (owns : OwnsInLanes core.root) (turns : ℕ)
     (around inside : Around) (earlier : List ℕ) (w : Within) (counters : List PlainCounter) (owned : List ℕ) (ops : List PlainOp) (at : ℕ) (h : StandsIn core around inside earlier w (inner counters owned ops (Some at))) (c : Parts core owned ops at) where
   right : (is_node_right core around (inner counters owned ops (Some at)) ≡ true) × (is_owned_once core earlier owned ≡ true)
@@ -171,7 +184,7 @@ module _ (core : PlainCore) (lists : ListsFit core) (fitting : WordsFit core) (r
   tree_goes several plain lanes count g s t after groups fits alike ran bits =
       let x =
       combined_goes core lists fitting laws is.memories around (inside_lanes core is owns lists room turns around inside earlier w counters owned ops (Some at) h) w counters owned plain lanes count g several c.before c.begun at c.word c.acc c.ty c.comb c.is (asks plain)
-      (subst ArePlain c.list h.plain.1) all_right (subst (ResetsFirst (waits_in core owned)) c.list h.resets) c.acc_out c.flag_out s t after groups fits alike
+      (subst ArePlain c.list h.plain.1) all_right c.acc_out c.flag_out (subst (ResetsFirst (waits_in core owned)) c.list h.resets) s t after groups fits alike
       (subst (λ xs. in_order (λ l. iteration core (plain l) owned xs) (lanes_from 0 count) s ≡ went groups after) c.list ran) (subst (λ xs. EachMasked xs groups) c.list bits) in
       let own : List ℕ = owned_in_lanes (memory_order core) counters owned w in
       (x.0, x.1, ap (λ xs. iteration (unrolled core) lanes own xs t) lane_ops_are ∙ x.2, x.3, x.4)

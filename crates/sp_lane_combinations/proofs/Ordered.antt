@@ -1,8 +1,7 @@
 -- Words of lanes that meet the accumulator one after the other.
-use Rattle.std.proofs.Common.{◌≡◌, ℕ, suc, ◌+◌, ◌-◌, ◌<◌, ◌≤◌, true, false, List, [], ◌∷◌, ◌++◌, length, Option, Some, None, refl, sym, ◌∙◌, ap, subst, arith, nat_le}
-use Rattle.std.proofs.lemmas.Bool.{le-leb}
+use Rattle.std.proofs.Common.{◌≡◌, ℕ, suc, ◌+◌, ◌<◌, List, [], ◌∷◌, ◌++◌, length, Option, Some, None, refl, sym, ◌∙◌, ap, subst, arith}
 use Rattle.std.proofs.lemmas.List.{append_assoc, length-append}
-use Rattle.std.specs.Prelude.{slice_index, if◌then◌else◌}
+use Rattle.std.specs.Prelude.{slice_index}
 use Rattle.sp_words.specs.declared.types.Ty.{Ty}
 use Rattle.sp_words.specs.declared.types.Ty.TheVariants.{Bit}
 use Rattle.sp_tree.specs.declared.statement.Comb.{Comb}
@@ -15,13 +14,13 @@ use Rattle.sp_core.specs.Scope.{Scope}
 use Rattle.sp_core.specs.Step.{went}
 use Rattle.sp_core.specs.Store.{Store}
 use Rattle.sp_sugar.specs.Combination.{operator_of}
-use Rattle.sp_sugar.specs.Operations.{computes, read_op, write_op, literal_op, under}
+use Rattle.sp_sugar.specs.Operations.{computes, read_op, write_op, literal_op}
 use Rattle.sp_lanes.specs.Bodies.{Body}
-use Rattle.sp_lanes.specs.Combined.{met_ops, first_place, without_first}
+use Rattle.sp_lanes.specs.Combined.{met_ops}
 use Rattle.sp_lanes.specs.Joined.{LaneWord, lane_words, join_ops}
 use Rattle.sp_unrolled_rules.proofs.Givens.{append_none}
-use Rattle.sp_live_lanes.proofs.Lane.{word_kept, word_end}
-use Rattle.sp_lane_groups.proofs.Runs.{nothing_on, runs_append, run_long}
+use Rattle.sp_live_lanes.proofs.Lane.{word_end}
+use Rattle.sp_lane_groups.proofs.Runs.{nothing_on, runs_append}
 use Rattle.sp_lane_words.specs.Standing.{LanesStand}
 use Rattle.sp_lane_words.proofs.Masks.{lanes_more}
 use Rattle.sp_joined_words.specs.Words.{in_turn, words_of}

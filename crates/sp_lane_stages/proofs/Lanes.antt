@@ -38,7 +38,7 @@ use Rattle.sp_lane_stages.specs.Laws.{AreOfFirst}
 use Rattle.sp_lane_stages.proofs.Passing.{neither, Passed, passes, rests}
 
 -- the end of a group that is of no stream block
-nothing_ends : (core : PlainCore) (reading : Reading) (turns : ℕ) (style : Style) (owned : List ℕ) (s : Store) → is_stream style ≡ false → end_of_group core reading turns style owned s ≡ went [] s
+pub nothing_ends : (core : PlainCore) (reading : Reading) (turns : ℕ) (style : Style) (owned : List ℕ) (s : Store) → is_stream style ≡ false → end_of_group core reading turns style owned s ≡ went [] s
 unfolding pure
 nothing_ends core reading turns Pipe owned s e = refl
 nothing_ends core reading turns Sequential owned s e = refl
@@ -46,7 +46,7 @@ nothing_ends core reading turns Parallel owned s e = refl
 nothing_ends core reading turns Stream owned s e = absurd (true≢false e)
 
 -- what the stages of a lane own
-among_stages : (n l : ℕ) (ns : List PlainNode) (rest : PlainStages) → is_among n (owned_in_stages (stages_in l ns rest)) ≡ false → (is_among n (flat_map owned_in ns) ≡ false) × (is_among n (owned_in_stages rest) ≡ false)
+pub among_stages : (n l : ℕ) (ns : List PlainNode) (rest : PlainStages) → is_among n (owned_in_stages (stages_in l ns rest)) ≡ false → (is_among n (flat_map owned_in ns) ≡ false) × (is_among n (owned_in_stages rest) ≡ false)
 among_stages n l [] rest e = (refl, e)
 among_stages n l (node ∷ ns) rest e =
     let p = neither (owned_in node) (owned_in_stages (stages_in l ns rest)) n e in
@@ -54,10 +54,10 @@ among_stages n l (node ∷ ns) rest e =
     (among_both n (owned_in node) (flat_map owned_in ns) ∙ ap (λ b. b || is_among n (flat_map owned_in ns)) p.0 ∙ q.0, q.1)
 
 -- places of lanes, over variables
-less_of : (l more count : ℕ) → l + suc more ≡ count → l < count
+pub less_of : (l more count : ℕ) → l + suc more ≡ count → l < count
 less_of l more count e = omega (arith, e)
 
-next_of : (l more count : ℕ) → l + suc more ≡ count → suc l + more ≡ count
+pub next_of : (l more count : ℕ) → l + suc more ≡ count → suc l + more ≡ count
 next_of l more count e = omega (arith, e)
 
 module _ (core : PlainCore) (nodes : NodesFit core) (memories : are_memories_right core ≡ true) (turns : ℕ) (around inside_lanes : Around) (w : Within) (counters : List PlainCounter) (style : Style) (owned : List ℕ) (no_stream : is_stream style ≡ false)
@@ -96,16 +96,16 @@ module _ (core : PlainCore) (nodes : NodesFit core) (memories : are_memories_rig
   pub both_left : (t u v : Store) → Left t u → Left u v → Left t v
   both_left t u v f g n lt outer free = g n lt outer free ∙ f n lt outer free
 
-  own_in : (l m : ℕ) → l < lanes_of counters → is_among m owned ≡ true → is_among ((lane_at l).number m) all_owned ≡ true
+  pub own_in : (l m : ℕ) → l < lanes_of counters → is_among m owned ≡ true → is_among ((lane_at l).number m) all_owned ≡ true
   own_in l m lt e = row_in (λ l m. (lane_at l).number m) owned (lanes_of counters) l m lt e
 
-  own_not : (m : ℕ) → is_usable core around m ≡ true → is_among (w.number m) all_owned ≡ false
+  pub own_not : (m : ℕ) → is_usable core around m ≡ true → is_among (w.number m) all_owned ≡ false
   own_not m u = row_out (λ l m. (lane_at l).number m) owned (lanes_of counters) (w.number m) (λ x l e lt same. own_out core around inside_lanes w counters owned plain lanes count g x l m e lt u same)
 
-  own_dram : (r : ℕ) → is_among (dram_number (unrolled core) r) all_owned ≡ false
+  pub own_dram : (r : ℕ) → is_among (dram_number (unrolled core) r) all_owned ≡ false
   own_dram r = row_out (λ l m. (lane_at l).number m) owned (lanes_of counters) (dram_number (unrolled core) r) (λ x l e lt same. no_copy core place inside_lanes (lane_at l) (g.together l lt) x r (g.valid x e) same)
 
-  not_inside : (l n : ℕ) → l < lanes_of counters → ((m : ℕ) → is_usable core around m ≡ true → w.number m ≡ n → ⊥) → is_among n all_owned ≡ false → (m : ℕ) → is_usable core place m ≡ true → (lane_at l).number m ≡ n → ⊥
+  pub not_inside : (l n : ℕ) → l < lanes_of counters → ((m : ℕ) → is_usable core around m ≡ true → w.number m ≡ n → ⊥) → is_among n all_owned ≡ false → (m : ℕ) → is_usable core place m ≡ true → (lane_at l).number m ≡ n → ⊥
   not_inside l n lt outer free m u same = by (is_among m owned) refl
     where
       by : (b : Bool) → is_among m owned ≡ b → ⊥
@@ -113,9 +113,9 @@ module _ (core : PlainCore) (nodes : NodesFit core) (memories : are_memories_rig
       by false i = outer m (in_usable core around inside_lanes w counters owned plain lanes count g m u i) (sym (out_number core around inside_lanes w counters owned plain lanes count g l m i) ∙ same)
 
   -- before a lane: what is used outside holds alike, and what later lanes own is fresh
-  record Reached (l : ℕ) (s t : Store) : Type 0 where
-    agrees : AgreeAt core around w s t
-    own : (m j : ℕ) → is_among m owned ≡ true → l ≤ j → j < lanes_of counters → t ((lane_at j).number m) ≡ Some (fresh core m)
+  pub record Reached (l : ℕ) (s t : Store) : Type 0 where
+    pub agrees : AgreeAt core around w s t
+    pub own : (m j : ℕ) → is_among m owned ≡ true → l ≤ j → j < lanes_of counters → t ((lane_at j).number m) ≡ Some (fresh core m)
 
   enters : (l : ℕ) → l < lanes_of counters → (s t : Store) → Reached l s t → (a : Made core plainly turns owned s) → AgreeAt core place (lane_at l) a.after t
   enters l lt s t h a = record {
@@ -129,7 +129,7 @@ module _ (core : PlainCore) (nodes : NodesFit core) (memories : are_memories_rig
           ap t (out_number core around inside_lanes w counters owned plain lanes count g l m i) ∙ h.agrees.memories m (in_usable core around inside_lanes w counters owned plain lanes count g m u i) ∙ sym (a.outside m i)
 
   -- a copy of what is owned is declared
-  copy_low : (j m : ℕ) → j < lanes_of counters → is_among m owned ≡ true → (lane_at j).number m < length (unrolled core).mems
+  pub copy_low : (j m : ℕ) → j < lanes_of counters → is_among m owned ≡ true → (lane_at j).number m < length (unrolled core).mems
   copy_low j m lt i =
       let n : ℕ = (lane_at j).number m in
       ltb-true n (length (unrolled core).mems) (and_parts (nat_lt n (length (unrolled core).mems)) (is_port_kind (mem (unrolled core) n).kind || is_among n inside_lanes.owned) ((g.together j lt).memories m (g.valid m i)).0).0
@@ -138,7 +138,7 @@ module _ (core : PlainCore) (nodes : NodesFit core) (memories : are_memories_rig
   After l lt t after = Passed core nodes memories turns place (lane_at l) (plain l) lanes (g.scopes l lt) l too stages t after
 
   -- after a lane, before the next one
-  next_reached : (l : ℕ) (lt : l < lanes_of counters) (s t after : Store) → Reached l s t → (x : After l lt t after) → Reached (suc l) after x.ended
+  pub next_reached : (l : ℕ) (lt : l < lanes_of counters) (s t after : Store) → Reached l s t → (x : After l lt t after) → Reached (suc l) after x.ended
   next_reached l lt s t after h x = record {
     agrees = record {
       memories = λ m u. ap x.ended (sym (out_number core around inside_lanes w counters owned plain lanes count g l m (g.apart m u))) ∙ x.agrees.memories m (out_usable core around inside_lanes w counters owned plain lanes count g m u);
@@ -155,7 +155,7 @@ module _ (core : PlainCore) (nodes : NodesFit core) (memories : are_memories_rig
   turn l = turn_of core plainly turns style owned stages (live_at l) (plain l)
 
   -- a lane of the core is the stages of the lane
-  one_turn : (l : ℕ) (below : l < lanes_of counters) → l < count → (s t after : Store) (runs : Runs) → StoreFits core s → Reached l s t → turn l s ≡ went runs after → After l below t after
+  pub one_turn : (l : ℕ) (below : l < lanes_of counters) → l < count → (s t after : Store) (runs : Runs) → StoreFits core s → Reached l s t → turn l s ≡ went runs after → After l below t after
   unfolding pure
   one_turn l below lt s t after runs fits h ran =
       let first = bind_split (in_order (renew core plainly turns) owned) (λ _. run_stages core plainly turns stages (live_at l) (plain l) >>= (λ runs. end_of_group core plainly turns style owned >> pure runs)) s after runs ran in

@@ -20,9 +20,11 @@ use Rattle.sp_lane_nodes.specs.Laws.{BranchesStand, BranchesGo, FsmsStand, FsmsG
 use Rattle.sp_lane_outers.specs.Laws.{OutersStand, OutersGo}
 use Rattle.sp_lane_outers.specs.Stages.{AllGoAlong, AllStandIn}
 use Rattle.sp_lane_stages.specs.Laws.{AreOfFirst, StagesGo}
+use Rattle.sp_lane_reductions.specs.Laws.{ReductionsGo}
+use Rattle.sp_lane_reductions.specs.Reduction.{own_stages, LastReduces}
 use Rattle.sp_lane_transfers.specs.Laws.{TransfersGo}
 use Rattle.sp_lane_trees.specs.Laws.{NodesGo}
-use Rattle.sp_lane_trees.specs.Alone.{CombinesAlone, CombineAlone}
+use Rattle.sp_lane_trees.specs.Words.{CombinesWords, CombineWords}
 
 -- what is known of each kind of node
 pub record Parts (core : PlainCore) : Type 0 where
@@ -36,6 +38,7 @@ pub record Parts (core : PlainCore) : Type 0 where
   pub outers_stand : OutersStand core
   pub outers : OutersGo core
   pub stages : StagesGo core
+  pub reductions : ReductionsGo core
 
 first_lane : (n : ℕ) → n ≡ 1 → 0 < n
 first_lane n e = omega (arith, e)
@@ -78,22 +81,38 @@ module _ (core : PlainCore) (parts : Parts core) (is : IsCore core) (owns : Owns
   are_first (more_stage first last true node rest) e = (e.0, e.1, are_first rest e.2)
   are_first (more_stage first last false node rest) e = (e.0, e.1, are_first rest e.3)
 
-  -- in one lane, or in several
+  -- the stages but the combination
+  own_go : (place : Around) (w : Within) (stages : PlainStages) → AllGoAlong core turns place w stages → AllGoAlong core turns place w (own_stages stages)
+  own_go place w no_stage go = tt
+  own_go place w (more_stage first last true node rest) go = own_go place w rest go.1
+  own_go place w (more_stage first last false node rest) go = (go.0, own_go place w rest go.1)
+
+  -- in one lane, or in several, where none combines or the last one does
+  abbrev Combined : List ℕ → PlainStages → Type 0
+  Combined owned stages = NoneCombines core stages ⊎ ((test : ℕ → Bool) × LastReduces core owned test stages)
+
+  several_go : (around inside : Around) (earlier : List ℕ) (w : Within) (counters : List PlainCounter) (style : Style) (owned : List ℕ) (stages : PlainStages) → StandsIn core around inside earlier w (outer counters style owned stages) → OwnInLanes stages → AreEnded core stages
+      → (lanes_of counters == 1) ≡ false → is_stream style ≡ false → Combined owned stages → ((l : ℕ) → l < lanes_of counters → AllGoAlong core turns (within around counters owned) (in_lane (memory_order core) counters owned w l) stages)
+      → GoesAlong core turns around w (outer counters style owned stages)
+  several_go around inside earlier w counters style owned stages h own e several no_stream (inl none) go = parts.stages is owns turns around inside earlier w counters style owned stages several no_stream none (are_first stages e) own h go
+  several_go around inside earlier w counters style owned stages h own e several no_stream (inr last) go =
+      parts.reductions is owns turns around inside earlier w counters style owned stages several no_stream last.0 last.1 (are_first stages e) own h (λ l lt. own_go (within around counters owned) (in_lane (memory_order core) counters owned w l) stages (go l lt))
+
   outer_goes : (around inside : Around) (earlier : List ℕ) (w : Within) (counters : List PlainCounter) (style : Style) (owned : List ℕ) (stages : PlainStages) → StandsIn core around inside earlier w (outer counters style owned stages) → OwnInLanes stages → AreEnded core stages
-      → (is_stream style ≡ true → lanes_of counters ≡ 1) → (lanes_of counters ≡ 1) ⊎ NoneCombines core stages → ((l : ℕ) → l < lanes_of counters → AllGoAlong core turns (within around counters owned) (in_lane (memory_order core) counters owned w l) stages)
+      → (is_stream style ≡ true → lanes_of counters ≡ 1) → (lanes_of counters ≡ 1) ⊎ Combined owned stages → ((l : ℕ) → l < lanes_of counters → AllGoAlong core turns (within around counters owned) (in_lane (memory_order core) counters owned w l) stages)
       → GoesAlong core turns around w (outer counters style owned stages)
   outer_goes around inside earlier w counters style owned stages h own e alone (inl one) go = parts.outers is owns turns around inside earlier w counters style owned stages one h (go 0 (first_lane (lanes_of counters) one))
-  outer_goes around inside earlier w counters style owned stages h own e alone (inr none) go = by (lanes_of counters == 1) refl (is_stream style) refl
+  outer_goes around inside earlier w counters style owned stages h own e alone (inr combined) go = by (lanes_of counters == 1) refl (is_stream style) refl
     where
       by : (b : Bool) → (lanes_of counters == 1) ≡ b → (c : Bool) → is_stream style ≡ c → GoesAlong core turns around w (outer counters style owned stages)
       by true i c j =
           let one : lanes_of counters ≡ 1 = eqb-true (lanes_of counters) 1 i in
           parts.outers is owns turns around inside earlier w counters style owned stages one h (go 0 (first_lane (lanes_of counters) one))
       by false i true j = absurd (true≢false (sym (eq-eqb (lanes_of counters) 1 (alone j)) ∙ i))
-      by false i false j = parts.stages is owns turns around inside earlier w counters style owned stages i j none (are_first stages e) own h go
+      by false i false j = several_go around inside earlier w counters style owned stages h own e i j combined go
 
   mutual
-    node_goes : (node : PlainNode) (around inside : Around) (earlier : List ℕ) (w : Within) → StandsIn core around inside earlier w node → OwnsInLanes node → IsEnded core node → CombinesAlone core node → GoesAlong core turns around w node
+    node_goes : (node : PlainNode) (around inside : Around) (earlier : List ℕ) (w : Within) → StandsIn core around inside earlier w node → OwnsInLanes node → IsEnded core node → CombinesWords core node → GoesAlong core turns around w node
     node_goes (inner counters owned ops comb) around inside earlier w h own e alone = inner_goes around inside earlier w counters owned ops comb h e
     node_goes (outer counters style owned stages) around inside earlier w h own e alone =
         outer_goes around inside earlier w counters style owned stages h own e.1 e.2 alone.0
@@ -111,7 +130,7 @@ module _ (core : PlainCore) (parts : Parts core) (is : IsCore core) (owns : Owns
     node_goes (store d m spans) around inside earlier w h own e alone = parts.transfers is owns turns around inside earlier w (store d m spans) tt h
     node_goes (sparse kind d m index spans count par) around inside earlier w h own e alone = parts.transfers is owns turns around inside earlier w (sparse kind d m index spans count par) tt h
 
-    stages_go : (stages : PlainStages) (around inside : Around) (earlier : List ℕ) (w : Within) → AllStandIn core around inside earlier w stages → OwnInLanes stages → Ended stages → AreEnded core stages → CombineAlone core stages → AllGoAlong core turns around w stages
+    stages_go : (stages : PlainStages) (around inside : Around) (earlier : List ℕ) (w : Within) → AllStandIn core around inside earlier w stages → OwnInLanes stages → Ended stages → AreEnded core stages → CombineWords core stages → AllGoAlong core turns around w stages
     stages_go no_stage around inside earlier w h own m e alone = tt
     stages_go (more_stage first last true node rest) around inside earlier w h own (inl m) e alone = absurd m
     stages_go (more_stage first last true node rest) around inside earlier w h own (inr (owned, one, m)) e alone =

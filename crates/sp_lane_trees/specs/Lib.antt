@@ -1,3 +1,3 @@
-pub mod Alone
 pub mod Laws
 pub mod Outcomes
+pub mod Words

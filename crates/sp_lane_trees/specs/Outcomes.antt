@@ -9,7 +9,7 @@ use Rattle.sp_core.specs.PlainCore.{PlainCore}
 use Rattle.sp_core.specs.Scope.{plainly, in_lanes}
 use Rattle.sp_sugar.specs.Core.{core_of}
 use Rattle.sp_lanes.specs.Unrolled.{unrolled}
-use Rattle.sp_lane_trees.specs.Alone.{CombinesAlone}
+use Rattle.sp_lane_trees.specs.Words.{CombinesWords}
 
 -- where a core ends, read plainly, it ends in lanes with the same words, read in lanes
 abbrev pub EndsInLanes : PlainCore → Type 0
@@ -17,6 +17,7 @@ EndsInLanes core =
     (turns : ℕ) (input : PlainInput) → InputFits core input → (outs : List ℕ) (drams : List (List ℕ)) (h : History) → meaning plainly turns core input ≡ ended outs drams h
     → (g : History) × (meaning in_lanes turns (unrolled core) input ≡ ended outs drams g)
 
--- so does the core of a program where each controller with a stage that combines has one lane
+-- so does the core of a program where each controller with stages has one lane, or none of its stages combines, or the last one
+-- combines a word
 abbrev pub ProgramGoes : PlainProgram → Type 0
-ProgramGoes p = CombinesAlone (core_of p) (core_of p).root → EndsInLanes (core_of p)
+ProgramGoes p = CombinesWords (core_of p) (core_of p).root → EndsInLanes (core_of p)

@@ -7,10 +7,12 @@ use sp_lane_combinations::combined_inners_go;
 use sp_lane_inners::inners_go;
 use sp_lane_nodes::{branches_go, branches_stand, fsms_go, fsms_stand};
 use sp_lane_outers::{outers_go, outers_stand};
+use sp_lane_reductions::reductions_go;
 use sp_lane_stages::stages_go;
 use sp_lane_transfers::transfers_go;
 
-/// A node does in lanes what it does in the core, where each controller in it with a stage that combines has one lane.
+/// A node does in lanes what it does in the core, where each controller in it with stages has one lane, or none of its stages
+/// combines, or the last one combines a word.
 pub fn nodes_go()
     ensures { (core : PlainCore) → NodesGo core }
 {
@@ -24,4 +26,5 @@ pub fn nodes_go()
     outers_stand();
     outers_go();
     stages_go();
+    reductions_go();
 }

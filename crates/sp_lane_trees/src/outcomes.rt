@@ -8,8 +8,8 @@ use crate::laws::nodes_go;
 use sp_first_resets::programs_stand;
 use sp_lane_endings::programs_end;
 
-/// Where the core of a program ends, and each of its controllers with a stage that combines has one lane, the core in lanes ends
-/// with the same words of outputs and of DRAMs.
+/// Where the core of a program ends, and each of its controllers with stages has one lane, or none of its stages combines, or the
+/// last one combines a word, the core in lanes ends with the same words of outputs and of DRAMs.
 pub fn programs_go()
     ensures { (p : PlainProgram) → IsProgram p → ProgramGoes p }
 {

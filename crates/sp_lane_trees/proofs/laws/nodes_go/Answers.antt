@@ -13,4 +13,5 @@ returns c core = nodes_go core (record {
   outers_stand = c.outers_stand.ensures core;
   outers = c.outers_go.ensures core;
   stages = c.stages_go.ensures core;
+  reductions = c.reductions_go.ensures core;
 })

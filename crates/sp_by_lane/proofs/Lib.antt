@@ -1,0 +1,4 @@
+pub mod Free
+pub mod Placed
+pub mod Own
+pub mod Tree

@@ -1,0 +1,6 @@
+//! How programs end in lanes.
+#![tactic(auto)]
+
+mod laws;
+
+pub use laws::programs_end_in_lanes;
