@@ -1,0 +1,43 @@
+-- Which ports a run uses, and when: a small core with two readers of one memory.
+use Rattle.std.specs.Prelude.{ℕ, List, [], ◌∷◌, flat_map, Option, Some, None, codes, if◌then◌else◌}
+use Rattle.sp_words.specs.declared.kind.Kind.TheVariants.{Sram}
+use Rattle.sp_words.specs.declared.kind.Style.TheVariants.{Pipe}
+use Rattle.sp_words.specs.Types.{int_type}
+use Rattle.sp_core.specs.ExampleForms.{count, read, write, below, stages, mem_of, port, core}
+use Rattle.sp_core.specs.ExampleTransfers.{whole}
+use Rattle.sp_core.specs.Meaning.{Outcome, ended}
+use Rattle.sp_core.specs.PlainCore.{PlainCore, inner, outer, load}
+use Rattle.sp_plan.specs.ExamplePlans.{in_turns, timed, plan_of}
+use Rattle.sp_plan.specs.PlainPlan.{PlainMemPlan, outer_plan, other_plan, PlainPlan}
+use Rattle.sp_machine.specs.Timeline.{core_timed}
+use Rattle.sp_machine.specs.Transfers.{Delays}
+use Rattle.sp_used_ports.specs.Ports.{Port, port_of}
+
+-- a port by the cycle in which it is used, the memory, the copy, the duplicate and the bank
+pub data Used : Type 0 where
+  reads_at : (cycle mem copy duplicate bank : ℕ) → Used
+  writes_at : (cycle mem copy bank : ℕ) → Used
+
+abbrev pub used : (cycle : ℕ) → Option Port → List Used
+used c None = []
+used c (Some p) = (if p.is_written then writes_at c p.mem p.copy p.bank else reads_at c p.mem p.copy p.duplicate p.bank) ∷ []
+
+-- those of a run, if it ended, in the order of the text
+abbrev pub used_in : PlainCore → PlainPlan → Delays → Outcome → Option (List Used)
+used_in c plan delays (ended outs drams h) = Some (flat_map (λ s. used s.cycle (port_of c plan s)) (core_timed c plan delays h).events)
+used_in c plan delays _ = None
+
+-- two stages of a loop that read one memory: `o(i) = t(i)`, and then `q(i) = t(i)`
+unfoldable pub two_readers : PlainCore
+two_readers = core (mem_of (codes "t") Sram int_type (4 ∷ []) None ∷ mem_of (codes "o") Sram int_type (4 ∷ []) None ∷ mem_of (codes "q") Sram int_type (4 ∷ []) None ∷ []) (port (codes "a") (4 ∷ []) ∷ [])
+    (outer [] Pipe (0 ∷ 1 ∷ 2 ∷ []) (stages (
+    load 0 0 (whole 4 ∷ []) ∷
+    outer (below 0 2 1 1 ∷ []) Pipe [] (stages (
+    inner [] [] (count 0 0 ∷ read 0 (0 ∷ []) ∷ write 1 (0 ∷ 1 ∷ []) ∷ []) None ∷
+    inner [] [] (count 0 0 ∷ read 0 (0 ∷ []) ∷ write 2 (0 ∷ 1 ∷ []) ∷ []) None ∷
+    [])) ∷
+    [])))
+
+abbrev pub two_readers_plan : PlainMemPlan → PlainPlan
+two_readers_plan t = plan_of (t ∷ in_turns 1 1 ∷ in_turns 1 1 ∷ [])
+    (outer_plan (0 ∷ 1 ∷ []) (0 ∷ 0 ∷ []) ∷ other_plan ∷ outer_plan (0 ∷ 1 ∷ []) (0 ∷ 0 ∷ []) ∷ timed (0 ∷ 0 ∷ 2 ∷ []) 1 3 ∷ timed (0 ∷ 0 ∷ 2 ∷ []) 1 3 ∷ [])
