@@ -1,0 +1,6 @@
+//! Circuits of branches and FSMs over all runs of their nodes, in the cycles of the timeline.
+#![tactic(auto)]
+
+mod laws;
+
+pub use laws::{branches_of_nodes_work, machines_of_nodes_work};
