@@ -35,10 +35,10 @@ after_more wire cause W C n follows h never back forth = record { on = on; only 
 
 -- the runs of a loop in time
 module _ (shape : List (List ℕ)) (runs : List BeatsRan) (turns : AreInTurn shape runs) where
-  within : (r : BeatsRan) (b : ℕ) → b < beats_of shape r → beats_took shape b r + suc (beat_lasts shape b r) ≤ beats_took shape (beats_of shape r) r
+  pub within : (r : BeatsRan) (b : ℕ) → b < beats_of shape r → beats_took shape b r + suc (beat_lasts shape b r) ≤ beats_took shape (beats_of shape r) r
   within r b l = total_mono (λ b. suc (beat_lasts shape b r)) (suc b) (beats_of shape r) (omega (arith, l))
 
-  no_later : (r : BeatsRan) (b : ℕ) → b ≤ beats_of shape r → beats_took shape b r ≤ beats_took shape (beats_of shape r) r
+  pub no_later : (r : BeatsRan) (b : ℕ) → b ≤ beats_of shape r → beats_took shape b r ≤ beats_took shape (beats_of shape r) r
   no_later r b l = total_mono (λ b. suc (beat_lasts shape b r)) b (beats_of shape r) l
 
   abbrev pub After : BeatsRan → BeatsRan → ℕ → ℕ → Type 0
