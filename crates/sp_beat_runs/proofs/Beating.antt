@@ -69,7 +69,7 @@ module _ (shape : List (List ℕ)) (runs : List BeatsRan) (turns : AreInTurn sha
 
   module _ (start step : ℕ → Bool) (n : ℕ) (starts : IsOnAt start (At (λ (r : BeatsRan). r.cycle) runs) n) (steps : IsOnAt step (At (step_cycle shape) (steps_in shape runs)) n) where
     -- nothing is started while a run goes on
-    no_start : (r : BeatsRan) (w : ℕ) → Contains runs r → r.cycle < w → w < r.cycle + (2 + beats_took shape (beats_of shape r) r) → w ≤ n → start w ≡ false
+    pub no_start : (r : BeatsRan) (w : ℕ) → Contains runs r → r.cycle < w → w < r.cycle + (2 + beats_took shape (beats_of shape r) r) → w ≤ n → start w ≡ false
     no_start r w i a b l = by (either (start w))
       where
         other : (q : BeatsRan) → w ≡ q.cycle → (r ≡ q) ⊎ (r.cycle + (2 + beats_took shape (beats_of shape r) r) ≤ q.cycle) → start w ≡ false
@@ -81,7 +81,7 @@ module _ (shape : List (List ℕ)) (runs : List BeatsRan) (turns : AreInTurn sha
         by (inl t) = let x = starts.only w l t in let e = x.2 in other x.0 x.2 (turns r x.0 i x.1 (omega (arith, e, a)))
 
     -- nor is there a step within a beat
-    no_step : (r : BeatsRan) (b w : ℕ) → Contains runs r → b < beats_of shape r → beat_cycle shape b r < w → w ≤ beat_cycle shape b r + beat_lasts shape b r → w ≤ n → step w ≡ false
+    pub no_step : (r : BeatsRan) (b w : ℕ) → Contains runs r → b < beats_of shape r → beat_cycle shape b r < w → w ≤ beat_cycle shape b r + beat_lasts shape b r → w ≤ n → step w ≡ false
     no_step r b w i l a z m = by (either (step w))
       where
         other : (q : BeatsRan) (c : ℕ) → w ≡ beat_cycle shape c q → After r q b c → step w ≡ false
