@@ -35,10 +35,10 @@ after_more wire cause W C n follows h never back forth = record { on = on; only 
 
 -- the runs of a loop in time
 module _ (shape : List (List ℕ)) (runs : List BeatsRan) (turns : AreInTurn shape runs) where
-  within : (r : BeatsRan) (b : ℕ) → b < beats_of shape r → beats_took shape b r + suc (beat_lasts shape b r) ≤ beats_took shape (beats_of shape r) r
+  pub within : (r : BeatsRan) (b : ℕ) → b < beats_of shape r → beats_took shape b r + suc (beat_lasts shape b r) ≤ beats_took shape (beats_of shape r) r
   within r b l = total_mono (λ b. suc (beat_lasts shape b r)) (suc b) (beats_of shape r) (omega (arith, l))
 
-  no_later : (r : BeatsRan) (b : ℕ) → b ≤ beats_of shape r → beats_took shape b r ≤ beats_took shape (beats_of shape r) r
+  pub no_later : (r : BeatsRan) (b : ℕ) → b ≤ beats_of shape r → beats_took shape b r ≤ beats_took shape (beats_of shape r) r
   no_later r b l = total_mono (λ b. suc (beat_lasts shape b r)) b (beats_of shape r) l
 
   abbrev pub After : BeatsRan → BeatsRan → ℕ → ℕ → Type 0
@@ -69,7 +69,7 @@ module _ (shape : List (List ℕ)) (runs : List BeatsRan) (turns : AreInTurn sha
 
   module _ (start step : ℕ → Bool) (n : ℕ) (starts : IsOnAt start (At (λ (r : BeatsRan). r.cycle) runs) n) (steps : IsOnAt step (At (step_cycle shape) (steps_in shape runs)) n) where
     -- nothing is started while a run goes on
-    no_start : (r : BeatsRan) (w : ℕ) → Contains runs r → r.cycle < w → w < r.cycle + (2 + beats_took shape (beats_of shape r) r) → w ≤ n → start w ≡ false
+    pub no_start : (r : BeatsRan) (w : ℕ) → Contains runs r → r.cycle < w → w < r.cycle + (2 + beats_took shape (beats_of shape r) r) → w ≤ n → start w ≡ false
     no_start r w i a b l = by (either (start w))
       where
         other : (q : BeatsRan) → w ≡ q.cycle → (r ≡ q) ⊎ (r.cycle + (2 + beats_took shape (beats_of shape r) r) ≤ q.cycle) → start w ≡ false
@@ -81,7 +81,7 @@ module _ (shape : List (List ℕ)) (runs : List BeatsRan) (turns : AreInTurn sha
         by (inl t) = let x = starts.only w l t in let e = x.2 in other x.0 x.2 (turns r x.0 i x.1 (omega (arith, e, a)))
 
     -- nor is there a step within a beat
-    no_step : (r : BeatsRan) (b w : ℕ) → Contains runs r → b < beats_of shape r → beat_cycle shape b r < w → w ≤ beat_cycle shape b r + beat_lasts shape b r → w ≤ n → step w ≡ false
+    pub no_step : (r : BeatsRan) (b w : ℕ) → Contains runs r → b < beats_of shape r → beat_cycle shape b r < w → w ≤ beat_cycle shape b r + beat_lasts shape b r → w ≤ n → step w ≡ false
     no_step r b w i l a z m = by (either (step w))
       where
         other : (q : BeatsRan) (c : ℕ) → w ≡ beat_cycle shape c q → After r q b c → step w ≡ false

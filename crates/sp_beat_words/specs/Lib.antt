@@ -1,0 +1,4 @@
+pub mod Example
+pub mod Fits
+pub mod Numbers
+pub mod Words

@@ -1,0 +1,9 @@
+//! Loops in beats under counters. Each function does nothing: what it ensures is the law.
+
+ghost use Rattle.sp_counted_beats.specs.Laws.{CountedLoopsWork};
+
+/// Counters that a loop in beats steps have in each step the words of the group that comes, and tell whether there is one; so the
+/// loop does its runs.
+pub fn counted_loops_work()
+    ensures { CountedLoopsWork }
+{}
