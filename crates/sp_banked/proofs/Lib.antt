@@ -1,0 +1,5 @@
+pub mod Reading
+pub mod Shapes
+pub mod Asked
+pub mod Whole
+pub mod Arrays

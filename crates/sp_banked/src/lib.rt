@@ -1,0 +1,11 @@
+//! A memory in banks as a circuit: an array for each of its copies.
+#![tactic(auto)]
+
+mod banked;
+mod laws;
+mod part;
+mod readers;
+
+pub use banked::emit_banked;
+pub use laws::memories_are_arrays;
+pub use part::Banked;
