@@ -1,4 +1,5 @@
 pub mod Reading
+pub mod Sizes
 pub mod Shapes
 pub mod Asked
 pub mod Whole

@@ -2,10 +2,12 @@
 #![tactic(auto)]
 
 mod banked;
+mod banks;
 mod laws;
 mod part;
 mod readers;
 
 pub use banked::emit_banked;
+pub use banks::add_banks;
 pub use laws::memories_are_arrays;
 pub use part::Banked;
