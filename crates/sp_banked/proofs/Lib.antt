@@ -4,3 +4,4 @@ pub mod Shapes
 pub mod Asked
 pub mod Whole
 pub mod Arrays
+pub mod Worked

@@ -9,5 +9,5 @@ mod readers;
 
 pub use banked::emit_banked;
 pub use banks::add_banks;
-pub use laws::memories_are_arrays;
+pub use laws::{memories_are_arrays, worked_memory};
 pub use part::Banked;
