@@ -1,0 +1,4 @@
+pub mod Places
+pub mod Rings
+pub mod Laws
+pub mod Examples
