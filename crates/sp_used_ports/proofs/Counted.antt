@@ -1,13 +1,14 @@
 -- Readers are as many as a plan counts, and stand one after the other.
-use Rattle.std.proofs.Common.{◌≡◌, ℕ, ◌+◌, ◌≤◌, Bool, true, false, List, [], ◌∷◌, ◌++◌, length, arith, refl, ap, ◌∙◌}
+use Rattle.std.proofs.Common.{◌≡◌, ℕ, zero, suc, ◌+◌, ◌<◌, ◌≤◌, Bool, true, false, List, [], ◌∷◌, ◌++◌, length, arith, refl, ap, ◌∙◌}
 use Rattle.std.proofs.lemmas.List.{length-append}
-use Rattle.std.specs.Prelude.{◌==◌}
+use Rattle.std.proofs.lemmas.Bool.{leb-true, le-leb}
+use Rattle.std.specs.Prelude.{◌==◌, nat_le}
 use Rattle.sp_core.specs.Numbering.{counters_size, spans_size, number_count, number_count_in}
 use Rattle.sp_core.specs.PlainCore.{PlainNode, PlainStages, inner, outer, fsm, branch, load, store, sparse, no_stage, more_stage, PlainCore}
 use Rattle.sp_plan.specs.Copies.{one_if, reads, sparse_reads, readers, stages_readers}
 use Rattle.sp_time.specs.Lists.{Each, Pairs}
-use Rattle.sp_used_ports.specs.Laws.{ReadersAreCounted, ReadersAreInOrder}
-use Rattle.sp_used_ports.specs.Readers.{Reader, reader_if, readers_in, readers_in_stages}
+use Rattle.sp_used_ports.specs.Laws.{ReadersAreCounted, ReadersAreInOrder, ReadersHavePlaces}
+use Rattle.sp_used_ports.specs.Readers.{Reader, reader_if, readers_in, readers_in_stages, readers_of, over_at, reader_at}
 
 reader_many : (b : Bool) (n k : ℕ) → length (reader_if b n k) ≡ one_if b
 reader_many true n k = refl
@@ -46,14 +47,14 @@ readers_are_counted core m n node = node_counted core m n node
 
 -- readers between two numbers
 abbrev pub AreBetween : (from until : ℕ) → List Reader → Type 0
-AreBetween a b rs = Each (λ (r : Reader). (a ≤ r.from) × (r.until ≤ b)) rs
+AreBetween a b rs = Each (λ (r : Reader). (a ≤ r.from) × (r.from ≤ r.until) × (r.until ≤ b)) rs
 
 abbrev AreApart : List Reader → Type 0
 AreApart rs = Pairs (λ (a : Reader) (b : Reader). a.until ≤ b.from) rs
 
 between_more : (a b c d : ℕ) → c ≤ a → b ≤ d → (rs : List Reader) → AreBetween a b rs → AreBetween c d rs
 between_more a b c d l u [] h = tt
-between_more a b c d l u (r ∷ rs) h = (((let x : a ≤ r.from = h.0.0 in omega arith), (let x : r.until ≤ b = h.0.1 in omega arith)), between_more a b c d l u rs h.1)
+between_more a b c d l u (r ∷ rs) h = (((let x : a ≤ r.from = h.0.0 in omega arith), h.0.1, (let x : r.until ≤ b = h.0.2 in omega arith)), between_more a b c d l u rs h.1)
 
 between_append : (a b : ℕ) (rs qs : List Reader) → AreBetween a b rs → AreBetween a b qs → AreBetween a b (rs ++ qs)
 between_append a b [] qs h k = k
@@ -66,14 +67,14 @@ apart_append a b c (r ∷ rs) qs h k p q = (each rs qs p.0 k, apart_append a b c
   where
     after : (qs : List Reader) → AreBetween b c qs → Each (λ (x : Reader). r.until ≤ x.from) qs
     after [] k = tt
-    after (x ∷ qs) k = ((let l : r.until ≤ b = h.0.1 in let u : b ≤ x.from = k.0.0 in omega arith), after qs k.1)
+    after (x ∷ qs) k = ((let l : r.until ≤ b = h.0.2 in let u : b ≤ x.from = k.0.0 in omega arith), after qs k.1)
 
     each : (rs qs : List Reader) → Each (λ (x : Reader). r.until ≤ x.from) rs → AreBetween b c qs → Each (λ (x : Reader). r.until ≤ x.from) (rs ++ qs)
     each [] qs p k = after qs k
     each (x ∷ rs) qs p k = (p.0, each rs qs p.1 k)
 
 reader_between : (t : Bool) (n k : ℕ) → AreBetween n (n + k) (reader_if t n k)
-reader_between true n k = ((omega arith, omega arith), tt)
+reader_between true n k = ((omega arith, omega arith, omega arith), tt)
 reader_between false n k = tt
 
 reader_apart : (t : Bool) (n k : ℕ) → AreApart (reader_if t n k)
@@ -131,3 +132,32 @@ mutual
 
 pub readers_are_in_order : (core : PlainCore) → ReadersAreInOrder core
 readers_are_in_order core m n node = (node_apart core m n node).1
+
+-- by its place in the order, a reader does numbers at which as many readers are over
+none_over : (x : ℕ) (rs : List Reader) → Each (λ (r : Reader). x < r.until) rs → over_at x rs ≡ 0
+none_over x [] h = refl
+none_over x (r ∷ rs) h = ap (λ n. n + over_at x rs) (not_over (nat_le r.until x) refl) ∙ (let e : over_at x rs ≡ 0 = none_over x rs h.1 in omega arith)
+  where
+    not_over : (b : Bool) → nat_le r.until x ≡ b → one_if (nat_le r.until x) ≡ 0
+    not_over true e = let l : r.until ≤ x = leb-true _ _ e in let u : x < r.until = h.0 in absurd (omega arith)
+    not_over false e = ap one_if e
+
+later_until : (x : ℕ) (r : Reader) (a b : ℕ) (rs : List Reader) → x < r.until → AreBetween a b rs → Each (λ (q : Reader). r.until ≤ q.from) rs → Each (λ (q : Reader). x < q.until) rs
+later_until x r a b [] l w h = tt
+later_until x r a b (q ∷ rs) l w h = ((let s : q.from ≤ q.until = w.0.1 in let t : r.until ≤ q.from = h.0 in omega arith), later_until x r a b rs l w.1 h.1)
+
+after_first : (r : Reader) (rs : List Reader) (j : ℕ) → j < length rs → Each (λ (q : Reader). r.until ≤ q.from) rs → r.until ≤ (reader_at rs j).from
+after_first r [] j l h = absurd (omega (arith, l))
+after_first r (q ∷ rs) zero l h = h.0
+after_first r (q ∷ rs) (suc j) l h = after_first r rs j (omega arith) h.1
+
+place_is : (a b : ℕ) (rs : List Reader) (i x : ℕ) → AreBetween a b rs → AreApart rs → i < length rs → (reader_at rs i).from ≤ x → x < (reader_at rs i).until → over_at x rs ≡ i
+place_is a b [] i x w h l low high = absurd (omega (arith, l))
+place_is a b (r ∷ rs) zero x w h l low high = none_over x (r ∷ rs) (high, later_until x r a b rs high w.1 h.0)
+place_is a b (r ∷ rs) (suc i) x w h l low high =
+    ap (λ n. n + over_at x rs) (ap one_if (le-leb r.until x (let u : r.until ≤ (reader_at rs i).from = after_first r rs i (omega arith) h.0 in omega arith)))
+    ∙ (let e : over_at x rs ≡ i = place_is a b rs i x w.1 h.1 (omega arith) low high in omega arith)
+
+pub readers_have_places : (core : PlainCore) → ReadersHavePlaces core
+readers_have_places core m i x l low high =
+    let h = node_apart core m 0 core.root in place_is 0 (0 + number_count core.root) (readers_of core m) i x h.0 h.1 l low high

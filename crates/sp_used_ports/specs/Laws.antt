@@ -12,12 +12,13 @@ use Rattle.sp_plan.specs.PlainPlan.{PlainNodePlan, PlainPlan}
 use Rattle.sp_time.specs.Beats.{Slot, Run, run_at}
 use Rattle.sp_time.specs.Lists.{Each, Pairs}
 use Rattle.sp_time.specs.Orders.{Sooner, Precedes}
-use Rattle.sp_machine.specs.InOrder.{EachTwo}
+use Rattle.sp_machine.specs.InOrder.{AreInOrder, EachTwo}
 use Rattle.sp_machine.specs.Stamps.{Stamped, Copies, ◌▸◌, list_run, kept_run}
 use Rattle.sp_machine.specs.Timeline.{timed, group_events}
 use Rattle.sp_machine.specs.Transfers.{Delays}
 use Rattle.sp_used_ports.specs.Ports.{AreAtPort, UseNoPortTwice}
-use Rattle.sp_used_ports.specs.Readers.{readers_in}
+use Rattle.sp_used_ports.specs.Queues.{UseNoEndTwice}
+use Rattle.sp_used_ports.specs.Readers.{readers_in, readers_of, over_at, reader_at}
 
 -- a memory has as many readers in a node as a plan counts
 abbrev pub ReadersAreCounted : PlainCore → Type 0
@@ -26,6 +27,10 @@ ReadersAreCounted core = (m n : ℕ) (node : PlainNode) → length (readers_in c
 -- and each is over before the next one begins
 abbrev pub ReadersAreInOrder : PlainCore → Type 0
 ReadersAreInOrder core = (m n : ℕ) (node : PlainNode) → Pairs (λ a b. a.until ≤ b.from) (readers_in core m n node)
+
+-- so at each number that the first one does none is over, at each of the second one one is, and so on
+abbrev pub ReadersHavePlaces : PlainCore → Type 0
+ReadersHavePlaces core = (m i x : ℕ) → i < length (readers_of core m) → (reader_at (readers_of core m) i).from ≤ x → x < (reader_at (readers_of core m) i).until → over_at x (readers_of core m) ≡ i
 
 module _ (core : PlainCore) (plan : PlainPlan) (delays : Delays) where
   -- no two operations of a start, a test or a next
@@ -60,3 +65,7 @@ module _ (core : PlainCore) (plan : PlainPlan) (delays : Delays) where
       → Each (λ row. (length row ≤ length slots) × Each (λ r. Each (λ e. e.cycle < r.took) r.events × Pairs (UseNoPortTwice core plan forms) r.events) row) runs
       → TakeTurns slots runs
       → Pairs (UseNoPortTwice core plan forms) (group_events core plan delays slots runs p stages copies owned 0 runs)
+
+-- what comes in order uses no end of a FIFO twice in one cycle
+abbrev pub OrderedUseNoEndTwice : PlainCore → Type 0
+OrderedUseNoEndTwice core = (es : List Stamped) → Pairs (AreInOrder core) es → Pairs (UseNoEndTwice core) es

@@ -1,4 +1,5 @@
 pub mod Examples
 pub mod Laws
 pub mod Ports
+pub mod Queues
 pub mod Readers

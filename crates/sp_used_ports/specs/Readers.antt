@@ -1,5 +1,5 @@
 -- The readers of a memory, each of which has a duplicate of a memory with banks to itself.
-use Rattle.std.specs.Prelude.{ℕ, ◌+◌, ◌-◌, ◌==◌, nat_le, min, Bool, List, [], ◌∷◌, ◌++◌, length, if◌then◌else◌}
+use Rattle.std.specs.Prelude.{ℕ, ◌+◌, ◌-◌, ◌==◌, nat_le, min, Bool, List, [], ◌∷◌, ◌++◌, length, slice_index_or, if◌then◌else◌}
 use Rattle.sp_core.specs.Numbering.{counters_size, spans_size, number_count}
 use Rattle.sp_core.specs.PlainCore.{PlainNode, PlainStages, inner, outer, fsm, branch, load, store, sparse, no_stage, more_stage, PlainCore}
 use Rattle.sp_plan.specs.Copies.{one_if, reads, sparse_reads}
@@ -35,6 +35,9 @@ module _ (core : PlainCore) where
 
   abbrev pub readers_of : (mem : ℕ) → List Reader
   readers_of m = readers_in m 0 core.root
+
+abbrev pub reader_at : List Reader → ℕ → Reader
+reader_at readers i = slice_index_or readers i (record { from = 0; until = 0 })
 
 -- how many of these end at or before a number: of a number that one of them does, how many stand before it
 abbrev pub over_at : (number : ℕ) → List Reader → ℕ

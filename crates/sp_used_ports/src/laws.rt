@@ -1,6 +1,6 @@
 //! Laws of readers and of ports.
 
-ghost use Rattle.sp_used_ports.specs.Laws.{ListsUseNoPortTwice, OutersUseNoPortTwice, PartsUseNoPortTwice, ReadersAreCounted, ReadersAreInOrder, TransfersUseNoPortTwice};
+ghost use Rattle.sp_used_ports.specs.Laws.{ListsUseNoPortTwice, OrderedUseNoEndTwice, OutersUseNoPortTwice, PartsUseNoPortTwice, ReadersAreCounted, ReadersAreInOrder, ReadersHavePlaces, TransfersUseNoPortTwice};
 ghost use Rattle.sp_core.specs.PlainCore.{PlainCore};
 ghost use Rattle.sp_machine.specs.Transfers.{Delays};
 ghost use Rattle.sp_plan.specs.PlainPlan.{PlainPlan};
@@ -13,6 +13,11 @@ pub fn readers_are_counted()
 /// Readers of a memory stand one after the other, by the numbers of their operations.
 pub fn readers_are_in_order()
     ensures { (core : PlainCore) → ReadersAreInOrder core }
+{}
+
+/// So the duplicate that serves a read is that of its reader: as many readers are over as stand before it.
+pub fn readers_have_places()
+    ensures { (core : PlainCore) → ReadersHavePlaces core }
 {}
 
 /// A start, a test and a next do one operation after another, so no two of these use one port in one cycle.
@@ -33,4 +38,9 @@ pub fn parts_use_no_port_twice()
 /// Nor does an outer body, where runs of its stages that use one port come one after the other.
 pub fn outers_use_no_port_twice()
     ensures { (core : PlainCore) (plan : PlainPlan) (delays : Delays) → OutersUseNoPortTwice core plan delays }
+{}
+
+/// Of moments that come in order no two use one end of a FIFO in one cycle.
+pub fn ordered_use_no_end_twice()
+    ensures { (core : PlainCore) → OrderedUseNoEndTwice core }
 {}
