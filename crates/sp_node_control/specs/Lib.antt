@@ -1,2 +1,3 @@
+pub mod Beating
 pub mod Laws
 pub mod Runs

@@ -18,7 +18,7 @@ use Rattle.sp_node_runs.proofs.Turns.{all_within}
 
 module _ (core : PlainCore) (plan : PlainPlan) (delays : Delays) where
   -- in a group's row stands the run of each stage that has a lane
-  in_row : (stages : PlainStages) (k n i g j : ℕ) (v : List ℤ) (st : Standing) (copies : Copies) (hs : Runs) (s : ℕ) (h : History) → stage_history stages hs s ≡ Some h
+  pub in_row : (stages : PlainStages) (k n i g j : ℕ) (v : List ℤ) (st : Standing) (copies : Copies) (hs : Runs) (s : ℕ) (h : History) → stage_history stages hs s ≡ Some h
       → slice_index_or (row_runs core plan delays stages k n i g j v st copies hs) s no_time ≡ timed core plan delays (stage_at stages s) (node_at stages j s) (number_at stages n s) (inside_at st k (in_group_of g (i + s)) v) copies h
   unfolding row_runs
   in_row (more_stage first last comb node rest) k n i g j v st copies (more_run b hs) zero h e =
