@@ -1,24 +1,26 @@
 -- Runs of programs by their plans.
-use Rattle.std.proofs.Common.{◌≡◌, ℕ, Bool, true, false, List, sym, ◌∙◌, ap}
+use Rattle.std.proofs.Common.{◌≡◌, ◌≤◌, ℕ, Bool, true, false, List, sym, ◌∙◌, ap, arith}
 use Rattle.std.proofs.lemmas.Bool.{true≢false}
 use Rattle.sp_words.specs.Ports.{PlainInput}
 use Rattle.sp_tree.specs.PlainProgram.{PlainProgram}
 use Rattle.sp_core.specs.History.{History}
 use Rattle.sp_core.specs.Inputs.{InputFits}
-use Rattle.sp_core.specs.Meaning.{run_core, Outcome, ended, outcome, meaning}
+use Rattle.sp_core.specs.Meaning.{first_store, run_core, Outcome, ended, outcome, meaning}
 use Rattle.sp_core.specs.PlainCore.{PlainCore}
-use Rattle.sp_core.specs.Scope.{in_lanes}
+use Rattle.sp_core.specs.Scope.{in_lanes, no_scope}
 use Rattle.sp_core.specs.Step.{Went, went, stopped, more}
 use Rattle.sp_core.specs.Store.{Store}
 use Rattle.sp_sugar.specs.Core.{core_of}
 use Rattle.sp_lanes.specs.Unrolled.{unrolled}
 use Rattle.sp_lane_cores.specs.Laws.{StaysCore}
 use Rattle.sp_by_lane.specs.Laws.{ProgramIsByLane}
+use Rattle.sp_brisk.specs.Laws.{BriskRunsEndWithin}
 use Rattle.sp_lane_programs.specs.Laws.{ProgramEnds}
 use Rattle.sp_machine.specs.Transfers.{Delays}
 use Rattle.sp_own_plans.specs.Laws.{OwnPlansAreSound}
+use Rattle.sp_patterns.specs.Patterns.{patterns_of}
 use Rattle.sp_plan.specs.PlainPlan.{PlainPlan}
-use Rattle.sp_program_plans.specs.Laws.{laned, ProgramHasPlan, ProgramPlanIsSound, ProgramRunsInTime}
+use Rattle.sp_program_plans.specs.Laws.{laned, ProgramHasPlan, ProgramPlanIsSound, ProgramRunsInTime, ProgramEndsWithin}
 
 pub has_plan : (p : PlainProgram) → StaysCore p → ProgramIsByLane p → ProgramHasPlan p
 has_plan p is by meets plan valid timed = record {
@@ -58,10 +60,20 @@ pub runs_in_time : (p : PlainProgram) (plan : PlainPlan) (delays : Delays) → P
 unfolding meaning
 runs_in_time p plan delays ends sound made own input turns fits outs drams h e =
     let x = ends own turns input fits outs drams h e in
-    let r = ended_run (laned p) outs drams x.0 (run_core in_lanes turns (laned p) input) x.1 in (
-      x.0,
-      r.0,
-      r.1,
-      sym (ap (outcome (laned p)) r.1) ∙ x.1,
-      sound made input turns x.0 r.0 (fits_in_lanes (core_of p) input fits) r.1,
-    )
+    let r = ended_run (laned p) outs drams x.0 (run_core in_lanes turns (laned p) input) x.1 in
+    record {
+      history = x.0;
+      ended = r.0;
+      ran = r.1;
+      words = sym (ap (outcome (laned p)) r.1) ∙ x.1;
+      sound = sound made input turns x.0 r.0 (fits_in_lanes (core_of p) input fits) r.1;
+      no_oftener = x.2;
+    }
+
+pub ends_within : (p : PlainProgram) (plan : PlainPlan) (delays : Delays) (d : ℕ) → StaysCore p → BriskRunsEndWithin (laned p) plan delays d → ProgramEndsWithin p plan delays d
+unfolding run_core
+ends_within p plan delays d is within waits made brisk input turns outs drams h r n most =
+    within waits (patterns_of (laned p)) made.meets is made.timed made.valid brisk turns no_scope (first_store (laned p) input) r.ended r.history r.ran n (at_most _ _ n r.no_oftener most)
+  where
+    at_most : (a b n : ℕ) → a ≤ b → b ≤ n → a ≤ n
+    at_most a b n f g = omega (arith, f, g)

@@ -3,4 +3,6 @@
 
 mod laws;
 
-pub use laws::{program_plans_are_sound, programs_have_plans, programs_run_in_time};
+pub use laws::{
+    program_plans_are_sound, programs_end_within, programs_have_plans, programs_run_in_time,
+};
