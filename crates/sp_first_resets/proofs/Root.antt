@@ -1,5 +1,5 @@
 -- The tree of the core of a program, at the place outside of all nodes.
-use Rattle.std.proofs.Common.{◌≡◌, ℕ, ◌+◌, ◌*◌, ◌≤◌, [], sym, arith}
+use Rattle.std.proofs.Common.{ℕ, ◌+◌, ◌*◌, ◌≤◌, sym, arith}
 use Rattle.std.proofs.lemmas.Bool.{true≢false}
 use Rattle.sp_tree.specs.Invariant.{IsProgram}
 use Rattle.sp_tree.specs.PlainProgram.{PlainProgram}

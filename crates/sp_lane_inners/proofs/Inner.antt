@@ -27,7 +27,7 @@ use Rattle.sp_copies.proofs.MemoryRules.{count_among}
 use Rattle.sp_copies.proofs.Owners.{own_fits}
 use Rattle.sp_copies_room.specs.Laws.{PlacesHaveRoom}
 use Rattle.sp_live_lanes.specs.Stores.{HoldAlike, ScopesAgree, lane_values}
-use Rattle.sp_live_lanes.proofs.Along.{store_of}
+use Rattle.sp_live_lanes.proofs.Along.{answer_of, store_of}
 use Rattle.sp_lane_groups.specs.Groups.{iteration, lanes_from, EachMasked, IsGroup, LeavesOutside}
 use Rattle.sp_lane_groups.proofs.Among.{row_in}
 use Rattle.sp_lane_groups.proofs.Group.{inners_go}
@@ -42,6 +42,7 @@ use Rattle.sp_lane_inners.specs.Laws.{InnersGo}
 use Rattle.sp_lane_inners.proofs.Bounds.{order_long, each_right, goes_on, loops_kept, all_bounds_follow}
 use Rattle.sp_lane_inners.proofs.Follows.{no_change, no_copy, Followed, Follows, Same}
 use Rattle.sp_lane_inners.proofs.Owners.{each_owned, owned_apart, owned_inside}
+use Rattle.sp_lane_inners.proofs.Rounds.{inner_rounds}
 use Rattle.sp_lane_inners.proofs.Steps.{order_parts, order_mapped, Leaves, order_leaves}
 
 -- numbers below a bound, from the first one on
@@ -238,6 +239,7 @@ module _ (core : PlainCore) (is : IsCore core) (owns : OwnsInLanes core.root) (l
             (λ groups. pure (inner_ran bs (counts_of (loops_of scope.in_lanes (counters_in w counters) bs)) groups)) x.ended y.ended y.answer there,
         subst (λ (u : Store). AgreeAt core around w u y.ended) done y.agree,
         left_but t y.ended (both_left t x.ended y.ended x.left y.left),
+        inner_rounds core w counters owned ops comb bs second.0 y.answer hist (ap (answer_of hist) second.3),
       )
 
   -- a body of one lane has no combination of its own in lanes

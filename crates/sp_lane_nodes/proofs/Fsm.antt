@@ -1,5 +1,5 @@
 -- An FSM in lanes: its state is a register that isn't used outside.
-use Rattle.std.proofs.Common.{◌≡◌, ℕ, ◌+◌, ◌<◌, Bool, true, false, ◌&&◌, ◌||◌, cond, List, [], ◌∷◌, ◌++◌, length, Option, Some, refl, sym, ◌∙◌, ap, subst, arith, ◌==◌, nat_lt, inl, inr}
+use Rattle.std.proofs.Common.{◌≡◌, ℕ, suc, ◌+◌, ◌<◌, ◌≤◌, Bool, true, false, ◌&&◌, ◌||◌, cond, List, [], ◌∷◌, ◌++◌, length, Option, Some, refl, sym, ◌∙◌, ap, subst, arith, ◌==◌, nat_lt, inl, inr}
 use Rattle.std.proofs.lemmas.Bool.{and_parts, true≢false, eq-eqb, ne_eqb, ltb-true}
 use Rattle.std.proofs.lemmas.Bool.Decides.{eqb_tells}
 use Rattle.std.proofs.lemmas.List.Elements.{All-nil, All-cons}
@@ -18,6 +18,7 @@ use Rattle.sp_core.specs.PlainCore.{PlainOp, PlainNode, fsm, PlainCore}
 use Rattle.sp_core.specs.Scope.{Reading, plainly, Scope}
 use Rattle.sp_core.specs.Scope as scope
 use Rattle.sp_core.specs.Sequential.{state_now, run}
+use Rattle.sp_core.specs.Shape.{shape_of, body_shapes}
 use Rattle.sp_core.specs.Step.{Step, went, pure, ◌>>=◌, change, repeated}
 use Rattle.sp_core.specs.Store.{Store, hold}
 use Rattle.sp_core.specs.Typed.{last_gives}
@@ -25,6 +26,7 @@ use Rattle.sp_fitting.specs.Fitting.{StoreFits, EntriesFit, IsCell, type_at}
 use Rattle.sp_fitting.specs.Laws.{ListsFit, NodesFit}
 use Rattle.sp_fitting.proofs.Contents.{type_of_mem, held}
 use Rattle.sp_fitting.proofs.Lists.{last_fits}
+use Rattle.sp_within.specs.Rounds.{rounds, turn_rounds}
 use Rattle.sp_lanes.specs.Order.{memory_order, occurrence}
 use Rattle.sp_lanes.specs.Unrolled.{unrolled, node_in}
 use Rattle.sp_lanes.specs.Within.{Within, owning, ops_in}
@@ -34,14 +36,35 @@ use Rattle.sp_live_lanes.specs.Stores.{ScopesAgree, ArePlain}
 use Rattle.sp_live_lanes.proofs.Along.{answer_of, store_of}
 use Rattle.sp_live_lanes.proofs.Copies.{copies_apart}
 use Rattle.sp_lane_groups.proofs.Renewed.{bind_known, bind_split}
-use Rattle.sp_lane_inners.specs.Along.{AgreeAt, LeavesBut, GoesAlong, StandsIn}
+use Rattle.sp_lane_inners.specs.Along.{AgreeAt, LeavesBut, NoOftener, GoesAlong, StandsIn}
 use Rattle.sp_lane_inners.proofs.Follows.{no_copy, Followed, Follows, Same, pure_follows, bind_follows, bind_same, list_follows}
 use Rattle.sp_lane_inners.proofs.Owners.{each_owned, not_outside, owned_inside}
 use Rattle.sp_lane_nodes.specs.Laws.{FsmsGo}
 use Rattle.sp_lane_nodes.proofs.Branch.{neither}
-use Rattle.sp_lane_nodes.proofs.Nodes.{Any, node_follows}
+use Rattle.sp_lane_nodes.proofs.Nodes.{node_follows}
 use Rattle.sp_lane_nodes.proofs.Stand.{fsm_stands}
 use Rattle.sp_lane_nodes.proofs.Turns.{repeated_follows}
+
+-- turns whose bodies go around no oftener
+abbrev AllLess : PlainCore → Within → PlainNode → List Turn → List Turn → Type 0
+AllLess core there body xs ys =
+    turn_rounds (node_in (memory_order core) there body) (body_shapes (node_in (memory_order core) there body) (turns_of ys)) ≤ turn_rounds body (body_shapes body (turns_of xs))
+
+none_less : (core : PlainCore) (there : Within) (body : PlainNode) → AllLess core there body [] []
+unfolding rounds shape_of
+none_less core there body = omega arith
+
+more_less : (core : PlainCore) (there : Within) (body : PlainNode) (a b : Turn) (xs ys : List Turn) → NoOftener core there body a.body b.body → AllLess core there body xs ys → AllLess core there body (a ∷ xs) (b ∷ ys)
+unfolding rounds shape_of
+more_less core there body a b xs ys r q = added _ _ _ _ r q
+  where
+    added : (i j m n : ℕ) → i ≤ j → m ≤ n → suc i + m ≤ suc j + n
+    added i j m n f g = omega (arith, f, g)
+
+fsm_rounds : (core : PlainCore) (w : Within) (start : List PlainOp) (state : ℕ) (test : List PlainOp) (body : PlainNode) (next : List PlainOp) (first : List Entry) (xs ys : List Turn) (last end : List Entry) → AllLess core (owning (memory_order core) (state ∷ []) w) body xs ys
+    → NoOftener core w (fsm start state test body next) (fsm_ran first (turns_of xs) last) (fsm_ran first (turns_of ys) end)
+unfolding node_in rounds shape_of
+fsm_rounds core w start state test body next first xs ys last end r = r
 
 module _ (core : PlainCore) (lists : ListsFit core) (nodes : NodesFit core) (room : PlacesHaveRoom core) (is : IsCore core) (owns : OwnsInLanes core.root) (turns : ℕ)
     (around inside : Around) (earlier : List ℕ) (w : Within) (start : List PlainOp) (state : ℕ) (test : List PlainOp) (body : PlainNode) (next : List PlainOp) (h : StandsIn core around inside earlier w (fsm start state test body next)) where
@@ -201,14 +224,17 @@ module _ (core : PlainCore) (lists : ListsFit core) (nodes : NodesFit core) (roo
     abbrev one_turn_there : List Entry → Step Turn
     one_turn_there tested = run (unrolled core) scope.in_lanes turns (node_in (memory_order core) there body) lanes >>= (λ h. state_now (unrolled core) scope.in_lanes turns lanes (there.number state) (ops_in there next) >>= (λ es. pure (turn tested h es)))
 
-    turn_follows : (tested : List Entry) → Follows core place there Left none_left both_left {A = Turn} {B = Turn} Any (one_turn tested) (one_turn_there tested)
+    abbrev TurnLess : Turn → Turn → Type 0
+    TurnLess a b = NoOftener core there body a.body b.body
+
+    turn_follows : (tested : List Entry) → Follows core place there Left none_left both_left TurnLess (one_turn tested) (one_turn_there tested)
     turn_follows tested =
-        bind_follows core place there Left none_left both_left Any Any (run core plainly turns body plain) (run (unrolled core) scope.in_lanes turns (node_in (memory_order core) there body) lanes)
+        bind_follows core place there Left none_left both_left (NoOftener core there body) TurnLess (run core plainly turns body plain) (run (unrolled core) scope.in_lanes turns (node_in (memory_order core) there body) lanes)
         (λ h. state_now core plainly turns plain state next >>= (λ es. pure (turn tested h es)))
         (λ h. state_now (unrolled core) scope.in_lanes turns lanes (there.number state) (ops_in there next) >>= (λ es. pure (turn tested h es)))
         (node_follows core place there Left none_left both_left nodes is.memories turns (earlier ++ state ∷ []) body h.right.1 goes (λ t ended f. f) plain lanes agree)
-        (λ a b r. bind_same core place there Left none_left both_left Any (state_now core plainly turns plain state next) (state_now (unrolled core) scope.in_lanes turns lanes (there.number state) (ops_in there next))
-        (λ es. pure (turn tested a es)) (λ es. pure (turn tested b es)) next_follows (λ es. pure_follows core place there Left none_left both_left Any (turn tested a es) (turn tested b es) tt))
+        (λ a b r. bind_same core place there Left none_left both_left TurnLess (state_now core plainly turns plain state next) (state_now (unrolled core) scope.in_lanes turns lanes (there.number state) (ops_in there next))
+        (λ es. pure (turn tested a es)) (λ es. pure (turn tested b es)) next_follows (λ es. pure_follows core place there Left none_left both_left TurnLess (turn tested a es) (turn tested b es) r))
 
     abbrev is_on : List Entry → Bool
     is_on es = last_word es == 1
@@ -222,12 +248,15 @@ module _ (core : PlainCore) (lists : ListsFit core) (nodes : NodesFit core) (roo
     abbrev turns_there : List Entry → Step History
     turns_there first = repeated turns (operations (unrolled core) lanes (ops_in there test)) is_on one_turn_there >>= end_of first
 
-    turns_follow : (first : List Entry) → Follows core place there Left none_left both_left Any (turns_here first) (turns_there first)
+    abbrev Related : History → History → Type 0
+    Related = NoOftener core w (fsm start state test body next)
+
+    turns_follow : (first : List Entry) → Follows core place there Left none_left both_left Related (turns_here first) (turns_there first)
     turns_follow first =
-        bind_follows core place there Left none_left both_left Any Any (repeated turns (operations core plain test) is_on one_turn) (repeated turns (operations (unrolled core) lanes (ops_in there test)) is_on one_turn_there) (end_of first) (end_of first)
-        (repeated_follows core place there Left none_left both_left (operations core plain test) (operations (unrolled core) lanes (ops_in there test)) is_on one_turn one_turn_there
+        bind_follows core place there Left none_left both_left (λ x y. AllLess core there body x.0 y.0) Related (repeated turns (operations core plain test) is_on one_turn) (repeated turns (operations (unrolled core) lanes (ops_in there test)) is_on one_turn_there) (end_of first) (end_of first)
+        (repeated_follows core place there Left none_left both_left TurnLess (AllLess core there body) (none_less core there body) (λ a b xs ys r q. more_less core there body a b xs ys r q) (operations core plain test) (operations (unrolled core) lanes (ops_in there test)) is_on one_turn one_turn_there
         (lists_here test h.plain.1 (and_parts (are_operations_right core place test) (last_gives test Bit) turn_right.0).0) turn_follows turns)
-        (λ a b r. pure_follows core place there Left none_left both_left Any (fsm_ran first (turns_of a.0) a.1) (fsm_ran first (turns_of b.0) b.1) tt)
+        (λ a b r. pure_follows core place there Left none_left both_left Related (fsm_ran first (turns_of a.0) a.1) (fsm_ran first (turns_of b.0) b.1) (fsm_rounds core w start state test body next first a.0 b.0 a.1 b.1 r))
 
     abbrev Whole : Store → Store → Type 0
     Whole = LeavesBut core around w (fsm start state test body next)
@@ -239,7 +268,7 @@ module _ (core : PlainCore) (lists : ListsFit core) (nodes : NodesFit core) (roo
     both_whole t u v f g n lt outer free = g n lt outer free ∙ f n lt outer free
 
     pub whole : (s t after : Store) (hist : History) → StoreFits core s → AgreeAt core around w s t → run core plainly turns (fsm start state test body next) plain s ≡ went hist after
-        → (g : History) × (ended : Store) × (run (unrolled core) scope.in_lanes turns (node_in (memory_order core) w (fsm start state test body next)) lanes t ≡ went g ended) × AgreeAt core around w after ended × Whole t ended
+        → (g : History) × (ended : Store) × (run (unrolled core) scope.in_lanes turns (node_in (memory_order core) w (fsm start state test body next)) lanes t ≡ went g ended) × AgreeAt core around w after ended × Whole t ended × Related hist g
     unfolding run node_in
     whole s t after hist fits alike ran =
         let right : are_operations_right core around start ≡ true = (and_parts (are_operations_right core around start) (last_gives start (mem core state).ty) start_right).0 in
@@ -249,7 +278,7 @@ module _ (core : PlainCore) (lists : ListsFit core) (nodes : NodesFit core) (roo
         list_follows core around w Whole none_whole both_whole inside h.together h.copies (room is owns around w h.copies) plain lanes agree (λ u v l n lt outer free. l n outer) is.memories lists start h.plain.0 right s t q.0 r.0 fits alike q.1 in
         let first : Store = hold x.ended (there.number state) (state_word r.0) in
         let fits_first : StoreFits core r.1 = subst (StoreFits core) q.2 (state_fits q.0 around start r.0 start_right (lists around plain start s q.0 r.0 is.memories right fits q.1).entries x.fits) in
-        let y : Followed core place there Left none_left both_left Any (turns_there r.0) first hist after =
+        let y : Followed core place there Left none_left both_left Related (turns_there r.0) first hist after =
         turns_follow r.0 r.1 first after hist fits_first (subst (λ (u : Store). AgreeAt core place there u first) q.2 (enters q.0 x.ended (state_word r.0) x.agree)) r.3 in (
           y.answer,
           y.ended,
@@ -257,6 +286,7 @@ module _ (core : PlainCore) (lists : ListsFit core) (nodes : NodesFit core) (roo
               (took (unrolled core) scope.in_lanes lanes (there.number state) (ops_in w start) t x.ended r.0 (x.ran ∙ ap (λ a. went a x.ended) x.related)) ∙ y.ran,
           exits after y.ended y.agree,
           (λ n lt outer free. left_out first y.ended y.left n lt outer free ∙ first_kept x.ended r.0 n free ∙ x.left n lt outer free),
+          y.related,
         )
       where
         first_kept : (u : Store) (es : List Entry) (n : ℕ) → is_among n (there.number state ∷ owned_in (node_in (memory_order core) there body)) ≡ false → hold u (there.number state) (state_word es) n ≡ u n

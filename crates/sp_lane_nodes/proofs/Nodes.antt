@@ -14,7 +14,7 @@ use Rattle.sp_lanes.specs.Order.{memory_order}
 use Rattle.sp_lanes.specs.Unrolled.{unrolled, node_in}
 use Rattle.sp_lanes.specs.Within.{Within}
 use Rattle.sp_live_lanes.specs.Stores.{ScopesAgree}
-use Rattle.sp_lane_inners.specs.Along.{LeavesBut, GoesAlong}
+use Rattle.sp_lane_inners.specs.Along.{LeavesBut, NoOftener, GoesAlong}
 use Rattle.sp_lane_inners.proofs.Follows.{Follows}
 use Rattle.std.specs.Prelude.{List}
 
@@ -25,7 +25,7 @@ module _ (core : PlainCore) (around : Around) (w : Within) (Left : Store → Sto
   -- a node that goes along
   pub node_follows : (nodes : NodesFit core) (memories : are_memories_right core ≡ true) (turns : ℕ) (earlier : List ℕ) (node : PlainNode) → IsRight core around earlier node → GoesAlong core turns around w node
       → ((t ended : Store) → LeavesBut core around w node t ended → Left t ended) → (plain lanes : Scope) → ScopesAgree w plain lanes
-      → Follows core around w Left none both Any (run core plainly turns node plain) (run (unrolled core) scope.in_lanes turns (node_in (memory_order core) w node) lanes)
+      → Follows core around w Left none both (NoOftener core w node) (run core plainly turns node plain) (run (unrolled core) scope.in_lanes turns (node_in (memory_order core) w node) lanes)
   node_follows nodes memories turns earlier node right goes weaker plain lanes agree s t after h fits alike ran =
       let x = goes plain lanes agree s t after h fits alike ran in
       record {
@@ -35,7 +35,7 @@ module _ (core : PlainCore) (around : Around) (w : Within) (Left : Store → Sto
         agree = x.3;
         left = weaker t x.1 x.4;
         fits = (nodes plainly turns node around earlier plain s after h memories right fits ran).left;
-        related = tt;
+        related = x.5;
       }
 
   -- one of two, by the same test
@@ -43,3 +43,9 @@ module _ (core : PlainCore) (around : Around) (w : Within) (Left : Store → Sto
       → Follows core around w Left none both R (elim b as (λ _. Step A) [ true ↦ one | false ↦ two ]) (elim b as (λ _. Step B) [ true ↦ one_too | false ↦ two_too ])
   choice_follows R true one two one_too two_too f g = f
   choice_follows R false one two one_too two_too f g = g
+
+  -- where the two sides are related each in their own way
+  pub sides_follow : {A B : Type 0} (R : Bool → A → B → Type 0) (b : Bool) (one two : Step A) (one_too two_too : Step B) → Follows core around w Left none both (R true) one one_too → Follows core around w Left none both (R false) two two_too
+      → Follows core around w Left none both (R b) (elim b as (λ _. Step A) [ true ↦ one | false ↦ two ]) (elim b as (λ _. Step B) [ true ↦ one_too | false ↦ two_too ])
+  sides_follow R true one two one_too two_too f g = f
+  sides_follow R false one two one_too two_too f g = g

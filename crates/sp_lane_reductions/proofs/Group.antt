@@ -10,7 +10,7 @@ use Rattle.sp_tree.specs.declared.statement.Comb.{Comb}
 use Rattle.sp_core.specs.Around.{Around, within, lanes_of, is_port_kind, is_usable}
 use Rattle.sp_core.specs.Declarations.{mem, dram_number, is_stream, is_among}
 use Rattle.sp_core.specs.Footprint.{ListNames}
-use Rattle.sp_core.specs.History.{Entry, Runs, no_run, masked_run, more_run, word_at}
+use Rattle.sp_core.specs.History.{Entry, History, Runs, no_run, masked_run, more_run, word_at}
 use Rattle.sp_core.specs.Invariant.{owned_in, owned_in_stages, AreRight}
 use Rattle.sp_core.specs.MemoryRules.{are_memories_right}
 use Rattle.sp_core.specs.OperationRules.{are_operations_right}
@@ -20,11 +20,13 @@ use Rattle.sp_core.specs.PlainCore.{PlainOp, PlainCounter, PlainMem, PlainNode, 
 use Rattle.sp_core.specs.Scope.{plainly, is_some_up_to, is_some_live, Scope}
 use Rattle.sp_core.specs.Scope as scope
 use Rattle.sp_core.specs.Sequential.{renew, end_of_group, run, run_stages}
+use Rattle.sp_core.specs.Shape.{Shape, inner_shape, shape_of}
 use Rattle.sp_core.specs.Step.{Step, went, pure, ◌>>=◌, ◌>>◌, in_order}
 use Rattle.sp_core.specs.Store.{Store}
 use Rattle.sp_fitting.specs.Fitting.{StoreFits}
 use Rattle.sp_fitting.specs.Laws.{ListsFit, NodesFit, WordsFit}
 use Rattle.sp_sugar.specs.Combination.{operator_of}
+use Rattle.sp_within.specs.Rounds.{rounds}
 use Rattle.sp_lanes.specs.Bodies.{Body, lane_bodies, all_ops}
 use Rattle.sp_lanes.specs.Combined.{combined}
 use Rattle.sp_lanes.specs.Joined.{is_balanced}
@@ -40,14 +42,15 @@ use Rattle.sp_lane_groups.proofs.Runs.{runs_append, run_long}
 use Rattle.sp_lane_words.specs.Standing.{LanesStand}
 use Rattle.sp_joined_words.specs.Words.{in_turn, words_of, EachHasWord}
 use Rattle.sp_joined_words.proofs.Balanced.{Laws}
+use Rattle.sp_lane_inners.proofs.Bounds.{order_long}
 use Rattle.sp_lane_inners.proofs.Follows.{no_copy, Follows}
-use Rattle.sp_lane_nodes.proofs.Nodes.{Any}
+use Rattle.sp_lane_inners.proofs.Rounds.{run_rounds, all_rounds, GroupLess}
 use Rattle.sp_lane_outers.specs.Stages.{AllGoAlong}
 use Rattle.sp_lane_outers.proofs.Lone.{turn_of}
 use Rattle.sp_lane_outers.proofs.Renewing.{Made, make_all}
 use Rattle.sp_lane_stages.specs.Laws.{AreOfFirst}
 use Rattle.sp_lane_stages.proofs.Lanes as lanes_group
-use Rattle.sp_lane_stages.proofs.Lanes.{nothing_ends}
+use Rattle.sp_lane_stages.proofs.Lanes.{lanes_long, nothing_ends}
 use Rattle.sp_lane_stages.proofs.Passing.{neither}
 use Rattle.sp_lane_combinations.proofs.Chain.{Asks, Accumulated}
 use Rattle.sp_lane_combinations.proofs.Combining.{after_word, combining, Holds, combined_in}
@@ -61,6 +64,18 @@ use Rattle.sp_lane_reductions.proofs.Fronts.{fronts_stand}
 use Rattle.sp_lane_reductions.proofs.Lanes as lane_turns
 use Rattle.sp_lane_reductions.proofs.Own.{none_combines, own_first, own_right}
 use Rattle.sp_lane_reductions.proofs.Turns.{turns_of, alone_runs}
+
+-- a combination without counters goes around no more
+no_rounds : (ops : List PlainOp) (last : ℕ) (h : History) → run_rounds (more_stage 0 last true (inner [] [] ops None) no_stage) (more_run h no_run) ≤ 0
+unfolding rounds shape_of
+no_rounds ops last h = by (shape_of (inner [] [] ops None) h)
+  where
+    by : (s : Shape) → rounds (inner [] [] ops None) s + 0 ≤ 0
+    by (inner_shape counts) = omega arith
+    by s = omega arith
+
+at_most : (a n x : ℕ) → a ≤ n + x → x ≤ 0 → a ≤ n
+at_most a n x f g = omega (arith, f, g)
 
 -- where the first lane has an iteration, some lane has
 some_up_to : (live : ℕ → Bool) → live 0 ≡ true → (n : ℕ) → is_some_up_to live 0 n ≡ true
@@ -122,8 +137,8 @@ module _ (core : PlainCore) (nodes : NodesFit core) (lists : ListsFit core) (fit
   pub both_left : (t u v : Store) → Left t u → Left u v → Left t v
   both_left = lane_turns.both_left core nodes lists memories turns around inside_lanes w counters style owned no_stream plain lanes count g several not_dram stages earlier is reduces firsts right go apart live_at too first_live live masked ops at node combines node_is before begun word acc ty comb asks list front_plain still own ops_right tail
 
-  abbrev Reduced : (more k l : ℕ) → (s v t after : Store) → Type 0
-  Reduced more k l s v t after = lane_turns.Reduced core nodes lists memories turns around inside_lanes w counters style owned no_stream plain lanes count g several not_dram stages earlier is reduces firsts right go apart live_at too first_live live masked ops at node combines node_is before begun word acc ty comb asks list front_plain still own ops_right tail more k l s v t after
+  abbrev Reduced : (more k l : ℕ) → (s v t after : Store) → (most : ℕ) → Type 0
+  Reduced more k l s v t after n = lane_turns.Reduced core nodes lists memories turns around inside_lanes w counters style owned no_stream plain lanes count g several not_dram stages earlier is reduces firsts right go apart live_at too first_live live masked ops at node combines node_is before begun word acc ty comb asks list front_plain still own ops_right tail more k l s v t after n
 
   abbrev run_there : PlainStages → Step Runs
   run_there xs = run_stages (unrolled core) scope.in_lanes turns xs too lanes
@@ -183,7 +198,7 @@ module _ (core : PlainCore) (nodes : NodesFit core) (lists : ListsFit core) (fit
   some_words k some (v ∷ vs) long = (v, vs, refl)
 
   -- where stores agree after the lanes, they do after the combination
-  module _ (s t after : Store) (x : Reduced count (lanes_of counters) 0 s s t after) (value : ℕ) where
+  module _ (s t after : Store) (n : ℕ) (x : Reduced count (lanes_of counters) 0 s s t after n) (value : ℕ) where
     abbrev ended : Store
     ended = combined_in (unrolled core) begun_there (w.number acc) value x.ended
 
@@ -236,15 +251,16 @@ module _ (core : PlainCore) (nodes : NodesFit core) (lists : ListsFit core) (fit
     left_there n lt outer free = left_other core (unrolled core) w.number begun acc value x.ended n (λ i. outer acc acc_usable (sym i)) (λ b e i. outer b (flag_usable b e) (sym i))
 
   -- the combination after all lanes
-  record Combines (s t after : Store) (x : Reduced count (lanes_of counters) 0 s s t after) : Type 0 where
+  record Combines (s t after : Store) (n : ℕ) (x : Reduced count (lanes_of counters) 0 s s t after n) : Type 0 where
     value : ℕ
     written : (after acc ≡ Some (put_in core acc value (s acc))) × ((b : ℕ) → begun ≡ Some b → after b ≡ Some (put_in core b 1 (s b)))
     runs : Runs
     ran : run_there tail x.ended ≡ went runs (combined_in (unrolled core) begun_there (w.number acc) value x.ended)
+    none : run_rounds tail runs ≤ 0
 
-  combines_there : (s t after : Store) → StoreFits core s → (x : Reduced count (lanes_of counters) 0 s s t after) → Combines s t after x
+  combines_there : (s t after : Store) (n : ℕ) → StoreFits core s → (x : Reduced count (lanes_of counters) 0 s s t after n) → Combines s t after n x
   unfolding run_stages pure
-  combines_there s t after fits x =
+  combines_there s t after n fits x =
       let v = some_words count g.some x.words x.long in
       let parts = combined_group.parts core lists fitting laws memories around inside_lanes w counters owned plain lanes count g several before begun at word acc ty comb is asks p ops_right acc_out flag_out in
       let f = fronts_stand core around inside_lanes w counters owned plain lanes count g several before front_plain (lane_turns.front_right core nodes lists memories turns around inside_lanes w counters style owned no_stream plain lanes count g several not_dram stages earlier is reduces firsts right go apart live_at too first_live live masked ops at node combines node_is before begun word acc ty comb asks list front_plain still own ops_right tail) still own x.ended x.words x.long x.ran in
@@ -252,7 +268,7 @@ module _ (core : PlainCore) (nodes : NodesFit core) (lists : ListsFit core) (fit
       let has : EachHasWord ty word (v.0 ∷ v.1) = subst (EachHasWord ty word) (sym v.2) (have_words before word ty (let lt = asks.earlier in let same = asks.place in omega (arith, lt, same)) parts.1.given x.words x.fit) in
       let stand : LanesStand (lanes (last_number counters)).live f.0 0 bodies (v.0 ∷ v.1) = subst (LanesStand (lanes (last_number counters)).live f.0 0 bodies) (sym v.2) f.2 in
       let holds : Holds (unrolled core) begun_there (w.number acc) x.ended left.0 =
-      holds_alike core (unrolled core) w.number begun acc (combined_group.acc_alike core lists fitting laws memories around inside_lanes w counters owned plain lanes count g several before begun at word acc ty comb is asks p ops_right acc_out flag_out) (combined_group.flag_alike core lists fitting laws memories around inside_lanes w counters owned plain lanes count g several before begun at word acc ty comb is asks p ops_right acc_out flag_out) s x.ended (acc_there s t after x 0) (flag_there s t after x 0) left.0 left.1 in
+      holds_alike core (unrolled core) w.number begun acc (combined_group.acc_alike core lists fitting laws memories around inside_lanes w counters owned plain lanes count g several before begun at word acc ty comb is asks p ops_right acc_out flag_out) (combined_group.flag_alike core lists fitting laws memories around inside_lanes w counters owned plain lanes count g several before begun at word acc ty comb is asks p ops_right acc_out flag_out) s x.ended (acc_there s t after n x 0) (flag_there s t after n x 0) left.0 left.1 in
       let long : length f.0 ≡ length (all_ops bodies) = (let n = run_long (unrolled core) lanes (all_ops bodies) [] x.ended f.0 x.ended f.1 in omega (arith, n)) in
       let value : ℕ = in_turn op (after_word op left.0 (word_at v.0 word)) (words_of word v.1) in
       let last = combined_group.combine core lists fitting laws memories around inside_lanes w counters owned plain lanes count g several before begun at word acc ty comb is asks p ops_right acc_out flag_out s fits f.0 x.ended v.0 v.1 stand has long left.0 left.1 holds (is_balanced (operator_of comb) ty) refl in
@@ -266,13 +282,14 @@ module _ (core : PlainCore) (nodes : NodesFit core) (lists : ListsFit core) (fit
         value = value;
         written = left.2;
         runs = more_run h.0 no_run;
+        none = no_rounds last_ops (lanes_of counters - 1) h.0;
         ran = chosen_true (is_some_live too 0 (lanes_of counters - 1)) (run (unrolled core) scope.in_lanes turns last_node lanes >>= (λ h. run_there no_stage >>= (λ rs. pure (more_run h rs)))) (run_there no_stage >>= (λ rs. pure (masked_run rs))) x.ended
             (some_live too (live 0 g.some) (lanes_of counters - 1))
             ∙ bind_known (run (unrolled core) scope.in_lanes turns last_node lanes) (λ h. run_there no_stage >>= (λ rs. pure (more_run h rs))) x.ended done h.0 h.1
             ∙ bind_known (run_there no_stage) (λ rs. pure (more_run h.0 rs)) done done no_run refl;
       }
 
-  pub group_follows : Follows core around w Left none_left both_left Any (in_order (λ l. turn_of core plainly turns style owned stages (live_at l) (plain l)) (lanes_from 0 count)) (turn_of (unrolled core) scope.in_lanes turns style all_owned all_stages too lanes)
+  pub group_follows : Follows core around w Left none_left both_left (GroupLess all_stages stages) (in_order (λ l. turn_of core plainly turns style owned stages (live_at l) (plain l)) (lanes_from 0 count)) (turn_of (unrolled core) scope.in_lanes turns style all_owned all_stages too lanes)
   unfolding pure
   group_follows s t after gs fits agree ran =
       let made : Made (unrolled core) scope.in_lanes turns all_owned t = make_all (unrolled core) scope.in_lanes turns all_owned t in
@@ -284,9 +301,9 @@ module _ (core : PlainCore) (nodes : NodesFit core) (lists : ListsFit core) (fit
         own = λ m j i le less. made.inside ((in_lane (memory_order core) counters owned w j).number m) (lanes_group.own_in core nodes memories turns around inside_lanes w counters style owned no_stream plain lanes count g not_dram mine earlier mine_first mine_none mine_right go apart live_at too first_live live masked j m less i) ∙ ap (λ (x : PlainMem). Some (fresh_of x.kind x.dims x.start [])) ((g.together j less).memories m (g.valid m i)).1;
       } in
       let many = turns_of core turns style owned no_stream stages is reduces firsts ops at node combines node_is plain live_at count first_live count 0 (omega arith) s after gs ran in
-      let x : Reduced count (lanes_of counters) 0 s s made.after after =
-      lane_turns.reduces_run core nodes lists memories turns around inside_lanes w counters style owned no_stream plain lanes count g several not_dram stages earlier is reduces firsts right go apart live_at too first_live live masked ops at node combines node_is before begun word acc ty comb asks list front_plain still own ops_right tail count (lanes_of counters) 0 (omega arith) (omega arith) (λ n free. (neither all_owned (owned_in_stages all_stages) n free).1) s s made.after after fits fits (λ m i. refl) reached many in
-      let c : Combines s made.after after x = combines_there s made.after after fits x in
+      let x : Reduced count (lanes_of counters) 0 s s made.after after (all_rounds stages gs) =
+      lane_turns.reduces_run core nodes lists memories turns around inside_lanes w counters style owned no_stream plain lanes count g several not_dram stages earlier is reduces firsts right go apart live_at too first_live live masked ops at node combines node_is before begun word acc ty comb asks list front_plain still own ops_right tail count (lanes_of counters) 0 (omega arith) (omega arith) (λ n free. (neither all_owned (owned_in_stages all_stages) n free).1) s s made.after after (all_rounds stages gs) fits fits (λ m i. refl) reached many in
+      let c : Combines s made.after after (all_rounds stages gs) x = combines_there s made.after after (all_rounds stages gs) fits x in
       let done : Store = combined_in (unrolled core) begun_there (w.number acc) c.value x.ended in
       let q = x.runs c.runs done c.ran in
       record {
@@ -296,8 +313,8 @@ module _ (core : PlainCore) (nodes : NodesFit core) (lists : ListsFit core) (fit
             bind_known (in_order (renew (unrolled core) scope.in_lanes turns) all_owned) (λ _. run_there all_stages >>= (λ runs. end_of_group (unrolled core) scope.in_lanes turns style all_owned >> pure runs)) t made.after made.answers made.ran
             ∙ bind_known (run_there all_stages) (λ runs. end_of_group (unrolled core) scope.in_lanes turns style all_owned >> pure runs) made.after done q.0 q.1
             ∙ bind_known (end_of_group (unrolled core) scope.in_lanes turns style all_owned) (λ _. pure q.0) done done [] (nothing_ends (unrolled core) scope.in_lanes turns style all_owned done no_stream);
-        agree = record { memories = at_memory s made.after after x c.value c.written; drams = at_dram s made.after after x c.value };
-        left = both_left t made.after done (λ n low outer free. made.outside n (neither all_owned (owned_in_stages all_stages) n free).0) (both_left made.after x.ended done x.left (left_there s made.after after x c.value));
+        agree = record { memories = at_memory s made.after after (all_rounds stages gs) x c.value c.written; drams = at_dram s made.after after (all_rounds stages gs) x c.value };
+        left = both_left t made.after done (λ n low outer free. made.outside n (neither all_owned (owned_in_stages all_stages) n free).0) (both_left made.after x.ended done x.left (left_there s made.after after (all_rounds stages gs) x c.value));
         fits = x.fits;
-        related = tt;
+        related = ((let long = order_long (λ l. turn_of core plainly turns style owned stages (live_at l) (plain l)) (lanes_from 0 count) s after gs ran in let some = g.some in omega (arith, long, some, lanes_long 0 count)), at_most _ _ _ q.2 c.none);
       }

@@ -33,6 +33,7 @@ use Rattle.sp_lane_groups.proofs.Apart.{own_own}
 use Rattle.sp_lane_groups.proofs.Runs.{run_long}
 use Rattle.sp_joined_words.specs.Words.{words_of}
 use Rattle.sp_lane_inners.specs.Along.{AgreeAt}
+use Rattle.sp_lane_inners.proofs.Rounds.{run_rounds}
 use Rattle.sp_lane_outers.specs.Stages.{AllGoAlong}
 use Rattle.sp_lane_stages.specs.Laws.{AreOfFirst}
 use Rattle.sp_lane_stages.proofs.Lanes as lanes_group
@@ -47,6 +48,16 @@ use Rattle.sp_lane_reductions.specs.Reduction.{AreStill, own_stages, LastReduces
 use Rattle.sp_lane_reductions.proofs.Fronts.{still_run, AllRan}
 use Rattle.sp_lane_reductions.proofs.Own.{none_combines, own_names, own_first, own_right}
 use Rattle.sp_lane_reductions.proofs.Turns.{own_turn, OneTurn, Turns}
+
+-- sums of rounds
+at_most : (a b c : ℕ) → a ≤ b → b ≤ c → a ≤ c
+at_most a b c f g = omega (arith, f, g)
+
+more_most : (a b n : ℕ) → a ≤ b → a ≤ n + b
+more_most a b n f = omega (arith, f)
+
+together : (h o q m x n : ℕ) → h ≤ o + q → q ≤ m + x → o + m ≤ n → h ≤ n + x
+together h o q m x n f g k = omega (arith, f, g, k)
 
 -- steps of a group look at and change only what they name or own
 module _ (core : PlainCore) (turns : ℕ) (is : ℕ → Bool) where
@@ -131,14 +142,14 @@ module _ (core : PlainCore) (nodes : NodesFit core) (lists : ListsFit core) (mem
   Reached l s t =
       lanes_group.Reached core nodes memories turns around inside_lanes w counters style owned no_stream plain lanes count g not_dram mine earlier mine_first mine_none mine_right go apart live_at too first_live live masked l s t
 
-  abbrev After : (l : ℕ) → l < lanes_of counters → (t after : Store) → Type 0
-  After l lt t after = Passed core nodes memories turns place (lane_at l) (plain l) lanes (g.scopes l lt) l too mine t after
+  abbrev After : (l : ℕ) → l < lanes_of counters → (t after : Store) → Runs → Type 0
+  After l lt t after done = Passed core nodes memories turns place (lane_at l) (plain l) lanes (g.scopes l lt) l too mine t after done
 
   abbrev turn : ℕ → Step Runs
   turn l = own_turn core turns style owned no_stream stages is reduces firsts ops at node combines node_is plain live_at count first_live l
 
-  abbrev pub Many : (k l : ℕ) → (s after : Store) → Type 0
-  Many k l s after = Turns core turns style owned no_stream stages is reduces firsts ops at node combines node_is plain live_at count first_live k l s after
+  abbrev pub Many : (k l : ℕ) → (s after : Store) → (most : ℕ) → Type 0
+  Many k l s after n = Turns core turns style owned no_stream stages is reduces firsts ops at node combines node_is plain live_at count first_live k l s after n
 
   abbrev One : (l : ℕ) → (s after : Store) → Type 0
   One l s after = OneTurn core turns style owned no_stream stages is reduces firsts ops at node combines node_is plain live_at count first_live l s after
@@ -215,13 +226,13 @@ module _ (core : PlainCore) (nodes : NodesFit core) (lists : ListsFit core) (mem
 
   -- so many iterations from one on, from a store of the core, one that no combination changes, and one of the lanes: their own stages
   -- from the last two, where the words that are combined stand after all lanes, and what the combinations leave
-  pub record Reduced (more k l : ℕ) (s v t after : Store) : Type 0 where
+  pub record Reduced (more k l : ℕ) (s v t after : Store) (most : ℕ) : Type 0 where
     pub words : List (List Entry)
     pub long : length words ≡ more
     pub fit : EachFit words
     pub alone : Store
     pub ended : Store
-    pub runs : (x : Runs) (last : Store) → run_there tail ended ≡ went x last → (h : Runs) × (run_there (rest_of l k) t ≡ went h last)
+    pub runs : (x : Runs) (last : Store) → run_there tail ended ≡ went x last → (h : Runs) × (run_there (rest_of l k) t ≡ went h last) × (run_rounds (rest_of l k) h ≤ most + run_rounds tail x)
     pub agrees : AgreeAt core around w alone ended
     pub on : AgreeOn is after alone
     pub kept : KeptBut is v alone
@@ -232,29 +243,30 @@ module _ (core : PlainCore) (nodes : NodesFit core) (lists : ListsFit core) (mem
     pub accumulated : Accumulated core plain owned before begun at word acc ty comb is asks s after (words_of word words)
 
   -- lanes without an iteration
-  dead_run : (more l : ℕ) → count ≤ l → l + more ≡ lanes_of counters → (t : Store) (x : Runs) (last : Store) → run_there tail t ≡ went x last → (h : Runs) × (run_there (rest_of l more) t ≡ went h last)
-  dead_run zero l le e t x last there = (x, there)
+  dead_run : (more l : ℕ) → count ≤ l → l + more ≡ lanes_of counters → (t : Store) (x : Runs) (last : Store) → run_there tail t ≡ went x last → (h : Runs) × (run_there (rest_of l more) t ≡ went h last) × (run_rounds (rest_of l more) h ≤ run_rounds tail x)
+  dead_run zero l le e t x last there = (x, there, omega arith)
   dead_run (suc more) l le e t x last there =
       let z = dead_run more (suc l) (omega (arith, le)) (omega (arith, e)) t x last there in
-      rests core nodes memories turns place (lane_at l) (plain l) lanes (g.scopes l (omega (arith, e))) l too (masked l le (omega (arith, e))) (nodes_in (memory_order core) (lane_at l) mine) (rest_of (suc l) more) z.0 t last z.1
+      let q = rests core nodes memories turns place (lane_at l) (plain l) lanes (g.scopes l (omega (arith, e))) l too (masked l le (omega (arith, e))) (nodes_in (memory_order core) (lane_at l) mine) (rest_of (suc l) more) z.0 t last z.1 in
+      (q.0, q.1, at_most _ _ _ q.2 z.2)
 
   -- where no iteration follows nothing does
-  no_more : (k l : ℕ) (s after : Store) → Many k l s after → (words : List (List Entry)) → length words ≡ k → words_of word words ≡ [] → s ≡ after
-  no_more zero l s after h words long e = h
-  no_more (suc k) l s after h [] long e = absurd (omega (arith, long))
-  no_more (suc k) l s after h (es ∷ words) long e = cc
+  no_more : (k l : ℕ) (s after : Store) (n : ℕ) → Many k l s after n → (words : List (List Entry)) → length words ≡ k → words_of word words ≡ [] → s ≡ after
+  no_more zero l s after n h words long e = h
+  no_more (suc k) l s after n h [] long e = absurd (omega (arith, long))
+  no_more (suc k) l s after n h (es ∷ words) long e = cc
 
   abbrev IsWithin : List ℕ → Type 0
   IsWithin xs = (n : ℕ) → is_among n whole ≡ false → is_among n xs ≡ false
 
-  pub reduces_run : (more k l : ℕ) → l + more ≡ count → l + k ≡ lanes_of counters → IsWithin (owned_in_stages (rest_of l k)) → (s v t after : Store) → StoreFits core s → StoreFits core v → AgreeOn is s v → Reached l v t → Many more l s after → Reduced more k l s v t after
-  reduces_run zero k l e f inside s v t after fits fits_too agree h many = record {
+  pub reduces_run : (more k l : ℕ) → l + more ≡ count → l + k ≡ lanes_of counters → IsWithin (owned_in_stages (rest_of l k)) → (s v t after : Store) (n : ℕ) → StoreFits core s → StoreFits core v → AgreeOn is s v → Reached l v t → Many more l s after n → Reduced more k l s v t after n
+  reduces_run zero k l e f inside s v t after n fits fits_too agree h many = record {
     words = [];
     long = refl;
     fit = tt;
     alone = v;
     ended = t;
-    runs = λ x last there. dead_run k l (omega (arith, e)) f t x last there;
+    runs = λ x last there. (let q = dead_run k l (omega (arith, e)) f t x last there in (q.0, q.1, more_most _ _ n q.2));
     agrees = h.agrees;
     on = subst (λ (u : Store). AgreeOn is u v) many agree;
     kept = λ m n. refl;
@@ -264,13 +276,13 @@ module _ (core : PlainCore) (nodes : NodesFit core) (lists : ListsFit core) (mem
     ran = tt;
     accumulated = tt;
   }
-  reduces_run (suc more) zero l e f inside s v t after fits fits_too agree h many = absurd (let most = g.most in omega (arith, e, f, most))
-  reduces_run (suc more) (suc k) l e f inside s v t after fits fits_too agree h many =
+  reduces_run (suc more) zero l e f inside s v t after n fits fits_too agree h many = absurd (let most = g.most in omega (arith, e, f, most))
+  reduces_run (suc more) (suc k) l e f inside s v t after n fits fits_too agree h many =
       let below : l < lanes_of counters = omega (arith, f) in
       let lt : l < count = less_of l more count e in
       let one : One l s many.0 = many.1 in
       let frame : FramedAt is (turn l) s v one.between one.runs = turn_framed l s v one.between one.runs agree one.own in
-      let y : After l below t frame.ended =
+      let y : After l below t frame.ended one.runs =
       lanes_group.one_turn core nodes memories turns around inside_lanes w counters style owned no_stream plain lanes count g not_dram mine earlier mine_first mine_none mine_right go apart live_at too first_live live masked l below lt v t frame.ended one.runs fits_too h frame.ran in
       let between_fits : StoreFits core one.between = merged_fits s frame.ended one.between fits y.fits frame.agree frame.kept in
       let c : Combined l s one.between many.0 = combined l s one.between many.0 one.entries between_fits frame.kept one.ran in
@@ -278,16 +290,16 @@ module _ (core : PlainCore) (nodes : NodesFit core) (lists : ListsFit core) (mem
       let split : (n : ℕ) → is_among n whole ≡ false → (is_among n (flat_map owned_in (nodes_in (memory_order core) (lane_at l) mine)) ≡ false) × (is_among n (owned_in_stages (rest_of (suc l) k)) ≡ false) =
       λ n free. among_stages n l (nodes_in (memory_order core) (lane_at l) mine) (rest_of (suc l) k) (inside n free) in
       let reached : Reached (suc l) frame.ended y.ended =
-      lanes_group.next_reached core nodes memories turns around inside_lanes w counters style owned no_stream plain lanes count g not_dram mine earlier mine_first mine_none mine_right go apart live_at too first_live live masked l below v t frame.ended h y in
-      let z : Reduced more k (suc l) many.0 frame.ended y.ended after =
-      reduces_run more k (suc l) (next_of l more count e) (omega (arith, f)) (λ n free. (split n free).1) many.0 frame.ended y.ended after c.left y.fits on reached many.2 in
+      lanes_group.next_reached core nodes memories turns around inside_lanes w counters style owned no_stream plain lanes count g not_dram mine earlier mine_first mine_none mine_right go apart live_at too first_live live masked l below v t frame.ended one.runs h y in
+      let z : Reduced more k (suc l) many.0 frame.ended y.ended after many.2 =
+      reduces_run more k (suc l) (next_of l more count e) (omega (arith, f)) (λ n free. (split n free).1) many.0 frame.ended y.ended after many.2 c.left y.fits on reached many.4 in
       record {
         words = c.front ∷ z.words;
         long = ap suc z.long;
         fit = (c.fits, z.fit);
         alone = z.alone;
         ended = z.ended;
-        runs = λ x last there. (let q = z.runs x last there in y.runs (rest_of (suc l) k) q.0 last q.1);
+        runs = λ x last there. (let q = z.runs x last there in let r = y.runs (rest_of (suc l) k) q.0 last q.1 in (r.0, r.1, together _ _ _ _ _ _ r.2 q.2 many.3));
         agrees = z.agrees;
         on = z.on;
         kept = λ m n. z.kept m n ∙ frame.kept_too m n;
@@ -310,7 +322,7 @@ module _ (core : PlainCore) (nodes : NodesFit core) (lists : ListsFit core) (mem
           },
           z.ran,
         );
-        accumulated = more_left core plain owned before begun at word acc ty comb is asks s many.0 after (word_at c.front word) (words_of word z.words) (c.held, c.holds, c.written) (λ e. no_more more (suc l) many.0 after many.2 z.words z.long e) z.accumulated;
+        accumulated = more_left core plain owned before begun at word acc ty comb is asks s many.0 after (word_at c.front word) (words_of word z.words) (c.held, c.holds, c.written) (λ e. no_more more (suc l) many.0 after many.2 many.4 z.words z.long e) z.accumulated;
       }
     where
       earlier_lane : (l j : ℕ) → j < l → l ≡ j → ⊥

@@ -1,5 +1,5 @@
 -- The stages of a loop but the one that combines, and what holds of them.
-use Rattle.std.proofs.Common.{◌≡◌, ℕ, Bool, true, false, List, ◌∷◌, ◌++◌, Some, refl, sym, ◌∙◌, ap}
+use Rattle.std.proofs.Common.{◌≡◌, ℕ, ◌+◌, ◌≤◌, Bool, true, false, List, ◌∷◌, ◌++◌, Some, refl, sym, ◌∙◌, ap, subst, arith}
 use Rattle.sp_core.specs.Around.{Around}
 use Rattle.sp_core.specs.Footprint.{StagesName}
 use Rattle.sp_core.specs.History.{History, Runs, no_run, masked_run, more_run}
@@ -7,17 +7,23 @@ use Rattle.sp_core.specs.Invariant.{owned_in, AreRight, IsRight}
 use Rattle.sp_core.specs.PlainCore.{PlainNode, PlainStages, no_stage, more_stage, PlainCore}
 use Rattle.sp_core.specs.Scope.{plainly, is_some_live, Scope}
 use Rattle.sp_core.specs.Sequential.{run, run_stages}
+use Rattle.sp_core.specs.Shape.{shape_of}
 use Rattle.sp_core.specs.Step.{Step, went, pure, ◌>>=◌}
 use Rattle.sp_core.specs.Store.{Store}
+use Rattle.sp_within.specs.Rounds.{rounds}
 use Rattle.sp_lanes.specs.Unrolled.{node_in, nodes_in, combination_of}
 use Rattle.sp_lanes.specs.Within.{Within}
 use Rattle.sp_copies.specs.Copies.{OwnInLanes}
 use Rattle.sp_laned.specs.Marks.{NoneCombines}
-use Rattle.sp_live_lanes.proofs.Along.{store_of}
+use Rattle.sp_live_lanes.proofs.Along.{answer_of, store_of}
 use Rattle.sp_lane_groups.proofs.Renewed.{bind_known, bind_split}
 use Rattle.sp_plain_cores.specs.Nodes.{IsNodePlain, AreStagesPlain}
+use Rattle.sp_lane_inners.proofs.Rounds.{run_rounds}
 use Rattle.sp_lane_stages.specs.Laws.{AreOfFirst}
 use Rattle.sp_lane_reductions.specs.Reduction.{own_stages, IsReduction, LastReduces}
+
+added : (i a b : ℕ) → a ≤ b → i + a ≤ i + b
+added i a b h = omega (arith, h)
 
 -- steps by a choice that is made
 chosen_true : {A : Type 0} (b : Bool) (one other : Step A) (s : Store) → b ≡ true → (elim b as (λ _. Step A) [ true ↦ one | false ↦ other ]) s ≡ one s
@@ -79,7 +85,7 @@ module _ (core : PlainCore) (owned : List ℕ) (is : ℕ → Bool) where
       record { node = x.node; combines = x.combines; reduces = x.reduces; earlier = x.earlier; right = x.right; plain = x.plain }
 
   -- a run of all stages is one of the others, and then one of the combination
-  pub record Parted (turns : ℕ) (stages : PlainStages) (live : ℕ → Bool) (scope : Scope) (s after : Store) : Type 0 where
+  pub record Parted (turns : ℕ) (stages : PlainStages) (live : ℕ → Bool) (scope : Scope) (s after : Store) (whole : Runs) : Type 0 where
     pub runs : Runs
     pub between : Store
     pub own : run_stages core plainly turns (own_stages stages) live scope s ≡ went runs between
@@ -87,10 +93,11 @@ module _ (core : PlainCore) (owned : List ℕ) (is : ℕ → Bool) where
     pub combines : combination_of stages ≡ Some node
     pub history : History
     pub ran : run core plainly turns node scope between ≡ went history after
+    pub fewer : run_rounds (own_stages stages) runs ≤ run_rounds stages whole
 
   pub parted : (turns : ℕ) (live : ℕ → Bool) (scope : Scope) → live 0 ≡ true → (stages : PlainStages) → LastReduces core owned is stages → AreOfFirst stages → (s after : Store) (r : Runs) → run_stages core plainly turns stages live scope s ≡ went r after
-      → Parted turns stages live scope s after
-  unfolding run_stages pure
+      → Parted turns stages live scope s after r
+  unfolding run_stages pure rounds shape_of
   parted turns live scope on no_stage h firsts s after r ran = absurd h
   parted turns live scope on (more_stage f e true node (more_stage f2 e2 c2 n2 rest)) h firsts s after r ran = absurd h
   parted turns live scope on (more_stage f e true node no_stage) h firsts s after r ran =
@@ -108,6 +115,7 @@ module _ (core : PlainCore) (owned : List ℕ) (is : ℕ → Bool) where
         combines = refl;
         history = one.0;
         ran = one.2 ∙ ap (λ u. went one.0 u) (ap (store_of s) two.2 ∙ ap (store_of s) two.3);
+        fewer = omega arith;
       }
   parted turns live scope on (more_stage f e false node rest) h firsts s after r ran =
       let is_on : is_some_live live f e ≡ true = ap (λ x. is_some_live live x e) firsts.0 ∙ ap (is_some_live live 0) firsts.1 ∙ on in
@@ -116,7 +124,7 @@ module _ (core : PlainCore) (owned : List ℕ) (is : ℕ → Bool) where
       (run_stages core plainly turns rest live scope >>= (λ others. pure (masked_run others))) s is_on) ∙ ran in
       let one = bind_split (run core plainly turns node scope) (λ h. run_stages core plainly turns rest live scope >>= (λ others. pure (more_run h others))) s after r goes in
       let two = bind_split (run_stages core plainly turns rest live scope) (λ others. pure (more_run one.0 others)) one.1 after r one.3 in
-      let x : Parted turns rest live scope one.1 two.1 = parted turns live scope on rest h.1 firsts.2 one.1 two.1 two.0 two.2 in
+      let x : Parted turns rest live scope one.1 two.1 two.0 = parted turns live scope on rest h.1 firsts.2 one.1 two.1 two.0 two.2 in
       record {
         runs = more_run one.0 x.runs;
         between = x.between;
@@ -128,4 +136,5 @@ module _ (core : PlainCore) (owned : List ℕ) (is : ℕ → Bool) where
         combines = x.combines;
         history = x.history;
         ran = x.ran ∙ ap (λ u. went x.history u) (ap (store_of after) two.3);
+        fewer = subst (λ q. run_rounds (more_stage f e false node (own_stages rest)) (more_run one.0 x.runs) ≤ run_rounds (more_stage f e false node rest) q) (ap (answer_of r) two.3) (added _ _ _ x.fewer);
       }

@@ -14,28 +14,42 @@ use Rattle.sp_core.specs.PlainCore.{PlainCounter, PlainMem, PlainNode, PlainStag
 use Rattle.sp_core.specs.Scope.{Reading, plainly, Scope}
 use Rattle.sp_core.specs.Scope as scope
 use Rattle.sp_core.specs.Sequential.{renew, end_of_group, run_stages}
+use Rattle.sp_core.specs.Shape.{shape_of}
 use Rattle.sp_core.specs.Step.{Step, went, pure, ◌>>=◌, ◌>>◌, in_order}
 use Rattle.sp_core.specs.Store.{Store}
 use Rattle.sp_fitting.specs.Fitting.{StoreFits}
 use Rattle.sp_fitting.specs.Laws.{NodesFit}
+use Rattle.sp_within.specs.Rounds.{rounds}
 use Rattle.sp_lanes.specs.Order.{memory_order}
 use Rattle.sp_lanes.specs.Unrolled.{unrolled, owned_in_lanes, nodes_in, stages_in, stages_by_lane}
 use Rattle.sp_lanes.specs.Within.{Within, in_lane}
 use Rattle.sp_laned.specs.Marks.{NoneCombines}
 use Rattle.sp_unrolled_rules.proofs.Places.{among_both}
-use Rattle.sp_live_lanes.proofs.Along.{store_of}
+use Rattle.sp_live_lanes.proofs.Along.{answer_of, store_of}
 use Rattle.sp_lane_groups.specs.Groups.{lanes_from, IsGroup}
 use Rattle.sp_lane_groups.proofs.Among.{row_in, row_out}
 use Rattle.sp_lane_groups.proofs.Apart.{out_number, out_usable, in_usable, own_out, own_own}
 use Rattle.sp_lane_groups.proofs.Renewed.{bind_known, bind_split, order_split, order_none}
 use Rattle.sp_lane_inners.specs.Along.{AgreeAt}
+use Rattle.sp_lane_inners.proofs.Bounds.{order_long}
 use Rattle.sp_lane_inners.proofs.Follows.{no_copy, Follows}
-use Rattle.sp_lane_nodes.proofs.Nodes.{Any}
+use Rattle.sp_lane_inners.proofs.Rounds.{run_rounds, all_rounds, GroupLess}
 use Rattle.sp_lane_outers.specs.Stages.{AllGoAlong}
 use Rattle.sp_lane_outers.proofs.Lone.{turn_of}
 use Rattle.sp_lane_outers.proofs.Renewing.{Made, make_all, made_fit}
 use Rattle.sp_lane_stages.specs.Laws.{AreOfFirst}
 use Rattle.sp_lane_stages.proofs.Passing.{neither, Passed, passes, rests}
+
+-- sums of rounds
+at_most : (a b c : ℕ) → a ≤ b → b ≤ c → a ≤ c
+at_most a b c f g = omega (arith, f, g)
+
+summed : (i a b c : ℕ) → i ≤ a + b → b ≤ c → i ≤ a + c
+summed i a b c f g = omega (arith, f, g)
+
+pub lanes_long : (l n : ℕ) → length (lanes_from l n) ≡ n
+lanes_long l zero = refl
+lanes_long l (suc n) = ap suc (lanes_long (suc l) n)
 
 -- the end of a group that is of no stream block
 pub nothing_ends : (core : PlainCore) (reading : Reading) (turns : ℕ) (style : Style) (owned : List ℕ) (s : Store) → is_stream style ≡ false → end_of_group core reading turns style owned s ≡ went [] s
@@ -134,12 +148,12 @@ module _ (core : PlainCore) (nodes : NodesFit core) (memories : are_memories_rig
       let n : ℕ = (lane_at j).number m in
       ltb-true n (length (unrolled core).mems) (and_parts (nat_lt n (length (unrolled core).mems)) (is_port_kind (mem (unrolled core) n).kind || is_among n inside_lanes.owned) ((g.together j lt).memories m (g.valid m i)).0).0
 
-  abbrev After : (l : ℕ) → l < lanes_of counters → (t after : Store) → Type 0
-  After l lt t after = Passed core nodes memories turns place (lane_at l) (plain l) lanes (g.scopes l lt) l too stages t after
+  abbrev After : (l : ℕ) → l < lanes_of counters → (t after : Store) → Runs → Type 0
+  After l lt t after done = Passed core nodes memories turns place (lane_at l) (plain l) lanes (g.scopes l lt) l too stages t after done
 
   -- after a lane, before the next one
-  pub next_reached : (l : ℕ) (lt : l < lanes_of counters) (s t after : Store) → Reached l s t → (x : After l lt t after) → Reached (suc l) after x.ended
-  next_reached l lt s t after h x = record {
+  pub next_reached : (l : ℕ) (lt : l < lanes_of counters) (s t after : Store) (done : Runs) → Reached l s t → (x : After l lt t after done) → Reached (suc l) after x.ended
+  next_reached l lt s t after done h x = record {
     agrees = record {
       memories = λ m u. ap x.ended (sym (out_number core around inside_lanes w counters owned plain lanes count g l m (g.apart m u))) ∙ x.agrees.memories m (out_usable core around inside_lanes w counters owned plain lanes count g m u);
       drams = x.agrees.drams;
@@ -155,7 +169,7 @@ module _ (core : PlainCore) (nodes : NodesFit core) (memories : are_memories_rig
   turn l = turn_of core plainly turns style owned stages (live_at l) (plain l)
 
   -- a lane of the core is the stages of the lane
-  pub one_turn : (l : ℕ) (below : l < lanes_of counters) → l < count → (s t after : Store) (runs : Runs) → StoreFits core s → Reached l s t → turn l s ≡ went runs after → After l below t after
+  pub one_turn : (l : ℕ) (below : l < lanes_of counters) → l < count → (s t after : Store) (runs : Runs) → StoreFits core s → Reached l s t → turn l s ≡ went runs after → After l below t after runs
   unfolding pure
   one_turn l below lt s t after runs fits h ran =
       let first = bind_split (in_order (renew core plainly turns) owned) (λ _. run_stages core plainly turns stages (live_at l) (plain l) >>= (λ runs. end_of_group core plainly turns style owned >> pure runs)) s after runs ran in
@@ -164,33 +178,35 @@ module _ (core : PlainCore) (nodes : NodesFit core) (memories : are_memories_rig
       let made : Made core plainly turns owned s = make_all core plainly turns owned s in
       let same : made.after ≡ first.1 = ap (store_of s) (sym made.ran ∙ first.2) in
       let inside : AgreeAt core place (lane_at l) first.1 t = subst (λ (u : Store). AgreeAt core place (lane_at l) u t) same (enters l below s t h made) in
-      let x : After l below t second.1 =
+      let x : After l below t second.1 second.0 =
       passes core nodes memories turns place (lane_at l) (plain l) lanes (g.scopes l below) l too (live l lt) (live_at l) (first_live l lt) stages earlier firsts none (go l below) right
       first.1 t second.1 second.0 (made_fit core plainly turns memories owned s first.1 first.0 fits first.2) inside second.2 in
       let stayed : second.1 ≡ third.1 = ap (store_of s) (sym (nothing_ends core plainly turns style owned second.1 no_stream) ∙ third.2) in
-      subst (λ (u : Store). After l below t u) (stayed ∙ ap (store_of s) third.3) x
+      subst (λ r. After l below t after r) (ap (answer_of runs) third.3) (subst (λ (u : Store). After l below t u second.0) (stayed ∙ ap (store_of s) third.3) x)
 
-  record Gone (rest : PlainStages) (t after : Store) : Type 0 where
+  record Gone (rest : PlainStages) (t after : Store) (gs : List Runs) : Type 0 where
     runs : Runs
     ended : Store
     ran : run_there rest t ≡ went runs ended
     agrees : AgreeAt core around w after ended
     left : Left t ended
     fits : StoreFits core after
+    fewer : run_rounds rest runs ≤ all_rounds stages gs
 
   -- lanes without an iteration
-  dead_run : (more l : ℕ) → count ≤ l → l + more ≡ lanes_of counters → (t : Store) → (runs : Runs) × (run_there (rest_of l more) t ≡ went runs t)
-  unfolding run_stages pure
-  dead_run zero l le e t = (no_run, refl)
+  dead_run : (more l : ℕ) → count ≤ l → l + more ≡ lanes_of counters → (t : Store) → (runs : Runs) × (run_there (rest_of l more) t ≡ went runs t) × (run_rounds (rest_of l more) runs ≤ 0)
+  unfolding run_stages pure rounds shape_of
+  dead_run zero l le e t = (no_run, refl, omega arith)
   dead_run (suc more) l le e t =
       let z = dead_run more (suc l) (omega (arith, le)) (omega (arith, e)) t in
-      rests core nodes memories turns place (lane_at l) (plain l) lanes (g.scopes l (omega (arith, e))) l too (masked l le (omega (arith, e))) (nodes_in (memory_order core) (lane_at l) stages) (rest_of (suc l) more) z.0 t t z.1
+      let q = rests core nodes memories turns place (lane_at l) (plain l) lanes (g.scopes l (omega (arith, e))) l too (masked l le (omega (arith, e))) (nodes_in (memory_order core) (lane_at l) stages) (rest_of (suc l) more) z.0 t t z.1 in
+      (q.0, q.1, at_most _ _ _ q.2 z.2)
 
   abbrev IsWithin : List ℕ → Type 0
   IsWithin xs = (n : ℕ) → is_among n whole ≡ false → is_among n xs ≡ false
 
   -- those that have one, and after them the others
-  live_run : (more k l : ℕ) → l + more ≡ count → l + k ≡ lanes_of counters → IsWithin (owned_in_stages (rest_of l k)) → (s t after : Store) (gs : List Runs) → StoreFits core s → Reached l s t → in_order turn (lanes_from l more) s ≡ went gs after → Gone (rest_of l k) t after
+  live_run : (more k l : ℕ) → l + more ≡ count → l + k ≡ lanes_of counters → IsWithin (owned_in_stages (rest_of l k)) → (s t after : Store) (gs : List Runs) → StoreFits core s → Reached l s t → in_order turn (lanes_from l more) s ≡ went gs after → Gone (rest_of l k) t after gs
   live_run zero k l e f inside s t after gs fits h ran =
       let r = order_none turn s after gs ran in
       let z = dead_run k l (omega (arith, e)) f t in
@@ -201,17 +217,18 @@ module _ (core : PlainCore) (nodes : NodesFit core) (memories : are_memories_rig
         agrees = subst (λ (u : Store). AgreeAt core around w u t) r.0 h.agrees;
         left = none_left t;
         fits = subst (StoreFits core) r.0 fits;
+        fewer = at_most _ _ _ z.2 (omega arith);
       }
   live_run (suc more) zero l e f inside s t after gs fits h ran = absurd (let most = g.most in omega (arith, e, f, most))
   live_run (suc more) (suc k) l e f inside s t after gs fits h ran =
       let below : l < lanes_of counters = omega (arith, f) in
       let lt : l < count = less_of l more count e in
       let r = order_split turn l (lanes_from (suc l) more) s after gs ran in
-      let y : After l below t r.1 = one_turn l below lt s t r.1 r.0 fits h r.3 in
+      let y : After l below t r.1 r.0 = one_turn l below lt s t r.1 r.0 fits h r.3 in
       let split : (n : ℕ) → is_among n whole ≡ false → (is_among n (flat_map owned_in (nodes_in (memory_order core) (lane_at l) stages)) ≡ false) × (is_among n (owned_in_stages (rest_of (suc l) k)) ≡ false) =
       λ n free. among_stages n l (nodes_in (memory_order core) (lane_at l) stages) (rest_of (suc l) k) (inside n free) in
-      let z : Gone (rest_of (suc l) k) y.ended after =
-      live_run more k (suc l) (next_of l more count e) (omega (arith, f)) (λ n free. (split n free).1) r.1 y.ended after r.2 y.fits (next_reached l below s t r.1 h y) r.4 in
+      let z : Gone (rest_of (suc l) k) y.ended after r.2 =
+      live_run more k (suc l) (next_of l more count e) (omega (arith, f)) (λ n free. (split n free).1) r.1 y.ended after r.2 y.fits (next_reached l below s t r.1 r.0 h y) r.4 in
       let v = y.runs (rest_of (suc l) k) z.runs z.ended z.ran in
       record {
         runs = v.0;
@@ -220,9 +237,10 @@ module _ (core : PlainCore) (nodes : NodesFit core) (memories : are_memories_rig
         agrees = z.agrees;
         left = both_left t y.ended z.ended (λ n low outer free. y.left n low (not_inside l n below outer (neither all_owned (owned_in_stages (rest_of 0 (lanes_of counters))) n free).0) (split n free).0) z.left;
         fits = z.fits;
+        fewer = subst (λ rs. run_rounds (rest_of l (suc k)) v.0 ≤ all_rounds stages rs) r.5 (summed _ _ _ _ v.2 z.fewer);
       }
 
-  pub group_follows : Follows core around w Left none_left both_left Any (in_order turn (lanes_from 0 count)) (turn_of (unrolled core) scope.in_lanes turns style all_owned (rest_of 0 (lanes_of counters)) too lanes)
+  pub group_follows : Follows core around w Left none_left both_left (GroupLess (rest_of 0 (lanes_of counters)) stages) (in_order turn (lanes_from 0 count)) (turn_of (unrolled core) scope.in_lanes turns style all_owned (rest_of 0 (lanes_of counters)) too lanes)
   unfolding pure
   group_follows s t after gs fits agree ran =
       let all : PlainStages = rest_of 0 (lanes_of counters) in
@@ -234,7 +252,7 @@ module _ (core : PlainCore) (nodes : NodesFit core) (memories : are_memories_rig
         };
         own = λ m j i le less. made.inside ((lane_at j).number m) (own_in j m less i) ∙ ap (λ (x : PlainMem). Some (fresh_of x.kind x.dims x.start [])) ((g.together j less).memories m (g.valid m i)).1;
       } in
-      let z : Gone all made.after after =
+      let z : Gone all made.after after gs =
       live_run count (lanes_of counters) 0 (omega arith) (omega arith) (λ n free. (neither all_owned (owned_in_stages all) n free).1) s made.after after gs fits reached ran in
       record {
         answer = z.runs;
@@ -246,5 +264,5 @@ module _ (core : PlainCore) (nodes : NodesFit core) (memories : are_memories_rig
         agree = z.agrees;
         left = both_left t made.after z.ended (λ n low outer free. made.outside n (neither all_owned (owned_in_stages all) n free).0) z.left;
         fits = z.fits;
-        related = tt;
+        related = ((let long = order_long turn (lanes_from 0 count) s after gs ran in let some = g.some in omega (arith, long, some, lanes_long 0 count)), z.fewer);
       }

@@ -103,6 +103,7 @@ module _ (core : PlainCore) (is : IsCore core) (owns : OwnsInLanes core.root) (w
         ap (outcome (unrolled core)) x.2
             ∙ ap (λ ws. ended ws (dram_words (unrolled core) x.1) x.0) (outs_agree core args outs args_usable outs_usable r.0 x.1 x.3 ∙ r.2)
             ∙ ap (λ ws. ended outs_there ws x.0) (drams_agree core args outs args_usable outs_usable r.0 x.1 x.3 ∙ r.3),
+        x.5,
       )
 
 pub program_goes : (p : PlainProgram) → NodesGo (core_of p) → RootStands p → IsEnded (core_of p) (core_of p).root → IsProgram p → ProgramGoes p

@@ -1,5 +1,5 @@
 -- A law of whole cores in lanes, as a statement.
-use Rattle.std.specs.Prelude.{◌≡◌, ℕ, List}
+use Rattle.std.specs.Prelude.{◌≡◌, ◌≤◌, ℕ, List}
 use Rattle.sp_words.specs.Ports.{PlainInput}
 use Rattle.sp_tree.specs.PlainProgram.{PlainProgram}
 use Rattle.sp_core.specs.History.{History}
@@ -7,15 +7,17 @@ use Rattle.sp_core.specs.Inputs.{InputFits}
 use Rattle.sp_core.specs.Meaning.{ended, meaning}
 use Rattle.sp_core.specs.PlainCore.{PlainCore}
 use Rattle.sp_core.specs.Scope.{plainly, in_lanes}
+use Rattle.sp_core.specs.Shape.{shape_of}
+use Rattle.sp_within.specs.Rounds.{rounds}
 use Rattle.sp_sugar.specs.Core.{core_of}
 use Rattle.sp_lanes.specs.Unrolled.{unrolled}
 use Rattle.sp_lane_trees.specs.Words.{CombinesWords}
 
--- where a core ends, read plainly, it ends in lanes with the same words, read in lanes
+-- where a core ends, read plainly, it ends in lanes with the same words, read in lanes, and goes around no oftener
 abbrev pub EndsInLanes : PlainCore → Type 0
 EndsInLanes core =
     (turns : ℕ) (input : PlainInput) → InputFits core input → (outs : List ℕ) (drams : List (List ℕ)) (h : History) → meaning plainly turns core input ≡ ended outs drams h
-    → (g : History) × (meaning in_lanes turns (unrolled core) input ≡ ended outs drams g)
+    → (g : History) × (meaning in_lanes turns (unrolled core) input ≡ ended outs drams g) × (rounds (unrolled core).root (shape_of (unrolled core).root g) ≤ rounds core.root (shape_of core.root h))
 
 -- so does the core of a program where each controller with stages has one lane, or none of its stages combines, or the last one
 -- combines a word

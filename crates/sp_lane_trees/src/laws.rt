@@ -11,8 +11,8 @@ use sp_lane_reductions::reductions_go;
 use sp_lane_stages::stages_go;
 use sp_lane_transfers::transfers_go;
 
-/// A node does in lanes what it does in the core, where each controller in it with stages has one lane, or none of its stages
-/// combines, or the last one combines a word.
+/// A node does in lanes what it does in the core, and goes around no oftener, where each controller in it with stages has one lane,
+/// or none of its stages combines, or the last one combines a word.
 pub fn nodes_go()
     ensures { (core : PlainCore) → NodesGo core }
 {

@@ -9,7 +9,7 @@ use sp_first_resets::programs_stand;
 use sp_lane_endings::programs_end;
 
 /// Where the core of a program ends, and each of its controllers with stages has one lane, or none of its stages combines, or the
-/// last one combines a word, the core in lanes ends with the same words of outputs and of DRAMs.
+/// last one combines a word, the core in lanes ends with the same words of outputs and of DRAMs, and goes around no oftener.
 pub fn programs_go()
     ensures { (p : PlainProgram) → IsProgram p → ProgramGoes p }
 {
