@@ -20,6 +20,7 @@ use Rattle.sp_turns.specs.Laws.{ProgramRoundsWithinTurns}
 use Rattle.sp_plan.specs.PlainPlan.{PlainPlan}
 use Rattle.sp_machine.specs.Transfers.{Delays}
 use Rattle.sp_chosen_runs.specs.Laws.{ChosenPlansRun, RunsWell}
+use Rattle.sp_timed_programs.specs.Laws.{ProgramIsTimed}
 use Rattle.sp_program_runs.specs.Laws.{laned, HasPlan, ProgramRuns}
 
 -- a run that ends
@@ -48,13 +49,13 @@ fits_in_lanes core input h = record { args = h.args; drams = h.drams }
 at_most : (a b c m : ℕ) → a ≤ b → b ≤ c → c ≤ m → a ≤ m
 at_most a b c m f g h = omega (arith, f, g, h)
 
-pub programs_run : (p : PlainProgram) (plan : PlainPlan) (delays : Delays) (delay : ℕ) → StaysCore p → ProgramIsByLane p → IsProgramFollowed p → ProgramEnds p → ProgramRoundsWithinTurns p → ChosenPlansRun (laned p) plan delays delay → ProgramRuns p plan delays delay
+pub programs_run : (p : PlainProgram) (plan : PlainPlan) (delays : Delays) (delay : ℕ) → StaysCore p → ProgramIsByLane p → ProgramIsTimed p → IsProgramFollowed p → ProgramEnds p → ProgramRoundsWithinTurns p → ChosenPlansRun (laned p) plan delays delay → ProgramRuns p plan delays delay
 unfolding meaning
-programs_run p plan delays delay is by followed ends falls run meets has waits n input fits outs drams turns shape e =
+programs_run p plan delays delay is by timed followed ends falls run meets has waits n input fits outs drams turns shape e =
     let c = followed n input outs drams turns shape e in
     let x = ends has.combines_own n input fits outs drams c.0 c.1 in
     let r = ended_run (laned p) outs drams x.0 (run_core in_lanes n (laned p) input) x.1 in
-    let well = run meets (record { is_core = is; is_timed = has.is_timed; by_lane = by; meets_are = has.meets_are; is_chosen = has.is_chosen }) waits input n x.0 r.0 (fits_in_lanes (core_of p) input fits) r.1 in
+    let well = run meets (record { is_core = is; is_timed = timed has.is_timed; by_lane = by; meets_are = has.meets_are; is_chosen = has.is_chosen }) waits input n x.0 r.0 (fits_in_lanes (core_of p) input fits) r.1 in
     record {
       history = x.0;
       left = r.0;

@@ -12,6 +12,7 @@ use sp_chosen_runs::chosen_plans_run;
 use sp_lane_cores::programs_stay_cores;
 use sp_lane_programs::programs_end_in_lanes;
 use sp_outcomes::programs_are_followed;
+use sp_timed_programs::programs_are_timed;
 use sp_turns::rounds_are_within_turns;
 
 /// Where a program ends, its core in lanes ends with the same words of outputs and of DRAMs, and by the plan that is chosen for
@@ -23,6 +24,7 @@ pub fn programs_run_well()
 {
     programs_stay_cores();
     programs_are_by_lane();
+    programs_are_timed();
     programs_are_followed();
     programs_end_in_lanes();
     rounds_are_within_turns();
