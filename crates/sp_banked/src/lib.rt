@@ -11,3 +11,4 @@ pub use banked::emit_banked;
 pub use banks::add_banks;
 pub use laws::{memories_are_arrays, worked_memory};
 pub use part::Banked;
+pub use readers::emit_readers;

@@ -108,7 +108,7 @@ fn emit_reader(
 }
 
 /// Drives the nets of all readers.
-pub(crate) fn emit_readers(
+pub fn emit_readers(
     builder: &mut Builder,
     width: u8,
     requests: &[Request],
