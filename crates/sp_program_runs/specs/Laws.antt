@@ -1,7 +1,6 @@
 -- Programs and the timelines of their plans, as a statement.
 use Rattle.std.specs.Prelude.{◌≡◌, ℕ, ◌+◌, ◌≤◌, List}
 use Rattle.sp_words.specs.Ports.{PlainInput}
-use Rattle.sp_tree.specs.Invariant.{IsProgram}
 use Rattle.sp_tree.specs.Meaning as program
 use Rattle.sp_tree.specs.Meaning.{seq}
 use Rattle.sp_tree.specs.PlainProgram.{PlainProgram}
