@@ -7,4 +7,4 @@ mod moving;
 mod part;
 
 pub use loads::emit_load;
-pub use part::{Load, Loaded, Moving};
+pub use part::{Load, Loaded, Moving, Wires};

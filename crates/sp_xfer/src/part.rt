@@ -5,13 +5,13 @@ use sp_slices::{Move, Walk};
 
 /// The nets by which a slice moves: its start, whether a word moves, and those that are to be driven: the request, whether the
 /// word is the last one, and its address.
-#[derive(Clone, Copy, Debug)]
-pub(crate) struct Wires {
-    pub(crate) start: NetId,
-    pub(crate) ready: NetId,
-    pub(crate) request: NetId,
-    pub(crate) last: NetId,
-    pub(crate) address: NetId,
+#[derive(Clone, Copy, Debug, PartialEq, Eq)]
+pub struct Wires {
+    pub start: NetId,
+    pub ready: NetId,
+    pub request: NetId,
+    pub last: NetId,
+    pub address: NetId,
 }
 
 /// The nets of a slice that moves: what walks through it, where it is asked for, where a word moves, and where it is done.
