@@ -1,0 +1,66 @@
+//! Load units with their channels.
+ghost use Rattle.std.specs.Prelude.{◌≡◌, ℕ, ◌+◌, ◌<◌, false, true, [], ◌∷◌, ◌++◌, length, filter, count_by, IfOk, OnOk};
+ghost use Rattle.sp_netlist.specs.Rules.{IsWidth, is_bank, is_dram, is_unit, dram_width};
+ghost use Rattle.sp_netlist.specs.Draft.{IsDraft, Keeps};
+ghost use Rattle.sp_taps.specs.Wires.{Promises};
+ghost use Rattle.sp_channels.specs.Ports.{load_wires, IsLoadRow, AreLoadWires};
+ghost use Rattle.sp_channels.specs.Units.{IsLoadUnit};
+
+use crate::ports::LoadPort;
+use sp_netlist::{Builder, Cell, NoMemory};
+
+/// Promises the nets of a load unit.
+fn promise_load(builder: &mut Builder, width: u8) -> Result<LoadPort, NoMemory>
+    requires { IsWidth width }
+    ensures promised { OnOk result (builder.new.promised ≡ builder.old.promised ++ (1, false) ∷ (1, false) ∷ (32, false) ∷ (1, true) ∷ (width, true) ∷ []) }
+    ensures row { IfOk result (IsLoadRow (length builder.old.promised)) }
+    ensures same_cells { OnOk result (builder.new.cells ≡ builder.old.cells) }
+    ensures keeps { OnOk result (Keeps builder.old builder.new) }
+    ensures draft { OnOk result (IsDraft builder.new) }
+{
+    let request = builder.promise(1, false)?;
+    let last = builder.promise(1, false)?;
+    let address = builder.promise(32, false)?;
+    let ready = builder.promise(1, true)?;
+    let word = builder.promise(width, true)?;
+    Ok(LoadPort {
+        request,
+        last,
+        address,
+        ready,
+        word,
+    })
+}
+
+/// Adds the next channel with a load unit of that DRAM, with nets that are to be driven.
+pub fn add_load(
+    builder: &mut Builder,
+    channel: u64,
+    dram: u32,
+    width: u8,
+) -> Result<LoadPort, NoMemory>
+    requires draft { IsDraft builder.old }
+    requires channel { channel ≡ count_by is_unit builder.old.cells }
+    requires dram { dram < count_by is_dram builder.old.cells }
+    requires words { dram_width builder.old.cells dram ≡ width }
+    requires width { IsWidth width }
+    ensures promises { IfOk result (λ port. Promises builder.old builder.new (load_wires port)) }
+    ensures row { IfOk result (IsLoadRow (length builder.old.promised)) }
+    ensures longer { OnOk result (length builder.new.promised ≡ length builder.old.promised + 5) }
+    ensures wires { IfOk result (AreLoadWires builder.new) }
+    ensures unit { IfOk result (IsLoadUnit builder.new channel dram width) }
+    ensures one_more { OnOk result (count_by is_unit builder.new.cells ≡ channel + 1) }
+    ensures banks { OnOk result (filter is_bank builder.new.cells ≡ filter is_bank builder.old.cells) }
+{
+    let port = promise_load(builder, width)?;
+    builder.add(Cell::LoadUnit(
+        channel,
+        dram,
+        port.ready,
+        port.word,
+        port.request,
+        port.last,
+        port.address,
+    ))?;
+    Ok(port)
+}

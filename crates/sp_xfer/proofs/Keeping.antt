@@ -1,0 +1,95 @@
+-- What is known of a slice that moves as the draft grows.
+use Rattle.std.proofs.Common.{◌≡◌, ◌≢◌, ℕ, zero, suc, Bool, false, List, [], ◌∷◌, length, Contains, All, refl, sym, ◌∙◌, arith}
+use Rattle.std.proofs.lemmas.List.Elements.{All-nil, All-cons, All-head, All-tail}
+use Rattle.std.proofs.lemmas.Option.{slice_get_within}
+use Rattle.sp_netlist.specs.Draft.{Draft}
+use Rattle.sp_netlist.specs.Signals.{Signals}
+use Rattle.sp_gates.specs.Grows.{Grows, Fills}
+use Rattle.sp_gates.specs.Nets.{HasNet, IsOpen}
+use Rattle.sp_gates.specs.Tested.{is_on}
+use Rattle.sp_gates.proofs.Growing.{HasNet-stays}
+use Rattle.sp_taps.specs.Wires.{IsWire}
+use Rattle.sp_taps.proofs.Promised.{wire_stays}
+use Rattle.sp_slices.specs.declared.part.Axis.{Axis}
+use Rattle.sp_slices.specs.declared.part.Move.{Move}
+use Rattle.sp_slices.specs.declared.part.Move.TheVariants.{One, Range}
+use Rattle.sp_slices.specs.declared.part.Walk.{Walk}
+use Rattle.sp_slices.specs.Fits.{IsAxis, IsWalk}
+use Rattle.sp_slices.specs.Slices.{WalksSlice, offsets_of}
+use Rattle.sp_slices.proofs.Standing.{moves_stay, counters_stay, axes_stay, as_many, one_move_each}
+use Rattle.sp_xfer.specs.declared.part.Moving.{Moving}
+use Rattle.sp_xfer.specs.declared.part.Wires.{Wires}
+use Rattle.sp_xfer.specs.Fits.{WiresFit, SliceFits, IsMoving}
+use Rattle.sp_xfer.specs.Moving.{was}
+
+-- a register that is driven so
+pub was_on : (late next : ℕ → Bool) → late 0 ≡ false → ((t : ℕ) → late (suc t) ≡ next t) → (t : ℕ) → late t ≡ was next t
+was_on late next e f zero = e
+was_on late next e f (suc t) = f t
+
+pub was_same : (f g : ℕ → Bool) → ((t : ℕ) → f t ≡ g t) → (t : ℕ) → was f t ≡ was g t
+was_same f g e zero = refl
+was_same f g e (suc t) = e t
+
+none_in : (x : ℕ) → Contains [] x → ⊥
+none_in x c = let l = c.1 in absurd (omega (arith, l))
+
+one_in : (x y : ℕ) → Contains (x ∷ []) y → y ≡ x
+one_in x y (zero, l, e) = sym e
+one_in x y (suc k, l, e) = absurd (omega (arith, l))
+
+pub wire_open : (d : Draft) (net width : ℕ) → IsWire d net width → IsOpen d net
+wire_open d net width h = record { within = slice_get_within d.promised net (width, false) h.promised; undriven = h.undriven }
+
+-- a net that is to be driven stays so where none is driven, or another
+pub wire_kept : (a b : Draft) (net width : ℕ) → Fills a b [] → IsWire a net width → IsWire b net width
+wire_kept a b net width f h = wire_stays a b net width f.grows (f.still_open net (wire_open a net width h) (none_in net)) h
+
+pub wire_other : (a b : Draft) (other net width : ℕ) → Fills a b (other ∷ []) → other ≢ net → IsWire a net width → IsWire b net width
+wire_other a b other net width f apart h = wire_stays a b net width f.grows (f.still_open net (wire_open a net width h) (λ c. apart (sym (one_in other net c)))) h
+
+pub wires_kept : (a b : Draft) (w : Wires) → Fills a b [] → WiresFit a w → WiresFit b w
+wires_kept a b w f h = record {
+  start = HasNet-stays a b w.start 1 f.grows h.start;
+  ready = HasNet-stays a b w.ready 1 f.grows h.ready;
+  request = wire_kept a b w.request 1 f h.request;
+  last = wire_kept a b w.last 1 f h.last;
+  address = wire_kept a b w.address 32 f h.address;
+  request_last = h.request_last;
+  request_address = h.request_address;
+  last_address = h.last_address;
+}
+
+pub slice_stays : (a b : Draft) (dims : List ℕ) (moves : List Move) → Grows a b → SliceFits a dims moves → SliceFits b dims moves
+slice_stays a b dims moves g h = record { moves_fit = moves_stay a b moves g h.moves_fit; each = h.each }
+
+pub walk_stays : (a b : Draft) (w : Walk) → Grows a b → IsWalk a w → IsWalk b w
+walk_stays a b w g h = record {
+  values = counters_stay a b w.counted.counters.items g h.values;
+  more = HasNet-stays a b w.counted.more 1 g h.more;
+  axes = axes_stay a b w.axes.items g h.axes;
+  last = HasNet-stays a b w.last 1 g h.last;
+}
+
+pub moving_stays : (a b : Draft) (m : Moving) → Grows a b → IsMoving a m → IsMoving b m
+moving_stays a b m g h = record {
+  walk = walk_stays a b m.walk g h.walk;
+  asks = HasNet-stays a b m.asks 1 g h.asks;
+  moved = HasNet-stays a b m.moved 1 g h.moved;
+  done = HasNet-stays a b m.done 1 g h.done;
+}
+
+-- a slice has a counter for each dimension
+pub counters_each : (s : Signals) (start step : ℕ) (moves : List Move) (w : Walk) → WalksSlice s start step moves w → length w.counted.counters.items ≡ length moves
+counters_each s start step moves w h =
+    sym (as_many s (is_on s w.counters.start) (is_on s w.counters.step) w.counters.counters.items w.counted.counters.items h.counts.each) ∙ one_move_each s moves w.counters.counters.items h.bounds
+
+-- the nets of ranges have 32 bits
+pub offsets_stand : (d : Draft) (moves : List Move) (axes : List Axis) → All (IsAxis d) axes → All (λ net. HasNet d net 32) (offsets_of moves axes)
+offsets_stand d [] axes h = All-nil (λ net. HasNet d net 32)
+offsets_stand d (m ∷ moves) [] h = All-nil (λ net. HasNet d net 32)
+offsets_stand d (One i ∷ moves) (a ∷ axes) h = offsets_stand d moves axes (All-tail (IsAxis d) a axes h)
+offsets_stand d (Range x y ∷ moves) (a ∷ axes) h = All-cons (λ net. HasNet d net 32) a.offset (offsets_of moves axes) (All-head (IsAxis d) a axes h).offset (offsets_stand d moves axes (All-tail (IsAxis d) a axes h))
+
+pub nets_stay : (a b : Draft) (nets : List ℕ) → Grows a b → All (λ net. HasNet a net 32) nets → All (λ net. HasNet b net 32) nets
+nets_stay a b nets g h = λ k d l. HasNet-stays a b _ 32 g (h k d l)

@@ -1,0 +1,145 @@
+//! A slice that moves.
+ghost use Rattle.std.specs.Prelude.{◌≡◌, ℕ, ◌&&◌, ◌||◌, not, List, [], ◌∷◌, length, IfOk, OnOk};
+ghost use Rattle.sp_netlist.specs.Signals.{Signals};
+ghost use Rattle.sp_gates.specs.Bits.{IsOne};
+ghost use Rattle.sp_gates.specs.Grows.{Fills};
+ghost use Rattle.sp_gates.specs.Nets.{HasNet};
+ghost use Rattle.sp_gates.specs.Runs.{RunsOn};
+ghost use Rattle.sp_gates.specs.Tested.{is_on};
+ghost use Rattle.sp_slices.specs.declared.part.Move.{Move};
+ghost use Rattle.sp_slices.specs.Fits.{IsWalk};
+ghost use Rattle.sp_slices.specs.Slices.{WalksSlice};
+ghost use Rattle.sp_xfer.specs.Fits.{IsMoving, SliceFits, WiresFit};
+ghost use Rattle.sp_xfer.specs.Moving.{MovesSlice, was};
+
+use crate::part::{Moving, Wires};
+use sp_gates::{drive_after, on_both, on_either, on_not, one, reserve};
+use sp_netlist::{Builder, NetId, NoMemory};
+use sp_slices::{Move, Walk, address, walk as walk_through};
+use sp_taps::connect;
+use std::alloc::Global;
+
+/// A net that is 1 in the cycle after each one in which the other is. `one` is always 1.
+pub(crate) fn after(builder: &mut Builder, net: NetId, one: NetId) -> Result<NetId, NoMemory>
+    requires net { HasNet builder.old net 1 }
+    requires one { IsOne builder.old one }
+    ensures fills { OnOk result (Fills builder.old builder.new []) }
+    ensures net { IfOk result (λ late. HasNet builder.new late 1) }
+    ensures on { IfOk result (λ late. (s : Signals) → RunsOn s builder.new.cells → (t : ℕ) → is_on s late t ≡ was (is_on s net) t) }
+{
+    let late = reserve(builder, 1)?;
+    drive_after(builder, late, net, one)?;
+    Ok(late)
+}
+
+/// A net that is 1 in the cycle after the last word moved, or in the first one of a slice without a word.
+fn ends(
+    builder: &mut Builder,
+    begun: NetId,
+    more: NetId,
+    moved: NetId,
+    last: NetId,
+    one: NetId,
+) -> Result<NetId, NoMemory>
+    requires begun { HasNet builder.old begun 1 }
+    requires more { HasNet builder.old more 1 }
+    requires moved { HasNet builder.old moved 1 }
+    requires last { HasNet builder.old last 1 }
+    requires one { IsOne builder.old one }
+    ensures fills { OnOk result (Fills builder.old builder.new []) }
+    ensures net { IfOk result (λ done. HasNet builder.new done 1) }
+    ensures on { IfOk result (λ done. (s : Signals) → RunsOn s builder.new.cells → (t : ℕ) → is_on s done t ≡ (was (λ u. is_on s moved u && is_on s last u) t || (is_on s begun t && not (is_on s more t)))) }
+{
+    let over = on_both(builder, moved, last)?;
+    let past = after(builder, over, one)?;
+    let none = on_not(builder, more)?;
+    let empty = on_both(builder, begun, none)?;
+    let done = on_either(builder, past, empty)?;
+    Ok(done)
+}
+
+/// Drives the nets of a unit.
+fn steer(
+    builder: &mut Builder,
+    wires: &Wires,
+    asks: NetId,
+    last: NetId,
+    number: NetId,
+    one: NetId,
+) -> Result<(), NoMemory>
+    requires wires { WiresFit builder.old wires.now }
+    requires asks { HasNet builder.old asks 1 }
+    requires last { HasNet builder.old last 1 }
+    requires number { HasNet builder.old number 32 }
+    requires one { IsOne builder.old one }
+    ensures fills { OnOk result (Fills builder.old builder.new (wires.now.request ∷ wires.now.last ∷ wires.now.address ∷ [])) }
+    ensures request { OnOk result ((s : Signals) → RunsOn s builder.new.cells → (t : ℕ) → s.net t wires.now.request ≡ s.net t asks) }
+    ensures last { OnOk result ((s : Signals) → RunsOn s builder.new.cells → (t : ℕ) → s.net t wires.now.last ≡ s.net t last) }
+    ensures address { OnOk result ((s : Signals) → RunsOn s builder.new.cells → (t : ℕ) → s.net t wires.now.address ≡ s.net t number) }
+{
+    connect(builder, wires.request, 1, asks, one)?;
+    connect(builder, wires.last, 1, last, one)?;
+    connect(builder, wires.address, 32, number, one)?;
+    Ok(())
+}
+
+/// The nets of a slice that moves: where it is asked for, where a word moves, and where it is done.
+#[derive(Clone, Copy, Debug)]
+struct Steering {
+    asks: NetId,
+    moved: NetId,
+    done: NetId,
+}
+
+/// Moves a slice that is walked through.
+fn control(
+    builder: &mut Builder,
+    wires: &Wires,
+    dims: &[u32],
+    walk: &Walk,
+    always: NetId,
+) -> Result<Steering, NoMemory>
+    requires wires { WiresFit builder.old wires.now }
+    requires walk { IsWalk builder.old walk.now }
+    requires one { IsOne builder.old always }
+    ensures fills { OnOk result (Fills builder.old builder.new (wires.now.request ∷ wires.now.last ∷ wires.now.address ∷ [])) }
+    ensures asks { IfOk result (λ m. HasNet builder.new m.asks 1) }
+    ensures moved { IfOk result (λ m. HasNet builder.new m.moved 1) }
+    ensures done { IfOk result (λ m. HasNet builder.new m.done 1) }
+    ensures moves { IfOk result (λ m. (s : Signals) (moves : List Move) → RunsOn s builder.new.cells → length dims.now ≡ length moves → WalksSlice s wires.now.start wires.now.ready moves walk.now → MovesSlice s wires.now dims.now moves (record { walk = walk.now; asks = m.asks; moved = m.moved; done = m.done })) }
+{
+    let more = walk.counted.more;
+    let number = address(builder, dims, &walk.counted.counters)?;
+    let begun = after(builder, wires.start, always)?;
+    let asks = on_both(builder, begun, more)?;
+    let moved = on_both(builder, wires.ready, more)?;
+    let done = ends(builder, begun, more, moved, walk.last, always)?;
+    steer(builder, wires, asks, walk.last, number, always)?;
+    Ok(Steering { asks, moved, done })
+}
+
+/// Moves a slice.
+pub(crate) fn move_slice(
+    alloc: Global,
+    builder: &mut Builder,
+    wires: &Wires,
+    dims: &[u32],
+    moves: &[Move],
+    always: NetId,
+) -> Result<Moving, NoMemory>
+    requires wires { WiresFit builder.old wires.now }
+    requires slice { SliceFits builder.old dims.now moves.now }
+    requires one { IsOne builder.old always }
+    ensures fills { OnOk result (Fills builder.old builder.new (wires.now.request ∷ wires.now.last ∷ wires.now.address ∷ [])) }
+    ensures nets { IfOk result (IsMoving builder.new) }
+    ensures moves { IfOk result (λ m. (s : Signals) → RunsOn s builder.new.cells → MovesSlice s wires.now dims.now moves.now m) }
+{
+    let walk = walk_through(alloc, builder, wires.start, wires.ready, moves)?;
+    let nets = control(builder, wires, dims, &walk, always)?;
+    Ok(Moving {
+        walk,
+        asks: nets.asks,
+        moved: nets.moved,
+        done: nets.done,
+    })
+}

@@ -1,0 +1,6 @@
+//! Laws of transfers: what one does that is started, whatever the cycles in which its channel is ready.
+#![tactic(auto)]
+
+mod laws;
+
+pub use laws::{loads_write, slices_move};
