@@ -1,0 +1,15 @@
+//! A worked loop. The function does nothing: what it ensures was worked out by hand.
+
+ghost use Rattle.std.specs.Prelude.{◌≡◌, [], ◌∷◌};
+ghost use Rattle.sp_core.specs.ExampleForms.{stages};
+ghost use Rattle.sp_tree.specs.declared.statement.Comb.TheVariants as combiner;
+ghost use Rattle.sp_words.specs.Types.{int_type};
+ghost use Rattle.sp_laned.specs.Marks.{is_other, reduced};
+ghost use Rattle.sp_lane_reductions.specs.Examples.{counted, summed_stages, summed_core};
+ghost use Rattle.sp_lane_reductions.specs.Reduction.{own_stages, LastReduces};
+
+/// Its last stage combines a word of the loop's own register, and the other stage doesn't name the accumulator.
+pub fn worked_reduction()
+    ensures own { own_stages summed_stages ≡ stages (counted ∷ []) }
+    ensures reduces { LastReduces summed_core (2 ∷ []) (is_other (reduced 0 0 1 int_type combiner.Add)) summed_stages }
+{}
