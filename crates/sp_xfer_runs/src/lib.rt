@@ -3,4 +3,4 @@
 
 mod laws;
 
-pub use laws::{loads_write, slices_move};
+pub use laws::{loads_write, slices_are_loops, slices_move};
