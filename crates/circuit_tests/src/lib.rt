@@ -2,6 +2,8 @@
 #![tactic(auto)]
 
 #[cfg(test)]
+mod beats;
+#[cfg(test)]
 mod counters;
 #[cfg(test)]
 mod ctrl;
