@@ -1,5 +1,5 @@
 -- What is known of a slice that moves as the draft grows.
-use Rattle.std.proofs.Common.{◌≡◌, ◌≢◌, ℕ, zero, suc, Bool, false, List, [], ◌∷◌, length, Contains, All, refl, sym, ◌∙◌, arith}
+use Rattle.std.proofs.Common.{◌≡◌, ◌≢◌, ℕ, zero, suc, Bool, false, List, [], ◌∷◌, length, Contains, All, refl, sym, ◌∙◌, arith, true, ap, ap₂}
 use Rattle.std.proofs.lemmas.List.Elements.{All-nil, All-cons, All-head, All-tail}
 use Rattle.std.proofs.lemmas.Option.{slice_get_within}
 use Rattle.sp_netlist.specs.Draft.{Draft}
@@ -20,7 +20,8 @@ use Rattle.sp_slices.proofs.Standing.{moves_stay, counters_stay, axes_stay, as_m
 use Rattle.sp_xfer.specs.declared.part.Moving.{Moving}
 use Rattle.sp_xfer.specs.declared.part.Wires.{Wires}
 use Rattle.sp_xfer.specs.Fits.{WiresFit, SliceFits, IsMoving}
-use Rattle.sp_xfer.specs.Moving.{was}
+use Rattle.sp_xfer.specs.Moving.{was, words_at}
+use Rattle.sp_xfer.specs.Ahead.{are_over, look_offsets, more_index}
 
 -- a register that is driven so
 pub was_on : (late next : ℕ → Bool) → late 0 ≡ false → ((t : ℕ) → late (suc t) ≡ next t) → (t : ℕ) → late t ≡ was next t
@@ -93,3 +94,34 @@ offsets_stand d (Range x y ∷ moves) (a ∷ axes) h = All-cons (λ net. HasNet 
 
 pub nets_stay : (a b : Draft) (nets : List ℕ) → Grows a b → All (λ net. HasNet a net 32) nets → All (λ net. HasNet b net 32) nets
 nets_stay a b nets g h = λ k d l. HasNet-stays a b _ 32 g (h k d l)
+
+pub no_over : (s : Signals) (moves : List Move) (axes : List Axis) (t : ℕ) → moves ≡ [] → are_over s moves axes t ≡ true
+no_over s moves axes t e = ap (λ ms. are_over s ms axes t) e
+
+pub no_over_axes : (s : Signals) (moves : List Move) (axes : List Axis) (t : ℕ) → axes ≡ [] → are_over s moves axes t ≡ true
+no_over_axes s [] axes t e = refl
+no_over_axes s (m ∷ moves) axes t e = ap (λ xs. are_over s (m ∷ moves) xs t) e
+
+pub no_looks : (s : Signals) (start : ℕ) (moves : List Move) (axes : List Axis) (t : ℕ) → moves ≡ [] → look_offsets s start moves axes t ≡ []
+no_looks s start moves axes t e = ap (λ ms. look_offsets s start ms axes t) e
+
+pub no_looks_axes : (s : Signals) (start : ℕ) (moves : List Move) (axes : List Axis) (t : ℕ) → axes ≡ [] → look_offsets s start moves axes t ≡ []
+no_looks_axes s start [] axes t e = refl
+no_looks_axes s start (m ∷ moves) axes t e = ap (λ xs. look_offsets s start (m ∷ moves) xs t) e
+
+pub index_nets : (d : Draft) (m : Move) (net : ℕ) (nets : List ℕ) → HasNet d net 32 → All (λ n. HasNet d n 32) nets → All (λ n. HasNet d n 32) (more_index m net nets)
+index_nets d (One i) net nets h hs = hs
+index_nets d (Range x y) net nets h hs = All-cons (λ n. HasNet d n 32) net nets h hs
+
+pub index_words : (s : Signals) (t : ℕ) (m : Move) (net w : ℕ) (nets ws : List ℕ) → s.net t net ≡ w → words_at s t nets ≡ ws → words_at s t (more_index m net nets) ≡ more_index m w ws
+index_words s t (One i) net w nets ws e f = f
+index_words s t (Range x y) net w nets ws e f = ap₂ (λ a b. a ∷ b) e f
+
+pub wire_past : (a b : Draft) (x y z net width : ℕ) → Fills a b (x ∷ y ∷ z ∷ []) → x ≢ net → y ≢ net → z ≢ net → IsWire a net width → IsWire b net width
+wire_past a b x y z net width f px py pz h = wire_stays a b net width f.grows (f.still_open net (wire_open a net width h) not_there) h
+  where
+    not_there : Contains (x ∷ y ∷ z ∷ []) net → ⊥
+    not_there (zero, l, e) = px e
+    not_there (suc zero, l, e) = py e
+    not_there (suc (suc zero), l, e) = pz e
+    not_there (suc (suc (suc k)), l, e) = absurd (omega (arith, l))

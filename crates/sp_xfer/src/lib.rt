@@ -2,9 +2,12 @@
 //! its words move one after the other.
 #![tactic(auto)]
 
+mod ahead;
 mod loads;
 mod moving;
 mod part;
+mod stores;
 
 pub use loads::emit_load;
-pub use part::{Load, Loaded, Moving, Wires};
+pub use part::{Load, Loaded, Moving, Store, Stored, Wires};
+pub use stores::emit_store;
