@@ -1,0 +1,25 @@
+//! A law of trees of control. The function does nothing: what it ensures is the law.
+
+ghost use Rattle.sp_core.specs.PlainCore.{PlainCore};
+ghost use Rattle.sp_plan.specs.PlainPlan.{PlainPlan};
+ghost use Rattle.sp_machine.specs.Transfers.{Delays};
+ghost use Rattle.sp_tree_control.specs.Laws.{TreesDo};
+
+use sp_node_control::{branches_of_nodes_work, loops_of_nodes_work, machines_of_nodes_work};
+use sp_node_fits::{parts_fit, stages_take_time};
+use sp_node_runs::{bodies_come_in_turn, sides_come_in_turn, stages_come_in_turn};
+
+/// Where inner bodies, transfers and lists of operations do the runs that the timeline gives them, and each node's circuit is put
+/// together of those of its parts, the whole does its runs: it is done exactly where they are over, up to a cycle.
+pub fn trees_do_their_runs()
+    ensures { (core : PlainCore) (plan : PlainPlan) (delays : Delays) → TreesDo core plan delays }
+{
+    branches_of_nodes_work();
+    machines_of_nodes_work();
+    loops_of_nodes_work();
+    parts_fit();
+    stages_take_time();
+    sides_come_in_turn();
+    bodies_come_in_turn();
+    stages_come_in_turn();
+}
