@@ -19,3 +19,5 @@ mod netlist_check;
 mod pipe;
 #[cfg(test)]
 mod sequence;
+#[cfg(test)]
+mod worked_parts;

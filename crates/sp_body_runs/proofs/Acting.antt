@@ -1,5 +1,5 @@
 -- Accesses act where they were made.
-use Rattle.std.proofs.Common.{◌≡◌, ℕ, zero, suc, ◌+◌, ◌*◌, ◌<◌, ◌≤◌, ◌⊎◌, inl, inr, Bool, true, false, ◌&&◌, List, [], ◌∷◌, length, map, slice_index_or, refl, sym, ap, subst, ◌∙◌, arith}
+use Rattle.std.proofs.Common.{◌≡◌, ℕ, zero, suc, ◌+◌, ◌*◌, ◌<◌, ◌≤◌, ◌⊎◌, inl, inr, Bool, true, ◌&&◌, List, [], ◌∷◌, length, map, refl, sym, ap, ◌∙◌, arith}
 use Rattle.std.specs.List.{Contains}
 use Rattle.std.proofs.lemmas.Bool.{and_parts}
 use Rattle.sp_netlist.specs.Draft.{Draft}
@@ -9,16 +9,15 @@ use Rattle.sp_gates.specs.Tested.{is_on}
 use Rattle.sp_core.specs.PlainCore.{PlainOp}
 use Rattle.sp_pipe.specs.declared.part.PipeOp.{PipeOp}
 use Rattle.sp_pipe.specs.Acts.{ActsAt}
-use Rattle.sp_pipe.specs.Issues.{after, IssuesOne, IssuesAll}
-use Rattle.sp_pipe.specs.Laws.{issue_cycle}
+use Rattle.sp_pipe.specs.Issues.{IssuesOne, IssuesAll}
 use Rattle.sp_pipe.specs.Right.{IsAt}
 use Rattle.sp_body_acts.specs.Entries.{entry_at}
 use Rattle.sp_body_acts.specs.Laws.{is_made, ActsAsMade}
 use Rattle.sp_body_acts.proofs.Agreeing.{acts_agree}
-use Rattle.sp_body_runs.specs.Acting.{BodyRun, begun, entries_of, group_cycle, DoesGroup, Acts, AccessRight}
+use Rattle.sp_body_runs.specs.Acting.{BodyRun, begun, entries_of, group_cycle, Acts, AccessRight}
 use Rattle.sp_body_runs.specs.Laws.{AreDone, BodyWorks}
 use Rattle.sp_body_runs.specs.Runs.{Begun, took, IsOnAt, AreApart, Begins, Issues, Ends, Tell}
-use Rattle.sp_body_runs.proofs.Issuing.{all_right, later_was, later_is}
+use Rattle.sp_body_runs.proofs.Issuing.{spent_first, all_right, later_was, later_is}
 
 -- a run, and when it began
 begun_of : (runs : List BodyRun) (r : BodyRun) → Contains runs r → Contains (map begun runs) (begun r)
@@ -106,7 +105,7 @@ module _ (start issue done : ℕ → Bool) (interval latency last : ℕ) (runs :
 
   took_one : (n : ℕ) → n ≡ 1 → took interval latency n ≡ 2 + latency
   took_one zero e = absurd (omega (arith, e))
-  took_one (suc zero) e = omega arith
+  took_one (suc zero) e = ap (λ n. 2 + n) (spent_first interval latency)
   took_one (suc (suc n)) e = absurd (omega (arith, e))
 
   one_ends : (t : ℕ) → t ≤ last → done t ≡ true → Ends interval latency runs t

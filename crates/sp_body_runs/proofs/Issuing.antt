@@ -5,11 +5,24 @@ use Rattle.std.proofs.Math.Nat.{mul-le-mul_right, suc-mul}
 use Rattle.std.proofs.lemmas.Bool.{lt-ltb, le-ltb, ltb-true, ltb-false, and_parts, and_from, or_left, or_right}
 use Rattle.sp_pipe.specs.Issues.{after, later, due, is_end, IssuesAll}
 use Rattle.sp_pipe.specs.Laws.{issue_cycle}
-use Rattle.sp_body_runs.specs.Runs.{Begun, took, IsOnAt, AreApart, Begins, Issues, Ends, IsCurrent, Tell}
+use Rattle.sp_body_runs.specs.Runs.{Begun, spent, took, IsOnAt, AreApart, Begins, Issues, Ends, IsCurrent, Tell}
 use Rattle.sp_body_runs.specs.Laws.{IssueRight}
 
 pub more_steps : (k i : ℕ) → suc k * i ≡ i + k * i
 more_steps k i = let p = suc-mul k i in omega (arith, p)
+
+-- where something takes time
+pub spent_some : (i l n : ℕ) → 1 ≤ l → spent i l n ≡ n * i + l
+spent_some i zero n some = absurd (omega (arith, some))
+spent_some i (suc l) n some = refl
+
+pub spent_first : (i l : ℕ) → spent i l 0 ≡ l
+spent_first i zero = refl
+spent_first i (suc l) = omega arith
+
+took_at_once : (i n : ℕ) → took i 0 n ≡ 2
+took_at_once i zero = refl
+took_at_once i (suc n) = omega arith
 
 pub either : (b : Bool) → (b ≡ true) ⊎ (b ≡ false)
 either true = inl refl
@@ -81,14 +94,14 @@ module _ (start more step issue done : ℕ → Bool) (interval latency last : �
     where
       go : (n : ℕ) → k < n → issue_cycle r.cycle interval k + latency < r.cycle + took interval latency n
       go zero m = absurd (omega (arith, m))
-      go (suc n) m = let p : k * interval ≤ n * interval = mul-le-mul_right interval (omega (arith, m)) in omega (arith, p)
+      go (suc n) m = let p : k * interval ≤ n * interval = mul-le-mul_right interval (omega (arith, m)) in let q = spent_some interval latency n some_latency in omega (arith, p, q)
 
   took_some : (r : Begun) → r.cycle + 1 < r.cycle + took interval latency r.groups
   took_some r = go r.groups
     where
       go : (n : ℕ) → r.cycle + 1 < r.cycle + took interval latency n
       go zero = omega arith
-      go (suc n) = omega (arith, some_latency)
+      go (suc n) = let q = spent_some interval latency n some_latency in omega (arith, some_latency, q)
 
   -- a run is the current one while it goes on
   pub current : (r : Begun) (t : ℕ) → Contains runs r → r.cycle < t → t ≤ r.cycle + took interval latency r.groups → IsCurrent interval latency runs r t
@@ -244,7 +257,7 @@ module _ (start more step issue done : ℕ → Bool) (interval latency last : �
       where
         by_last : (r : Begun) (k w : ℕ) → t ≡ suc w + l → w ≡ issue_cycle r.cycle interval k → k < r.groups → r.groups ≤ suc k → (n : ℕ) → n ≡ r.groups → suc t ≡ r.cycle + took interval latency n
         by_last r k w e at below over zero same = absurd (omega (arith, below, same))
-        by_last r k w e at below over (suc n) same = let f : k ≡ n = omega (arith, below, over, same) in let g = ap (λ x. x * interval) f in omega (arith, e, at, g, one_less)
+        by_last r k w e at below over (suc n) same = let f : k ≡ n = omega (arith, below, over, same) in let g = ap (λ x. x * interval) f in let q = spent_some interval latency n some_latency in omega (arith, e, at, g, one_less, q)
 
         by_cycle : (u : ℕ) → t ≡ u + l → last_issued u ≡ true → Ends interval latency runs t
         by_cycle zero e h = absurd (cc)
@@ -274,7 +287,8 @@ module _ (start more step issue done : ℕ → Bool) (interval latency last : �
         (is_not (more (suc r.cycle)) (ap more (omega arith) ∙ tell ∙ le-ltb 0 r.groups (omega (arith, same)))))
     all_end r there (suc n) same t m e =
         let below : n < r.groups = omega (arith, same) in
-        let now : t ≡ suc (issue_cycle r.cycle interval n) + l = omega (arith, e, one_less) in
+        let q = spent_some interval latency n some_latency in
+        let now : t ≡ suc (issue_cycle r.cycle interval n) + l = omega (arith, e, one_less, q) in
         let tell = after_group r n there below (omega (arith, now, m)) in
         ends_at t ∙ or_right (after start t && not (more t)) (later l last_issued t)
         (ap (later l last_issued) now ∙ later_is last_issued l (suc (issue_cycle r.cycle interval n))
@@ -290,3 +304,21 @@ module _ (start more step issue done : ℕ → Bool) (interval latency last : �
       by_latency : (n : ℕ) → latency ≡ n → IsOnAt done (Ends interval latency runs) last
       by_latency zero e = absurd (omega (arith, e, some_latency))
       by_latency (suc l) e = ends_right l e
+
+-- of latency 0
+pub ends_at_once : (start more step issue done : ℕ → Bool) (interval last : ℕ) (runs : List Begun) → IssuesAll start more step issue done interval 0 → IsOnAt start (Begins interval 0 runs) last → IsOnAt done (Ends interval 0 runs) last
+ends_at_once start more step issue done interval last runs goes starts = record { on = on; only = only }
+  where
+    on : (t : ℕ) → t ≤ last → Ends interval 0 runs t → done t ≡ true
+    on t l (r, there, e) =
+        let w = took_at_once interval r.groups in
+        let now : t ≡ suc r.cycle = omega (arith, e, w) in
+        ap done now ∙ goes.ends (suc r.cycle) ∙ starts.on r.cycle (omega (arith, now, l)) (r, there, refl)
+
+    only : (t : ℕ) → t ≤ last → done t ≡ true → Ends interval 0 runs t
+    only zero l h = absurd (let e = sym (goes.ends 0) ∙ h in cc (e))
+    only (suc v) l h =
+        let b = starts.only v (omega (arith, l)) (sym (goes.ends (suc v)) ∙ h) in
+        let w = took_at_once interval b.0.groups in
+        let at = b.2 in
+        (b.0, b.1, omega (arith, at, w))

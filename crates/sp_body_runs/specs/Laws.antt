@@ -24,6 +24,12 @@ BodiesIssue =
     (start more step issue done : ℕ → Bool) (interval latency last : ℕ) (runs : List Begun) → 1 ≤ interval → 1 ≤ latency → IssuesAll start more step issue done interval latency
     → AreApart interval latency runs → IsOnAt start (Begins interval latency runs) last → Tell interval latency runs more last → IssueRight issue done interval latency runs last
 
+-- a body of latency 0 is done in the cycle after each of its starts
+abbrev pub BodiesEndAtOnce : Type 0
+BodiesEndAtOnce =
+    (start more step issue done : ℕ → Bool) (interval last : ℕ) (runs : List Begun) → IssuesAll start more step issue done interval 0
+    → IsOnAt start (Begins interval 0 runs) last → IsOnAt done (Ends interval 0 runs) last
+
 -- in each run the groups are what the operations did
 abbrev pub AreDone : (interval : ℕ) → Draft → List PlainOp → List PipeOp → Signals → (last : ℕ) → List BodyRun → Type 0
 AreDone interval d ops ps s last runs = (r : BodyRun) (g : ℕ) → Contains runs r → g < length r.groups → DoesGroup interval d ops ps s last r g

@@ -9,10 +9,15 @@ pub record Begun : Type 0 where
   pub cycle : ℕ
   pub groups : ℕ
 
+-- how many cycles pass from the issue of its first group on, with so many more; one of latency 0 is over where that is issued
+abbrev pub spent : (interval latency more : ℕ) → ℕ
+spent ii zero n = 0
+spent ii (suc l) n = n * ii + suc l
+
 -- how many cycles it takes: the next part starts that much later
 abbrev pub took : (interval latency groups : ℕ) → ℕ
 took ii latency zero = 2
-took ii latency (suc n) = 2 + (n * ii + latency)
+took ii latency (suc n) = 2 + spent ii latency n
 
 -- a wire is 1 in the cycles of which this holds, up to a last one, and in no other
 pub record IsOnAt (wire : ℕ → Bool) (Holds : ℕ → Type 0) (last : ℕ) : Type 0 where

@@ -1,11 +1,16 @@
 //! What the circuit of an inner body does over all of its runs. Each function does nothing: what it ensures is the law.
 
-ghost use Rattle.sp_body_runs.specs.Laws.{BodiesAct, BodiesIssue, BodiesWork, SinglesWork};
+ghost use Rattle.sp_body_runs.specs.Laws.{BodiesAct, BodiesEndAtOnce, BodiesIssue, BodiesWork, SinglesWork};
 
 /// Where the starts of a body are those of its runs, groups are issued in their cycles and in no other, and each run is over
 /// when it is to.
 pub fn bodies_issue()
     ensures { BodiesIssue }
+{}
+
+/// A body of latency 0 takes two cycles, however many groups it has.
+pub fn bodies_end_at_once()
+    ensures { BodiesEndAtOnce }
 {}
 
 /// Where its groups are issued in the cycles of its runs, each access acts where the core made it and nowhere else, with the

@@ -3,4 +3,4 @@
 
 mod laws;
 
-pub use laws::{bodies_act, bodies_issue, bodies_work, singles_work};
+pub use laws::{bodies_act, bodies_end_at_once, bodies_issue, bodies_work, singles_work};

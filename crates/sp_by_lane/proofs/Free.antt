@@ -12,7 +12,7 @@ use Rattle.sp_core.specs.NodeRules.{with_state, is_span_right, is_slice_right, i
 use Rattle.sp_core.specs.OperationRules.{is_access, names_rightly, is_operation_right, are_operations_right_after, are_operations_right, is_bound, is_counter_right}
 use Rattle.sp_core.specs.PlainCore.{PlainOp, PlainCounter, PlainSpan, single, range, PlainNode, PlainStages, inner, outer, fsm, branch, load, store, sparse, no_stage, more_stage, PlainCore}
 use Rattle.sp_core.specs.Typed.{Given, given_type}
-use Rattle.sp_unrolled_rules.specs.Right.{EachRight, AllRight}
+use Rattle.sp_lane_rules.specs.UnrolledRight.{EachRight, AllRight}
 use Rattle.sp_plan.specs.Named.{named_by, list_names, counters_names, spans_names, names, stages_names}
 use Rattle.sp_overlap.proofs.Lanes.{or_choose}
 use Rattle.sp_overlap.proofs.Parts.{among_right, not_left}

@@ -13,22 +13,22 @@ use Rattle.sp_core.specs.PlainCore.{PlainCounter, PlainMem, PlainNode, PlainStag
 use Rattle.sp_lanes.specs.Order.{memory_order, occurrence}
 use Rattle.sp_lanes.specs.Unrolled.{unrolled, owned_in_lanes, node_in, nodes_in}
 use Rattle.sp_lanes.specs.Within.{Within, in_lane, counters_in}
-use Rattle.sp_copies.specs.Copies.{occurrences, copies_in_stages, OwnInLanes}
-use Rattle.sp_copies.proofs.Found.{are_apart}
-use Rattle.sp_copies.proofs.MemoryRules.{count_among}
-use Rattle.sp_copies.proofs.Owners.{lane_fits, own_fits}
-use Rattle.sp_unrolled_rules.specs.Places.{GoTogether}
-use Rattle.sp_unrolled_rules.proofs.Places.{among_both, copy_there, lane_together}
-use Rattle.sp_unrolled_rules.proofs.Whole.{each_right}
-use Rattle.sp_combined_rules.specs.Standing.{numbers_of, Combines, Combine}
-use Rattle.sp_combined_rules.proofs.Following.{ZeroBut, zero_inside}
-use Rattle.sp_combined_rules.proofs.Tree.{node_kept}
-use Rattle.sp_live_lanes.specs.Stores.{IsCopy}
-use Rattle.sp_lane_inners.specs.Along.{StandsIn}
-use Rattle.sp_lane_inners.proofs.Owners.{each_owned}
-use Rattle.sp_lane_outers.specs.Stages.{AllStandIn}
-use Rattle.sp_lane_stages.proofs.Owned.{lane_apart, stages_apart}
-use Rattle.sp_lane_stages.proofs.Passing.{neither}
+use Rattle.sp_lane_rules.specs.Copies.{occurrences, copies_in_stages, OwnInLanes}
+use Rattle.sp_lane_rules.proofs.CopiesFound.{are_apart}
+use Rattle.sp_lane_rules.proofs.CopiesMemoryRules.{count_among}
+use Rattle.sp_lane_rules.proofs.CopiesOwners.{lane_fits, own_fits}
+use Rattle.sp_lane_rules.specs.UnrolledPlaces.{GoTogether}
+use Rattle.sp_lane_rules.proofs.UnrolledPlaces.{among_both, copy_there, lane_together}
+use Rattle.sp_lane_rules.proofs.UnrolledWhole.{each_right}
+use Rattle.sp_lane_rules.specs.CombinedStanding.{numbers_of, Combines, Combine}
+use Rattle.sp_lane_rules.proofs.CombinedFollowing.{ZeroBut, zero_inside}
+use Rattle.sp_lane_rules.proofs.CombinedTree.{node_kept}
+use Rattle.sp_lane_groups.specs.LiveStores.{IsCopy}
+use Rattle.sp_lane_groups.specs.InnersAlong.{StandsIn}
+use Rattle.sp_lane_groups.proofs.InnersOwners.{each_owned}
+use Rattle.sp_lane_trees.specs.OutersStages.{AllStandIn}
+use Rattle.sp_lane_trees.proofs.StagesOwned.{lane_apart, stages_apart}
+use Rattle.sp_lane_trees.proofs.StagesPassing.{neither}
 use Rattle.sp_plan.specs.Named.{uses}
 use Rattle.sp_overlap.proofs.Lanes.{or_choose}
 use Rattle.sp_overlap.proofs.Parts.{among_left, among_right}

@@ -17,24 +17,24 @@ use Rattle.sp_sugar.proofs.Cores.{core_is_right}
 use Rattle.sp_lanes.specs.Order.{memory_order}
 use Rattle.sp_lanes.specs.Unrolled.{unrolled, stages_in, stages_by_lane, stage_after, combination_of, owned_in_lanes, combination_in, node_in, left_as_they_are, nodes_in}
 use Rattle.sp_lanes.specs.Within.{Within, outside, owning, in_lane, counters_in}
-use Rattle.sp_copies.specs.Copies.{OwnsInLanes, OwnInLanes}
-use Rattle.sp_unrolled_rules.specs.Right.{EachRight}
-use Rattle.sp_unrolled_rules.proofs.Places.{lanes_kept}
-use Rattle.sp_unrolled_rules.proofs.Tree.{lanes_positive}
-use Rattle.sp_unrolled_rules.proofs.Whole.{each_right}
-use Rattle.sp_laned.proofs.Marked.{programs_laned}
-use Rattle.sp_laned.proofs.Ports.{may_have_lanes}
-use Rattle.sp_combined_rules.specs.Standing.{numbers_of, MayFollow, Combines, Combine}
-use Rattle.sp_combined_rules.proofs.Following.{ZeroBut, zero_inside}
-use Rattle.sp_combined_rules.proofs.Tree.{node_kept}
+use Rattle.sp_lane_rules.specs.Copies.{OwnsInLanes, OwnInLanes}
+use Rattle.sp_lane_rules.specs.UnrolledRight.{EachRight}
+use Rattle.sp_lane_rules.proofs.UnrolledPlaces.{lanes_kept}
+use Rattle.sp_lane_rules.proofs.UnrolledTree.{lanes_positive}
+use Rattle.sp_lane_rules.proofs.UnrolledWhole.{each_right}
+use Rattle.sp_lane_cores.proofs.LanedMarked.{programs_laned}
+use Rattle.sp_lane_cores.proofs.LanedPorts.{may_have_lanes}
+use Rattle.sp_lane_rules.specs.CombinedStanding.{numbers_of, MayFollow, Combines, Combine}
+use Rattle.sp_lane_rules.proofs.CombinedFollowing.{ZeroBut, zero_inside}
+use Rattle.sp_lane_rules.proofs.CombinedTree.{node_kept}
 use Rattle.sp_lane_cores.proofs.Apart.{program_apart}
-use Rattle.sp_lane_cores.proofs.Laned.{node_combines}
+use Rattle.sp_lane_cores.proofs.LanedWhole.{node_combines}
 use Rattle.sp_lane_groups.specs.Groups.{lanes_from}
-use Rattle.sp_lane_inners.specs.Along.{StandsIn}
-use Rattle.sp_lane_nodes.specs.Laws.{BranchesStand, FsmsStand}
-use Rattle.sp_lane_outers.specs.Laws.{OutersStand}
-use Rattle.sp_lane_outers.specs.Stages.{AllStandIn}
-use Rattle.sp_first_resets.specs.Laws.{RootStands}
+use Rattle.sp_lane_groups.specs.InnersAlong.{StandsIn}
+use Rattle.sp_lane_trees.specs.NodesLaws.{BranchesStand, FsmsStand}
+use Rattle.sp_lane_trees.specs.OutersLaws.{OutersStand}
+use Rattle.sp_lane_trees.specs.OutersStages.{AllStandIn}
+use Rattle.sp_lane_groups.specs.FirstLaws.{RootStands}
 use Rattle.sp_plan.specs.Named.{uses}
 use Rattle.sp_plan.specs.Slots.{runs_of, is_of_all, run_at}
 use Rattle.sp_overlap.specs.Apart.{node_at, AreOfOneLane}

@@ -4,9 +4,8 @@ ghost use Rattle.sp_tree.specs.Invariant.{IsProgram};
 ghost use Rattle.sp_tree.specs.PlainProgram.{PlainProgram};
 ghost use Rattle.sp_by_lane.specs.Laws.{ProgramIsByLane};
 
-use sp_first_resets::programs_stand;
-use sp_lane_nodes::{branches_stand, fsms_stand};
-use sp_lane_outers::outers_stand;
+use sp_lane_groups::programs_stand;
+use sp_lane_trees::{branches_stand, fsms_stand, outers_stand};
 
 /// In the core of a program whose lanes stand one after the other, what a loop owns is used in one lane alone, and after all lanes.
 pub fn programs_are_by_lane()

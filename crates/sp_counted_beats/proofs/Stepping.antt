@@ -18,7 +18,7 @@ use Rattle.sp_beat_runs.specs.Laws.{BeatsWork, TellsMore}
 use Rattle.sp_beat_runs.specs.Runs.{BeatsRan, beats_of, beat_cycle, beat_lasts, beats_took, whole_run, AreInTurn, steps_in, step_cycle}
 use Rattle.sp_beat_runs.proofs.Beating.{no_later, no_start, no_step, step_at}
 use Rattle.sp_beat_runs.proofs.Whole.{loops_work}
-use Rattle.sp_counted_beats.specs.Laws.{AreInSteps, CountedLoopsWork}
+use Rattle.sp_counted_beats.specs.Laws.{AreInSteps, CountedLoopsWork, CountersStep}
 
 on_less : (wire : ℕ → Bool) (Holds : ℕ → Type 0) (n last : ℕ) → n ≤ last → IsOnAt wire Holds last → IsOnAt wire Holds n
 on_less wire Holds n last l h = record { on = λ t m. h.on t (omega (arith, l, m)); only = λ t m. h.only t (omega (arith, l, m)) }
@@ -51,6 +51,9 @@ module _ (s : Signals) (part : Counters) (nets : Counted) (shape : List (List �
       (subst (λ k. AreAtGroup s part nets (loops r) k (r.cycle + 1 + beats_took shape b r)) (steps_are b l m)
       (run_through_groups s part nets (loops r) r.cycle (beats_took shape b r) counts are (starts.on r.cycle (omega (arith, m)) (r, there, refl))
       (λ t a z. no_start shape runs turns (is_on s part.start) (is_on s part.step) n starts steps r t there a (omega (arith, z, later)) (omega (arith, z, m)))))
+
+pub counters_step : CountersStep
+counters_step s part nets shape runs loops last counts turns starts steps are r b there l m = at_group s part nets shape runs loops counts turns last starts steps r there (are r there (omega (arith, m))) b l m
 
 pub counted_loops_work : CountedLoopsWork
 counted_loops_work s part nets slots firsts done last runs loops counts goes turns starts are does = (all last (omega arith), works last (omega arith) (all last (omega arith)))

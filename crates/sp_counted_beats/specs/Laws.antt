@@ -1,5 +1,5 @@
 -- What a loop in beats does over all of its runs with the counters that it steps, as statements.
-use Rattle.std.specs.Prelude.{◌≡◌, ℕ, ◌≤◌, List, length, map}
+use Rattle.std.specs.Prelude.{◌≡◌, ℕ, suc, ◌≤◌, List, length, map}
 use Rattle.std.specs.List.{Contains}
 use Rattle.sp_netlist.specs.Signals.{Signals}
 use Rattle.sp_gates.specs.Tested.{is_on}
@@ -12,9 +12,10 @@ use Rattle.sp_body_runs.specs.Runs.{IsOnAt}
 use Rattle.sp_control_runs.specs.Parts.{Begins}
 use Rattle.sp_sequence.specs.declared.part.Slot.{Slot}
 use Rattle.sp_beats.specs.Beats.{RunsBeats}
+use Rattle.sp_sequence_runs.specs.Chains.{At}
 use Rattle.sp_sequence_runs.specs.Runs.{shape_of}
 use Rattle.sp_beat_runs.specs.Laws.{SlotsDo, BeatsWork}
-use Rattle.sp_beat_runs.specs.Runs.{BeatsRan, beats_of, beat_cycle, whole_run, AreInTurn}
+use Rattle.sp_beat_runs.specs.Runs.{BeatsRan, beats_of, beat_cycle, whole_run, AreInTurn, steps_in, step_cycle}
 
 -- in each run that begins by a cycle the bounds of the counters are those of its loops, which have as many groups as the run
 abbrev pub AreLoopsOf : Signals → Counters → (loops : BeatsRan → List Loop) → List BeatsRan → (last : ℕ) → Type 0
@@ -32,3 +33,11 @@ CountedLoopsWork =
     → RunsBeats s (is_on s part.start) (is_on s nets.more) (is_on s part.step) slots firsts (is_on s done) → AreInTurn (shape_of slots) runs → IsOnAt (is_on s part.start) (Begins (map (whole_run (shape_of slots)) runs)) last
     → AreLoopsOf s part loops runs last → ((n : ℕ) → n ≤ last → AreInSteps s part nets loops (shape_of slots) runs n → SlotsDo s slots n runs)
     → AreInSteps s part nets loops (shape_of slots) runs last × BeatsWork s part.step slots firsts done last runs
+
+-- Where up to a cycle counters are started in the cycles of the runs, with the bounds of their loops there, and go on in their steps,
+-- they are right in each step up to the cycle after it.
+abbrev pub CountersStep : Type 0
+CountersStep =
+    (s : Signals) (part : Counters) (nets : Counted) (shape : List (List ℕ)) (runs : List BeatsRan) (loops : BeatsRan → List Loop) (last : ℕ) → CountsGroups s part nets → AreInTurn shape runs
+    → IsOnAt (is_on s part.start) (At (λ (r : BeatsRan). r.cycle) runs) last → IsOnAt (is_on s part.step) (At (step_cycle shape) (steps_in shape runs)) last
+    → ((r : BeatsRan) → Contains runs r → r.cycle ≤ last → AreLoopsAt s r.cycle part.counters.items (loops r)) → AreInSteps s part nets loops shape runs (suc last)

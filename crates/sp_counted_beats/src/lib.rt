@@ -3,4 +3,4 @@
 
 mod laws;
 
-pub use laws::counted_loops_work;
+pub use laws::{counted_loops_work, counters_step};

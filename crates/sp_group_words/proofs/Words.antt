@@ -80,7 +80,7 @@ module _ (s : Signals) (shape : List (List ℕ)) (runs : List BeatsRan) (step : 
       next r g i l m =
           let e : g + suc k ≡ suc (g + k) = omega arith in
           let f : beat_cycle shape (g + suc k) r ≡ suc (beat_cycle shape (g + k) r + beat_lasts shape (g + k) r) = ap (λ b. beat_cycle shape b r) e ∙ (omega arith) in
-          work r g (beat_cycle shape (g + suc k) r) i l (omega (arith, f), omega (arith, f), m)
+          work r g (beat_cycle shape (g + suc k) r) i l (omega (arith, f), omega (arith, f), omega (arith, m))
 
 pub words_go_along : WordsGoAlong
 words_go_along s shape runs step before rows last moves long fits turns steps =

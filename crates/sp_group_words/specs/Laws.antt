@@ -12,9 +12,10 @@ use Rattle.sp_beat_words.specs.Numbers.{copy_number, coming_number}
 use Rattle.sp_beat_words.specs.Words.{MoveOn}
 
 module _ (shape : List (List ℕ)) (r : BeatsRan) (group slot : ℕ) (last : ℕ) where
-  -- a cycle of the beat in which a slot works on a group, after its first cycle and up to the next beat's, and not past the last one
+  -- a cycle of the beat in which a slot works on a group, after its first cycle and up to the next beat's, and one past the last
+  -- one at most
   abbrev pub IsAtWork : (t : ℕ) → Type 0
-  IsAtWork t = (beat_cycle shape (group + slot) r < t) × (t ≤ suc (beat_cycle shape (group + slot) r + beat_lasts shape (group + slot) r)) × (t ≤ last)
+  IsAtWork t = (beat_cycle shape (group + slot) r < t) × (t ≤ suc (beat_cycle shape (group + slot) r + beat_lasts shape (group + slot) r)) × (t ≤ suc last)
 
   -- the number of its copy, which comes in the first cycle of that beat and stays through it
   pub record HasNumber (start first : ℕ → Bool) (copies : ℕ) : Type 0 where

@@ -31,10 +31,10 @@ use Rattle.sp_sugar.specs.Uses.{uses, counters_use, are_using, is_using, names_a
 use Rattle.sp_sugar.specs.Values.{Sources, no_sources, with_state, in_register}
 use Rattle.sp_sugar.proofs.NodeSteps.{ending_is, ending_used}
 use Rattle.sp_sugar.proofs.UseLemmas.{used, only}
-use Rattle.sp_laned.specs.Marks.{Combination, folded, reduced, element, combination_ops}
-use Rattle.sp_laned.proofs.Earlier.{run_good, early_good}
-use Rattle.sp_combined_rules.specs.Standing.{numbers_of, AreApart}
-use Rattle.sp_combined_rules.proofs.Meets.{drop_front}
+use Rattle.sp_lane_cores.specs.LanedMarks.{Combination, folded, reduced, element, combination_ops}
+use Rattle.sp_lane_cores.proofs.LanedEarlier.{run_good, early_good}
+use Rattle.sp_lane_rules.specs.CombinedStanding.{numbers_of, AreApart}
+use Rattle.sp_lane_rules.proofs.CombinedMeets.{drop_front}
 use Rattle.sp_lane_cores.specs.Standing.{StandsApart, StandApart}
 use Rattle.sp_lane_cores.proofs.Forms.{met_by, meets}
 use Rattle.sp_lane_cores.proofs.Near.{AreNear, BareNear, bare_near, changed_near, code_near, HereNear, LaterNear, here_near, inner_near, later_near, rest_near, node_near, later_of}

@@ -23,12 +23,12 @@ use Rattle.sp_lanes.specs.Combined.{Meeting, meeting, takes}
 use Rattle.sp_sugar.specs.Combination.{operator_of, element_indices, is_last_at, conjunction, is_last_element}
 use Rattle.sp_sugar.specs.Operations.{Code, computes, literal_op, read_op, write_op, under, code, codes}
 use Rattle.sp_sugar.specs.Values.{no_sources}
-use Rattle.sp_laned.specs.Marks.{Combination, folded, reduced, element, combination_ops, IsCombined}
-use Rattle.sp_unrolled_rules.specs.Meetings.{given_of}
-use Rattle.sp_unrolled_rules.proofs.Givens.{append_none, given_length}
-use Rattle.sp_combined_rules.specs.Meetings.{IsEnded, IsMetFrom}
-use Rattle.sp_combined_rules.proofs.Meets.{take_front, drop_front}
-use Rattle.sp_combined_rules.proofs.Moves.{gives_front, split_after}
+use Rattle.sp_lane_cores.specs.LanedMarks.{Combination, folded, reduced, element, combination_ops, IsCombined}
+use Rattle.sp_lane_rules.specs.UnrolledMeetings.{given_of}
+use Rattle.sp_lane_rules.proofs.UnrolledGivens.{append_none, given_length}
+use Rattle.sp_lane_rules.specs.CombinedMeetings.{IsEnded, IsMetFrom}
+use Rattle.sp_lane_rules.proofs.CombinedMeets.{take_front, drop_front}
+use Rattle.sp_lane_rules.proofs.CombinedMoves.{gives_front, split_after}
 
 -- what a combination meets
 abbrev pub met_by : Combination → Meeting

@@ -6,14 +6,14 @@ use Rattle.sp_core.specs.Around.{nothing}
 use Rattle.sp_core.specs.PlainCore.{PlainCore}
 use Rattle.sp_sugar.specs.Core.{core_of}
 use Rattle.sp_sugar.proofs.Cores.{core_is_right}
-use Rattle.sp_laned.proofs.Marked.{programs_laned}
-use Rattle.sp_laned.proofs.Ports.{may_have_lanes}
-use Rattle.sp_unrolled_rules.proofs.Whole.{each_right}
-use Rattle.sp_unrolled_size.proofs.Whole.{program_small}
-use Rattle.sp_combined_rules.proofs.Whole.{keep_rules}
+use Rattle.sp_lane_cores.proofs.LanedMarked.{programs_laned}
+use Rattle.sp_lane_cores.proofs.LanedPorts.{may_have_lanes}
+use Rattle.sp_lane_rules.proofs.UnrolledWhole.{each_right}
+use Rattle.sp_lane_cores.proofs.SizeWhole.{program_small}
+use Rattle.sp_lane_rules.proofs.CombinedWhole.{keep_rules}
 use Rattle.sp_lane_cores.specs.Laws.{LanedKeepRules, StaysCore}
 use Rattle.sp_lane_cores.proofs.Apart.{program_apart}
-use Rattle.sp_lane_cores.proofs.Laned.{node_combines}
+use Rattle.sp_lane_cores.proofs.LanedWhole.{node_combines}
 
 pub laned_keep : (core : PlainCore) → LanedKeepRules core
 laned_keep core h owns written laned apart small =

@@ -4,9 +4,9 @@ use Rattle.sp_tree.specs.PlainProgram.{PlainProgram}
 use Rattle.sp_core.specs.Invariant.{IsCore, is_small}
 use Rattle.sp_core.specs.PlainCore.{PlainCore}
 use Rattle.sp_lanes.specs.Unrolled.{unrolled}
-use Rattle.sp_copies.specs.Copies.{OwnsInLanes}
-use Rattle.sp_copies.specs.Rules.{ArePortsWritten}
-use Rattle.sp_laned.specs.Marks.{IsLaned}
+use Rattle.sp_lane_rules.specs.Copies.{OwnsInLanes}
+use Rattle.sp_lane_rules.specs.CopiesRules.{ArePortsWritten}
+use Rattle.sp_lane_cores.specs.LanedMarks.{IsLaned}
 use Rattle.sp_sugar.specs.Core.{core_of}
 use Rattle.sp_lane_cores.specs.Standing.{StandsApart}
 

@@ -1,2 +1,9 @@
+pub mod EndingsEnding
+pub mod EndingsLaws
+pub mod LanedLaws
+pub mod LanedMarks
+pub mod LanedWeights
 pub mod Laws
+pub mod SizeLaws
+pub mod SizeWorked
 pub mod Standing

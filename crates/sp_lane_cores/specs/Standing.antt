@@ -2,7 +2,7 @@
 use Rattle.std.specs.Prelude.{◌<◌, ℕ, true, false, List, ◌++◌, drop, Option, Some, None}
 use Rattle.sp_core.specs.PlainCore.{PlainOp, PlainNode, PlainStages, inner, outer, fsm, branch, no_stage, more_stage}
 use Rattle.sp_lanes.specs.Combined.{meeting}
-use Rattle.sp_combined_rules.specs.Standing.{numbers_of, AreApart}
+use Rattle.sp_lane_rules.specs.CombinedStanding.{numbers_of, AreApart}
 
 -- a combination takes a word that stands before it
 abbrev pub TakesBefore : List PlainOp → Option ℕ → Type 0

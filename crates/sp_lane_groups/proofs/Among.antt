@@ -5,7 +5,7 @@ use Rattle.std.proofs.lemmas.Bool.Decides.{eqb_tells}
 use Rattle.std.specs.Prelude.{flat_map}
 use Rattle.sp_core.specs.Declarations.{is_among}
 use Rattle.sp_core.specs.Elements.{numbers_below}
-use Rattle.sp_unrolled_rules.proofs.Places.{among_both}
+use Rattle.sp_lane_rules.proofs.UnrolledPlaces.{among_both}
 
 pub or_left : (a b : Bool) → a ≡ true → (a || b) ≡ true
 or_left true b e = refl

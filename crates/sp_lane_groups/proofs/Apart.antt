@@ -7,10 +7,10 @@ use Rattle.sp_core.specs.PlainCore.{PlainCounter, PlainCore}
 use Rattle.sp_core.specs.Scope.{Scope}
 use Rattle.sp_lanes.specs.Order.{memory_order, occurrence}
 use Rattle.sp_lanes.specs.Within.{Within, in_lane}
-use Rattle.sp_copies.proofs.Found.{are_apart}
-use Rattle.sp_unrolled_rules.proofs.Places.{among_both}
-use Rattle.sp_live_lanes.specs.Stores.{AreCopies}
-use Rattle.sp_live_lanes.proofs.Copies.{copies_apart, copies_stand}
+use Rattle.sp_lane_rules.proofs.CopiesFound.{are_apart}
+use Rattle.sp_lane_rules.proofs.UnrolledPlaces.{among_both}
+use Rattle.sp_lane_groups.specs.LiveStores.{AreCopies}
+use Rattle.sp_lane_groups.proofs.LiveCopies.{copies_apart, copies_stand}
 use Rattle.sp_lane_groups.specs.Groups.{IsGroup}
 
 module _ (core : PlainCore) (around inside : Around) (w : Within) (counters : List PlainCounter) (owned : List ℕ) (plain : ℕ → Scope) (in_lanes : Scope) (count : ℕ) (g : IsGroup core around inside w counters owned plain in_lanes count) where

@@ -12,14 +12,14 @@ use Rattle.sp_core.specs.Scope.{plainly, Scope}
 use Rattle.sp_core.specs.Sequential.{has_reset, renew_in_body}
 use Rattle.sp_core.specs.Step.{went, in_order}
 use Rattle.sp_core.specs.Store.{Store}
-use Rattle.sp_lane_runs.proofs.Named.{name_memories}
+use Rattle.sp_lane_groups.proofs.RunsNamed.{name_memories}
 use Rattle.sp_lanes.specs.Bodies.{Body, nowhere, lane_body, more_bodies, all_ops, standing}
 use Rattle.sp_lanes.specs.Order.{memory_order}
 use Rattle.sp_lanes.specs.Shared.{shared}
 use Rattle.sp_lanes.specs.Unrolled.{unrolled, last_number, owned_in_lanes, ops_in_lanes, inner_ops}
 use Rattle.sp_lanes.specs.Within.{Within, in_lane, ops_in}
-use Rattle.sp_live_lanes.specs.Stores.{HoldAlike, ArePlain}
-use Rattle.sp_live_lanes.proofs.Lane.{none_stands}
+use Rattle.sp_lane_groups.specs.LiveStores.{HoldAlike, ArePlain}
+use Rattle.sp_lane_groups.proofs.LiveLane.{none_stands}
 use Rattle.sp_lane_groups.specs.Groups.{iteration, lanes_from, EachMasked, IsGroup, LeavesOutside}
 use Rattle.sp_lane_groups.specs.Laws.{GroupsGoAlong, InnersGoAlong}
 use Rattle.sp_lane_groups.specs.Waiting.{ResetsFirst, waits_in}
@@ -27,7 +27,7 @@ use Rattle.sp_lane_groups.proofs.Among.{row_in, row_out}
 use Rattle.sp_lane_groups.proofs.Apart.{own_out}
 use Rattle.sp_lane_groups.proofs.Lanes.{Reached, Done, lane_done, single_done, leaves_kept, later_lanes}
 use Rattle.sp_lane_groups.proofs.Renewed.{bind_known, order_split, order_none, Renewed, renew_all}
-use Rattle.sp_lane_groups.proofs.Runs.{runs_append, run_long}
+use Rattle.sp_lane_groups.proofs.RunsWhole.{runs_append, run_long}
 
 module _ (core : PlainCore) (around inside : Around) (w : Within) (counters : List PlainCounter) (owned : List ℕ) (plain : ℕ → Scope) (in_lanes : Scope) (count : ℕ) (g : IsGroup core around inside w counters owned plain in_lanes count)
     (ops : List PlainOp) (p : ArePlain ops) (right : are_operations_right core (within around counters owned) ops ≡ true) (resets : ResetsFirst (waits_in core owned) ops) where

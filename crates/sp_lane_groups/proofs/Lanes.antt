@@ -13,25 +13,25 @@ use Rattle.sp_core.specs.Sequential.{has_reset, renew_in_body}
 use Rattle.sp_core.specs.Step.{went, in_order}
 use Rattle.sp_core.specs.Store.{Store}
 use Rattle.sp_fitting.specs.Fitting.{MasksAreBits}
-use Rattle.sp_lane_runs.specs.Laws.{AreNamed}
-use Rattle.sp_lane_runs.proofs.Masked.{lane_rests}
+use Rattle.sp_lane_groups.specs.RunsLaws.{AreNamed}
+use Rattle.sp_lane_groups.proofs.RunsMasked.{lane_rests}
 use Rattle.sp_lanes.specs.Bodies.{Body, lane_body, more_bodies, all_ops, standing}
 use Rattle.sp_lanes.specs.Order.{memory_order}
 use Rattle.sp_lanes.specs.Shared.{does_change, shared}
 use Rattle.sp_lanes.specs.Unrolled.{unrolled, last_number}
 use Rattle.sp_lanes.specs.Within.{Within, in_lane, ops_in}
-use Rattle.sp_live_lanes.specs.Stores.{HoldAlike, ArePlain, AreStanding}
-use Rattle.sp_live_lanes.proofs.Lane.{lane_goes, word_kept}
-use Rattle.sp_live_lanes.proofs.Operations.{list_goes}
-use Rattle.sp_shared_reads.specs.Laws.{RunTwice}
-use Rattle.sp_shared_reads.proofs.Standing.{reads_stand}
+use Rattle.sp_lane_groups.specs.LiveStores.{HoldAlike, ArePlain, AreStanding}
+use Rattle.sp_lane_groups.proofs.LiveLane.{lane_goes, word_kept}
+use Rattle.sp_lane_groups.proofs.LiveOperations.{list_goes}
+use Rattle.sp_lane_groups.specs.SharedLaws.{RunTwice}
+use Rattle.sp_lane_groups.proofs.SharedStanding.{reads_stand}
 use Rattle.sp_lane_groups.specs.Groups.{iteration, lanes_from, EachMasked, IsGroup}
 use Rattle.sp_lane_groups.specs.Laws.{HoldSameBut}
 use Rattle.sp_lane_groups.specs.Waiting.{ResetsFirst, waits_in}
 use Rattle.sp_lane_groups.proofs.Apart.{out_number, lane_copies, out_usable, in_usable, own_own}
 use Rattle.sp_lane_groups.proofs.Renewed.{bind_known, order_split, order_none, Renewed, renew_all}
-use Rattle.sp_lane_groups.proofs.Resets.{come_first}
-use Rattle.sp_lane_groups.proofs.Runs.{nothing_on, runs_append, run_long, run_leaves}
+use Rattle.sp_lane_groups.proofs.ResetsWhole.{come_first}
+use Rattle.sp_lane_groups.proofs.RunsWhole.{nothing_on, runs_append, run_long, run_leaves}
 
 module _ (core : PlainCore) (around inside : Around) (w : Within) (counters : List PlainCounter) (owned : List ℕ) (plain : ℕ → Scope) (in_lanes : Scope) (count : ℕ) (g : IsGroup core around inside w counters owned plain in_lanes count) where
   abbrev pub at_lane : ℕ → Within

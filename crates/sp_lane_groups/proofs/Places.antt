@@ -5,11 +5,11 @@ use Rattle.sp_core.specs.Around.{within, lanes_of}
 use Rattle.sp_core.specs.PlainCore.{PlainCounter, PlainCore}
 use Rattle.sp_lanes.specs.Order.{memory_order}
 use Rattle.sp_lanes.specs.Within.{in_lane}
-use Rattle.sp_unrolled_rules.proofs.Places.{lane_together}
-use Rattle.sp_live_lanes.specs.Stores.{AreCopies}
-use Rattle.sp_live_lanes.proofs.Copies.{copies_stand}
-use Rattle.sp_live_lanes.proofs.Counters.{counters_go}
-use Rattle.sp_copies_room.specs.Laws.{PlacesHaveRoom}
+use Rattle.sp_lane_rules.proofs.UnrolledPlaces.{lane_together}
+use Rattle.sp_lane_groups.specs.LiveStores.{AreCopies}
+use Rattle.sp_lane_groups.proofs.LiveCopies.{copies_stand}
+use Rattle.sp_lane_groups.proofs.LiveCounters.{counters_go}
+use Rattle.sp_lane_groups.specs.RoomLaws.{PlacesHaveRoom}
 use Rattle.sp_lane_groups.specs.Laws.{GroupsStand}
 use Rattle.sp_lane_groups.proofs.Scopes.{have_scopes}
 

@@ -8,7 +8,7 @@ use Rattle.sp_core.specs.Scope.{plainly}
 use Rattle.sp_core.specs.Sequential.{has_reset, renew_in_body}
 use Rattle.sp_core.specs.Step.{Step, Went, went, stopped, more, pure, ◌>>=◌, change, in_order}
 use Rattle.sp_core.specs.Store.{Store, hold}
-use Rattle.sp_live_lanes.proofs.Along.{did_go, answer_of, store_of}
+use Rattle.sp_lane_groups.proofs.LiveAlong.{did_go, answer_of, store_of}
 
 -- one step and what comes after it
 pub bind_known : {A B : Type 0} (step : Step A) (rest : A → Step B) (s u : Store) (a : A) → step s ≡ went a u → (step >>= rest) s ≡ rest a u

@@ -7,7 +7,7 @@ use Rattle.sp_core.specs.Scope.{Reading, plainly, loops_of, InGroup, Scope, with
 use Rattle.sp_core.specs.Scope as scope
 use Rattle.sp_core.specs.Store.{changed}
 use Rattle.sp_lanes.specs.Unrolled.{last_number}
-use Rattle.sp_live_lanes.specs.Stores.{lane_values}
+use Rattle.sp_lane_groups.specs.LiveStores.{lane_values}
 use Rattle.sp_lane_groups.specs.Laws.{GroupsHaveScopes}
 
 abbrev AgreeBut : (last : ℕ) → Scope → Scope → Type 0

@@ -13,9 +13,9 @@ use Rattle.sp_fitting.specs.Fitting.{MasksAreBits}
 use Rattle.sp_lanes.specs.Order.{memory_order}
 use Rattle.sp_lanes.specs.Unrolled.{unrolled, last_number}
 use Rattle.sp_lanes.specs.Within.{Within, in_lane}
-use Rattle.sp_copies.specs.Copies.{occurrences}
-use Rattle.sp_unrolled_rules.specs.Places.{GoTogether}
-use Rattle.sp_live_lanes.specs.Stores.{AreCopies, HaveRoom, ScopesAgree}
+use Rattle.sp_lane_rules.specs.Copies.{occurrences}
+use Rattle.sp_lane_rules.specs.UnrolledPlaces.{GoTogether}
+use Rattle.sp_lane_groups.specs.LiveStores.{AreCopies, HaveRoom, ScopesAgree}
 
 -- a group of an inner body: the memories that it owns are renewed, but for those that have a reset operation, and its operations
 -- are done

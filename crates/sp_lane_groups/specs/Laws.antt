@@ -15,9 +15,9 @@ use Rattle.sp_fitting.specs.Fitting.{StoreFits}
 use Rattle.sp_lanes.specs.Order.{memory_order}
 use Rattle.sp_lanes.specs.Unrolled.{unrolled, last_number, owned_in_lanes, ops_in_lanes, inner_ops}
 use Rattle.sp_lanes.specs.Within.{Within, counters_in}
-use Rattle.sp_copies.specs.Copies.{occurrences, OwnsInLanes}
-use Rattle.sp_unrolled_rules.specs.Places.{GoTogether}
-use Rattle.sp_live_lanes.specs.Stores.{AreCopies, HoldAlike, ScopesAgree, lane_values, ArePlain}
+use Rattle.sp_lane_rules.specs.Copies.{occurrences, OwnsInLanes}
+use Rattle.sp_lane_rules.specs.UnrolledPlaces.{GoTogether}
+use Rattle.sp_lane_groups.specs.LiveStores.{AreCopies, HoldAlike, ScopesAgree, lane_values, ArePlain}
 use Rattle.sp_lane_groups.specs.Groups.{iteration, lanes_from, EachMasked, IsGroup, LeavesOutside}
 use Rattle.sp_lane_groups.specs.Waiting.{ResetsFirst, waits_in}
 

@@ -3,7 +3,7 @@
 ghost use Rattle.sp_core.specs.PlainCore.{PlainCore};
 ghost use Rattle.sp_lane_groups.specs.Laws.{GroupsAreMasked, GroupsGoAlong, GroupsHaveScopes, GroupsStand, InnersGoAlong, ResetsComeFirst};
 
-use sp_copies_room::places_have_room;
+use crate::places_have_room;
 use sp_fitting::lists_fit;
 
 /// What a memory holds that is reset before it is used makes no difference to a list of operations.

@@ -1,2 +1,5 @@
+pub mod Changing
+pub mod ChangingStages
+pub mod Elements
 pub mod Fronts
 pub mod Whole

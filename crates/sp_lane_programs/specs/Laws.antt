@@ -2,8 +2,7 @@
 use Rattle.sp_tree.specs.PlainProgram.{PlainProgram}
 use Rattle.sp_sugar.specs.Core.{core_of}
 use Rattle.sp_lane_trees.specs.Outcomes.{EndsInLanes}
-use Rattle.sp_lane_programs.specs.Words.{CombineOwn}
 
--- the core of a program that combines such words ends in lanes as it does
+-- the core of a program ends in lanes as it does
 abbrev pub ProgramEnds : PlainProgram → Type 0
-ProgramEnds p = CombineOwn p.body → EndsInLanes (core_of p)
+ProgramEnds p = EndsInLanes (core_of p)

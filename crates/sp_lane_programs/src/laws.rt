@@ -4,12 +4,11 @@ ghost use Rattle.sp_tree.specs.Invariant.{IsProgram};
 ghost use Rattle.sp_tree.specs.PlainProgram.{PlainProgram};
 ghost use Rattle.sp_lane_programs.specs.Laws.{ProgramEnds};
 
-use sp_lane_endings::programs_end;
+use sp_lane_cores::programs_end;
 use sp_lane_trees::programs_go;
 
 /// Where the core of a program ends, its core in lanes ends with the same words of outputs and of DRAMs, and goes around no
-/// oftener, if each MemReduce of the program has one lane, and in several lanes no Reduce or Fold over stages combines the bare
-/// name of a value.
+/// oftener.
 pub fn programs_end_in_lanes()
     ensures { (p : PlainProgram) → IsProgram p → ProgramEnds p }
 {

@@ -10,9 +10,9 @@ use Rattle.sp_core.specs.Elements.{numbers_below}
 use Rattle.sp_core.specs.Meaning.{numbers_of}
 use Rattle.sp_core.specs.PlainCore.{PlainMem}
 use Rattle.sp_lanes.specs.Order.{occurrence}
-use Rattle.sp_copies.specs.Copies.{one_if, occurrences}
-use Rattle.sp_copies.proofs.MemoryRules.{count_among}
-use Rattle.sp_unrolled_rules.proofs.Places.{among_both}
+use Rattle.sp_lane_rules.specs.Copies.{one_if, occurrences}
+use Rattle.sp_lane_rules.proofs.CopiesMemoryRules.{count_among}
+use Rattle.sp_lane_rules.proofs.UnrolledPlaces.{among_both}
 
 pub map_same : {A : Type 0} (g h : ℕ → A) (xs : List ℕ) → ((m : ℕ) → is_among m xs ≡ true → g m ≡ h m) → map g xs ≡ map h xs
 map_same g h [] f = refl

@@ -11,13 +11,13 @@ use Rattle.sp_core.specs.Meaning.{numbers_of}
 use Rattle.sp_core.specs.NodeRules.{is_owned_once}
 use Rattle.sp_core.specs.PlainCore.{no_mem, PlainCore}
 use Rattle.sp_lanes.specs.Order.{is_port, is_written, is_added, memories_in, memories_where, memory_order, occurrence, placed}
-use Rattle.sp_copies.specs.Copies.{occurrences}
-use Rattle.sp_copies.specs.Rules.{ArePortsWritten}
-use Rattle.sp_copies.proofs.Counts.{node_kept, node_left, where_left}
-use Rattle.sp_copies.proofs.Owners.{no_copies, among_count}
-use Rattle.sp_copies.proofs.PortOrder.{filter_append, filter_none, filter_twice, listed, numbers_rise, owned_rise, base_past, base_free}
-use Rattle.sp_lane_inners.proofs.Owners.{each_owned}
-use Rattle.sp_unrolled_rules.proofs.Givens.{append_none}
+use Rattle.sp_lane_rules.specs.Copies.{occurrences}
+use Rattle.sp_lane_rules.specs.CopiesRules.{ArePortsWritten}
+use Rattle.sp_lane_rules.proofs.CopiesCounts.{node_kept, node_left, where_left}
+use Rattle.sp_lane_rules.proofs.CopiesOwners.{no_copies, among_count}
+use Rattle.sp_lane_rules.proofs.CopiesPortOrder.{filter_append, filter_none, filter_twice, listed, numbers_rise, owned_rise, base_past, base_free}
+use Rattle.sp_lane_groups.proofs.InnersOwners.{each_owned}
+use Rattle.sp_lane_rules.proofs.UnrolledGivens.{append_none}
 use Rattle.sp_lane_trees.proofs.Numbers.{map_same, map_self, passes, fewer, below_once, below_place, numbers_at}
 
 zero_or_more : (n : ℕ) → (n ≡ 0) ⊎ (1 ≤ n)

@@ -14,12 +14,12 @@ use Rattle.sp_core.specs.Store.{Store, hold, words_of}
 use Rattle.sp_lanes.specs.Order.{memory_order}
 use Rattle.sp_lanes.specs.Unrolled.{unrolled}
 use Rattle.sp_lanes.specs.Within.{Within, outside}
-use Rattle.sp_unrolled_rules.specs.Places.{GoTogether}
-use Rattle.sp_unrolled_rules.proofs.Places.{outside_together}
-use Rattle.sp_live_lanes.specs.Stores.{AreCopies}
-use Rattle.sp_live_lanes.proofs.Copies.{copies_stand, copies_apart}
-use Rattle.sp_lane_inners.specs.Along.{AgreeAt}
-use Rattle.sp_lane_inners.proofs.Follows.{no_copy}
+use Rattle.sp_lane_rules.specs.UnrolledPlaces.{GoTogether}
+use Rattle.sp_lane_rules.proofs.UnrolledPlaces.{outside_together}
+use Rattle.sp_lane_groups.specs.LiveStores.{AreCopies}
+use Rattle.sp_lane_groups.proofs.LiveCopies.{copies_stand, copies_apart}
+use Rattle.sp_lane_groups.specs.InnersAlong.{AgreeAt}
+use Rattle.sp_lane_groups.proofs.InnersFollows.{no_copy}
 use Rattle.sp_lane_trees.proofs.Numbers.{map_same, map_twice}
 
 -- what stands in a store after something is held

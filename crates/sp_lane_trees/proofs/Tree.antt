@@ -10,19 +10,24 @@ use Rattle.sp_core.specs.PlainCore.{PlainOp, PlainCounter, PlainNode, PlainStage
 use Rattle.sp_lanes.specs.Order.{memory_order}
 use Rattle.sp_lanes.specs.Unrolled.{owned_in_lanes}
 use Rattle.sp_lanes.specs.Within.{Within, in_lane, owning, counters_in}
-use Rattle.sp_copies.specs.Copies.{OwnsInLanes, OwnInLanes}
-use Rattle.sp_laned.specs.Marks.{NoneCombines}
-use Rattle.sp_lane_combinations.specs.Laws.{CombinedInnersGo}
-use Rattle.sp_lane_endings.specs.Ending.{EndsAt, LastEnds, IsEnded, AreEnded}
-use Rattle.sp_lane_inners.specs.Along.{GoesAlong, StandsIn}
-use Rattle.sp_lane_inners.specs.Laws.{InnersGo}
-use Rattle.sp_lane_nodes.specs.Laws.{BranchesStand, BranchesGo, FsmsStand, FsmsGo}
-use Rattle.sp_lane_outers.specs.Laws.{OutersStand, OutersGo}
-use Rattle.sp_lane_outers.specs.Stages.{AllGoAlong, AllStandIn}
-use Rattle.sp_lane_stages.specs.Laws.{AreOfFirst, StagesGo}
-use Rattle.sp_lane_reductions.specs.Laws.{ReductionsGo}
-use Rattle.sp_lane_reductions.specs.Reduction.{own_stages, LastReduces}
-use Rattle.sp_lane_transfers.specs.Laws.{TransfersGo}
+use Rattle.sp_lane_rules.specs.Copies.{OwnsInLanes, OwnInLanes}
+use Rattle.sp_lane_cores.specs.LanedMarks.{NoneCombines}
+use Rattle.sp_lane_cores.specs.Standing.{StandsApart, StandApart}
+use Rattle.sp_lane_rules.proofs.CombinedFollowing.{zero_inside}
+use Rattle.sp_lane_rules.specs.CombinedStanding.{numbers_of}
+use Rattle.sp_lane_trees.specs.CombinationsLaws.{CombinedInnersGo}
+use Rattle.sp_lane_cores.specs.EndingsEnding.{EndsAt, LastEnds, IsEnded, AreEnded}
+use Rattle.sp_lane_groups.specs.InnersAlong.{GoesAlong, StandsIn}
+use Rattle.sp_lane_groups.specs.InnersLaws.{InnersGo}
+use Rattle.sp_lane_trees.specs.NodesLaws.{BranchesStand, BranchesGo, FsmsStand, FsmsGo}
+use Rattle.sp_lane_trees.specs.OutersLaws.{OutersStand, OutersGo}
+use Rattle.sp_lane_trees.specs.OutersStages.{AllGoAlong, AllStandIn}
+use Rattle.sp_lane_trees.specs.StagesLaws.{AreOfFirst, StagesGo}
+use Rattle.sp_lane_trees.specs.ElementsLaws.{InFirstLane, ElementsGo}
+use Rattle.sp_lane_trees.specs.ElementsReduction.{LastElements}
+use Rattle.sp_lane_trees.specs.ReductionsLaws.{ReductionsGo}
+use Rattle.sp_lane_trees.specs.ReductionsReduction.{own_stages, LastReduces}
+use Rattle.sp_lane_trees.specs.TransfersLaws.{TransfersGo}
 use Rattle.sp_lane_trees.specs.Laws.{NodesGo}
 use Rattle.sp_lane_trees.specs.Words.{CombinesWords, CombineWords}
 
@@ -39,6 +44,7 @@ pub record Parts (core : PlainCore) : Type 0 where
   pub outers : OutersGo core
   pub stages : StagesGo core
   pub reductions : ReductionsGo core
+  pub elements : ElementsGo core
 
 first_lane : (n : ℕ) → n ≡ 1 → 0 < n
 first_lane n e = omega (arith, e)
@@ -89,55 +95,65 @@ module _ (core : PlainCore) (parts : Parts core) (is : IsCore core) (owns : Owns
 
   -- in one lane, or in several, where none combines or the last one does
   abbrev Combined : List ℕ → PlainStages → Type 0
-  Combined owned stages = NoneCombines core stages ⊎ ((test : ℕ → Bool) × LastReduces core owned test stages)
+  Combined owned stages = NoneCombines core stages ⊎ ((test : ℕ → Bool) × (LastReduces core owned test stages ⊎ LastElements core owned test stages))
 
   several_go : (around inside : Around) (earlier : List ℕ) (w : Within) (counters : List PlainCounter) (style : Style) (owned : List ℕ) (stages : PlainStages) → StandsIn core around inside earlier w (outer counters style owned stages) → OwnInLanes stages → AreEnded core stages
+      → (numbers : List ℕ) → InFirstLane numbers w → StandsApart numbers (outer counters style owned stages)
       → (lanes_of counters == 1) ≡ false → is_stream style ≡ false → Combined owned stages → ((l : ℕ) → l < lanes_of counters → AllGoAlong core turns (within around counters owned) (in_lane (memory_order core) counters owned w l) stages)
       → GoesAlong core turns around w (outer counters style owned stages)
-  several_go around inside earlier w counters style owned stages h own e several no_stream (inl none) go = parts.stages is owns turns around inside earlier w counters style owned stages several no_stream none (are_first stages e) own h go
-  several_go around inside earlier w counters style owned stages h own e several no_stream (inr last) go =
-      parts.reductions is owns turns around inside earlier w counters style owned stages several no_stream last.0 last.1 (are_first stages e) own h (λ l lt. own_go (within around counters owned) (in_lane (memory_order core) counters owned w l) stages (go l lt))
+  several_go around inside earlier w counters style owned stages h own e numbers zero apart several no_stream (inl none) go = parts.stages is owns turns around inside earlier w counters style owned stages several no_stream none (are_first stages e) own h go
+  several_go around inside earlier w counters style owned stages h own e numbers zero apart several no_stream (inr last) go =
+      let own_goes : (l : ℕ) → l < lanes_of counters → AllGoAlong core turns (within around counters owned) (in_lane (memory_order core) counters owned w l) (own_stages stages) =
+      λ l lt. own_go (within around counters owned) (in_lane (memory_order core) counters owned w l) stages (go l lt) in
+      elim last.1 [
+        | inl word ↦ parts.reductions is owns turns around inside earlier w counters style owned stages several no_stream last.0 word (are_first stages e) own h own_goes
+        | inr elements ↦ parts.elements is owns turns around inside earlier w counters style owned stages several no_stream last.0 elements (are_first stages e) own h numbers zero apart own_goes
+      ]
 
   outer_goes : (around inside : Around) (earlier : List ℕ) (w : Within) (counters : List PlainCounter) (style : Style) (owned : List ℕ) (stages : PlainStages) → StandsIn core around inside earlier w (outer counters style owned stages) → OwnInLanes stages → AreEnded core stages
+      → (numbers : List ℕ) → InFirstLane numbers w → StandsApart numbers (outer counters style owned stages)
       → (is_stream style ≡ true → lanes_of counters ≡ 1) → (lanes_of counters ≡ 1) ⊎ Combined owned stages → ((l : ℕ) → l < lanes_of counters → AllGoAlong core turns (within around counters owned) (in_lane (memory_order core) counters owned w l) stages)
       → GoesAlong core turns around w (outer counters style owned stages)
-  outer_goes around inside earlier w counters style owned stages h own e alone (inl one) go = parts.outers is owns turns around inside earlier w counters style owned stages one h (go 0 (first_lane (lanes_of counters) one))
-  outer_goes around inside earlier w counters style owned stages h own e alone (inr combined) go = by (lanes_of counters == 1) refl (is_stream style) refl
+  outer_goes around inside earlier w counters style owned stages h own e numbers zero apart alone (inl one) go = parts.outers is owns turns around inside earlier w counters style owned stages one h (go 0 (first_lane (lanes_of counters) one))
+  outer_goes around inside earlier w counters style owned stages h own e numbers zero apart alone (inr combined) go = by (lanes_of counters == 1) refl (is_stream style) refl
     where
       by : (b : Bool) → (lanes_of counters == 1) ≡ b → (c : Bool) → is_stream style ≡ c → GoesAlong core turns around w (outer counters style owned stages)
       by true i c j =
           let one : lanes_of counters ≡ 1 = eqb-true (lanes_of counters) 1 i in
           parts.outers is owns turns around inside earlier w counters style owned stages one h (go 0 (first_lane (lanes_of counters) one))
       by false i true j = absurd (true≢false (sym (eq-eqb (lanes_of counters) 1 (alone j)) ∙ i))
-      by false i false j = several_go around inside earlier w counters style owned stages h own e i j combined go
+      by false i false j = several_go around inside earlier w counters style owned stages h own e numbers zero apart i j combined go
 
   mutual
-    node_goes : (node : PlainNode) (around inside : Around) (earlier : List ℕ) (w : Within) → StandsIn core around inside earlier w node → OwnsInLanes node → IsEnded core node → CombinesWords core node → GoesAlong core turns around w node
-    node_goes (inner counters owned ops comb) around inside earlier w h own e alone = inner_goes around inside earlier w counters owned ops comb h e
-    node_goes (outer counters style owned stages) around inside earlier w h own e alone =
-        outer_goes around inside earlier w counters style owned stages h own e.1 e.2 alone.0
+    node_goes : (node : PlainNode) (around inside : Around) (earlier : List ℕ) (w : Within) → StandsIn core around inside earlier w node → OwnsInLanes node → IsEnded core node → CombinesWords core node → (numbers : List ℕ) → InFirstLane numbers w → StandsApart numbers node
+        → GoesAlong core turns around w node
+    node_goes (inner counters owned ops comb) around inside earlier w h own e alone numbers zero apart = inner_goes around inside earlier w counters owned ops comb h e
+    node_goes (outer counters style owned stages) around inside earlier w h own e alone numbers zero apart =
+        outer_goes around inside earlier w counters style owned stages h own e.1 numbers zero apart e.2 alone.0
         (λ l lt. stages_go stages (within around counters owned) (within inside (counters_in w counters) (owned_in_lanes (memory_order core) counters owned w)) (earlier ++ owned) (in_lane (memory_order core) counters owned w l)
-        (parts.outers_stand around inside earlier w counters style owned stages l lt h) own (ended_of owned stages e.0) e.1 alone.1)
-    node_goes (fsm start state test body next) around inside earlier w h own e alone =
+        (parts.outers_stand around inside earlier w counters style owned stages l lt h) own (ended_of owned stages e.0) e.1 alone.1
+        (numbers_of counters ++ numbers) (zero_inside (memory_order core) numbers counters owned w l zero) apart)
+    node_goes (fsm start state test body next) around inside earlier w h own e alone numbers zero apart =
         parts.fsms is owns turns around inside earlier w start state test body next h
         (node_goes body (with_state core around state) (within inside [] ((owning (memory_order core) (state ∷ []) w).number state ∷ [])) (earlier ++ state ∷ []) (owning (memory_order core) (state ∷ []) w)
-        (parts.fsms_stand around inside earlier w start state test body next h) own e alone)
-    node_goes (branch test first second) around inside earlier w h own e alone =
+        (parts.fsms_stand around inside earlier w start state test body next h) own e alone numbers zero apart)
+    node_goes (branch test first second) around inside earlier w h own e alone numbers zero apart =
         let s = parts.branches_stand around inside earlier w test first second h in
         parts.branches is owns turns around inside earlier w test first second h
-        (node_goes first around inside earlier w s.0 own.0 e.0 alone.0) (node_goes second around inside (earlier ++ owned_in first) w s.1 own.1 e.1 alone.1)
-    node_goes (load d m spans) around inside earlier w h own e alone = parts.transfers is owns turns around inside earlier w (load d m spans) tt h
-    node_goes (store d m spans) around inside earlier w h own e alone = parts.transfers is owns turns around inside earlier w (store d m spans) tt h
-    node_goes (sparse kind d m index spans count par) around inside earlier w h own e alone = parts.transfers is owns turns around inside earlier w (sparse kind d m index spans count par) tt h
+        (node_goes first around inside earlier w s.0 own.0 e.0 alone.0 numbers zero apart.0) (node_goes second around inside (earlier ++ owned_in first) w s.1 own.1 e.1 alone.1 numbers zero apart.1)
+    node_goes (load d m spans) around inside earlier w h own e alone numbers zero apart = parts.transfers is owns turns around inside earlier w (load d m spans) tt h
+    node_goes (store d m spans) around inside earlier w h own e alone numbers zero apart = parts.transfers is owns turns around inside earlier w (store d m spans) tt h
+    node_goes (sparse kind d m index spans count par) around inside earlier w h own e alone numbers zero apart = parts.transfers is owns turns around inside earlier w (sparse kind d m index spans count par) tt h
 
-    stages_go : (stages : PlainStages) (around inside : Around) (earlier : List ℕ) (w : Within) → AllStandIn core around inside earlier w stages → OwnInLanes stages → Ended stages → AreEnded core stages → CombineWords core stages → AllGoAlong core turns around w stages
-    stages_go no_stage around inside earlier w h own m e alone = tt
-    stages_go (more_stage first last true node rest) around inside earlier w h own (inl m) e alone = absurd m
-    stages_go (more_stage first last true node rest) around inside earlier w h own (inr (owned, one, m)) e alone =
+    stages_go : (stages : PlainStages) (around inside : Around) (earlier : List ℕ) (w : Within) → AllStandIn core around inside earlier w stages → OwnInLanes stages → Ended stages → AreEnded core stages → CombineWords core stages
+        → (numbers : List ℕ) → InFirstLane numbers w → StandApart numbers stages → AllGoAlong core turns around w stages
+    stages_go no_stage around inside earlier w h own m e alone numbers zero apart = tt
+    stages_go (more_stage first last true node rest) around inside earlier w h own (inl m) e alone numbers zero apart = absurd m
+    stages_go (more_stage first last true node rest) around inside earlier w h own (inr (owned, one, m)) e alone numbers zero apart =
         let l = last_goes around inside earlier w first last node rest owned one m h.0 in
-        (l.0, stages_go rest around inside (earlier ++ owned_in node) w h.1 own.2 (subst Ended (sym l.1) (inl tt)) e.2 alone)
-    stages_go (more_stage first last false node rest) around inside earlier w h own m e alone =
-        (node_goes node around inside earlier w h.0 own.0 e.2 alone.0, stages_go rest around inside (earlier ++ owned_in node) w h.1 own.1 (after_one first last node rest m) e.3 alone.1)
+        (l.0, stages_go rest around inside (earlier ++ owned_in node) w h.1 own.2 (subst Ended (sym l.1) (inl tt)) e.2 alone numbers zero apart.2)
+    stages_go (more_stage first last false node rest) around inside earlier w h own m e alone numbers zero apart =
+        (node_goes node around inside earlier w h.0 own.0 e.2 alone.0 numbers zero apart.0, stages_go rest around inside (earlier ++ owned_in node) w h.1 own.1 (after_one first last node rest m) e.3 alone.1 numbers zero apart.1)
 
 pub nodes_go : (core : PlainCore) → Parts core → NodesGo core
-nodes_go core parts is owns turns around inside earlier w node h own e alone = node_goes core parts is owns turns node around inside earlier w h own e alone
+nodes_go core parts is owns turns around inside earlier w node h own e alone numbers zero apart = node_goes core parts is owns turns node around inside earlier w h own e alone numbers zero apart

@@ -21,13 +21,14 @@ use Rattle.sp_sugar.proofs.Cores.{core_is_right}
 use Rattle.sp_lanes.specs.Order.{is_port, memory_order}
 use Rattle.sp_lanes.specs.Unrolled.{unrolled}
 use Rattle.sp_lanes.specs.Within.{outside}
-use Rattle.sp_copies.specs.Copies.{OwnsInLanes}
-use Rattle.sp_copies.specs.Rules.{ArePortsWritten}
-use Rattle.sp_copies.proofs.MemoryRules.{node_once}
-use Rattle.sp_laned.proofs.Ports.{may_have_lanes}
-use Rattle.sp_first_resets.specs.Laws.{RootStands}
-use Rattle.sp_lane_endings.specs.Ending.{IsEnded}
-use Rattle.sp_lane_inners.specs.Along.{GoesAlong}
+use Rattle.sp_lane_rules.specs.Copies.{OwnsInLanes}
+use Rattle.sp_lane_rules.specs.CopiesRules.{ArePortsWritten}
+use Rattle.sp_lane_rules.proofs.CopiesMemoryRules.{node_once}
+use Rattle.sp_lane_cores.proofs.LanedPorts.{may_have_lanes}
+use Rattle.sp_lane_groups.specs.FirstLaws.{RootStands}
+use Rattle.sp_lane_cores.specs.EndingsEnding.{IsEnded}
+use Rattle.sp_lane_cores.specs.Standing.{StandsApart}
+use Rattle.sp_lane_groups.specs.InnersAlong.{GoesAlong}
 use Rattle.sp_lane_trees.specs.Laws.{NodesGo}
 use Rattle.sp_lane_trees.specs.Outcomes.{EndsInLanes, ProgramGoes}
 use Rattle.sp_lane_trees.proofs.Numbers.{below_less}
@@ -106,8 +107,8 @@ module _ (core : PlainCore) (is : IsCore core) (owns : OwnsInLanes core.root) (w
         x.5,
       )
 
-pub program_goes : (p : PlainProgram) → NodesGo (core_of p) → RootStands p → IsEnded (core_of p) (core_of p).root → IsProgram p → ProgramGoes p
-program_goes p nodes stands ends_well h alone =
+pub program_goes : (p : PlainProgram) → NodesGo (core_of p) → RootStands p → IsEnded (core_of p) (core_of p).root → StandsApart [] (core_of p).root → IsProgram p → ProgramGoes p
+program_goes p nodes stands ends_well apart h alone =
     let may = may_have_lanes p in
     let is : IsCore (core_of p) = core_is_right p h in
-    ends (core_of p) is may.0 may.1 (λ turns. nodes is may.0 turns nothing nothing [] (outside (memory_order (core_of p))) (core_of p).root stands may.0 ends_well alone)
+    ends (core_of p) is may.0 may.1 (λ turns. nodes is may.0 turns nothing nothing [] (outside (memory_order (core_of p))) (core_of p).root stands may.0 ends_well alone [] (λ c i. refl) apart)

@@ -1,3 +1,17 @@
+pub mod CombinationsLaws
+pub mod ElementsCells
+pub mod ElementsExamples
+pub mod ElementsLaws
+pub mod ElementsReduction
 pub mod Laws
+pub mod NodesLaws
 pub mod Outcomes
+pub mod OutersLaws
+pub mod OutersStages
+pub mod ReductionsChanges
+pub mod ReductionsExamples
+pub mod ReductionsLaws
+pub mod ReductionsReduction
+pub mod StagesLaws
+pub mod TransfersLaws
 pub mod Words

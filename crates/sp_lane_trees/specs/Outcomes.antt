@@ -20,6 +20,6 @@ EndsInLanes core =
     → (g : History) × (meaning in_lanes turns (unrolled core) input ≡ ended outs drams g) × (rounds (unrolled core).root (shape_of (unrolled core).root g) ≤ rounds core.root (shape_of core.root h))
 
 -- so does the core of a program where each controller with stages has one lane, or none of its stages combines, or the last one
--- combines a word
+-- combines a word or the elements of a memory
 abbrev pub ProgramGoes : PlainProgram → Type 0
 ProgramGoes p = CombinesWords (core_of p) (core_of p).root → EndsInLanes (core_of p)

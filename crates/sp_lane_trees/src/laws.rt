@@ -3,16 +3,14 @@
 ghost use Rattle.sp_core.specs.PlainCore.{PlainCore};
 ghost use Rattle.sp_lane_trees.specs.Laws.{NodesGo};
 
-use sp_lane_combinations::combined_inners_go;
-use sp_lane_inners::inners_go;
-use sp_lane_nodes::{branches_go, branches_stand, fsms_go, fsms_stand};
-use sp_lane_outers::{outers_go, outers_stand};
-use sp_lane_reductions::reductions_go;
-use sp_lane_stages::stages_go;
-use sp_lane_transfers::transfers_go;
+use crate::{
+    branches_go, branches_stand, combined_inners_go, elements_go, fsms_go, fsms_stand, outers_go,
+    outers_stand, reductions_go, stages_go, transfers_go,
+};
+use sp_lane_groups::inners_go;
 
 /// A node does in lanes what it does in the core, and goes around no oftener, where each controller in it with stages has one lane,
-/// or none of its stages combines, or the last one combines a word.
+/// or none of its stages combines, or the last one combines a word, or elements by counters of their own.
 pub fn nodes_go()
     ensures { (core : PlainCore) → NodesGo core }
 {
@@ -27,4 +25,5 @@ pub fn nodes_go()
     outers_go();
     stages_go();
     reductions_go();
+    elements_go();
 }

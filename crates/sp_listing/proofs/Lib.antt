@@ -14,3 +14,4 @@ pub mod TextLemmas
 pub mod TypeLemmas
 pub mod WordLemmas
 pub mod ReadBack
+pub mod FirstLine

@@ -1,11 +1,10 @@
 -- A netlist within the limits has a listing.
-use Rattle.std.proofs.Common.{◌≡◌, ◌≢◌, ℕ, ◌<◌, ◌≤◌, ◌^◌, List, [], ◌∷◌, ◌++◌, length, get_or, take, drop, suc, flat_map, count_by, All, Contains, refl, sym, ap, ◌∙◌, subst, take-append-drop, drop-cons, append_assoc, arith, ⊎_elim, lit<, lt_of_le_of_lt, lt-ltb, Option, Some, None, length-append}
+use Rattle.std.proofs.Common.{◌≡◌, ℕ, ◌<◌, ◌≤◌, ◌^◌, List, [], ◌∷◌, ◌++◌, length, get_or, take, drop, suc, flat_map, All, Contains, refl, sym, ap, ◌∙◌, subst, take-append-drop, drop-cons, append_assoc, arith, ⊎_elim, lit<, lt_of_le_of_lt, lt-ltb, length-append}
 use Rattle.std.proofs.lemmas.Bool.{cases_lt}
 use Rattle.std.proofs.lemmas.List.Elements.{All-contains, Contains-append_left, Contains-append_right}
 use Rattle.std.proofs.lemmas.List.Concat.{flat_map-append}
 use Rattle.std.proofs.lemmas.List.Sums.{count_by-le-length}
 use Rattle.sp_words.specs.Types.{width_of}
-use Rattle.sp_netlist.specs.declared.error.NetError.TheVariants as net
 use Rattle.sp_netlist.specs.Cells.{PlainCell, in_cell, out_cell, done_cell, const_cell, op_cell, not_cell, shift_cell, cast_cell, mux_cell, reg_cell, bank_cell, read_tap, write_tap, dram_cell, load_unit, store_unit}
 use Rattle.sp_netlist.specs.Rules.{IsRight, is_bank, is_dram, is_unit, bank_width, dram_width, op_width, drives, reads, driven_nets, read_nets, IsNetlist}
 use Rattle.sp_netlist.specs.Refusals.{IsWithinLimits}

@@ -1,5 +1,5 @@
 //! Reading a listing.
-ghost use Rattle.std.specs.Prelude.{◌≡◌, ◌≤◌, ◌<◌, ◌^◌, ◌↔◌, length, IsTrue, IfOk, IfErr, MatchResult};
+ghost use Rattle.std.specs.Prelude.{◌≡◌, ◌≤◌, ◌<◌, ◌^◌, ◌↔◌, ◌∷◌, ◌==◌, ℕ, List, length, position, IsTrue, IfOk, IfErr, MatchResult};
 ghost use Rattle.sp_netlist.specs.Cells.{plain_cells};
 ghost use Rattle.sp_netlist.specs.Refusals.{IsWithinLimits};
 ghost use Rattle.sp_listing.specs.Readers.{texts};
@@ -25,18 +25,32 @@ fn is_heading(line: &[u8]) -> bool
     line == b"netlist 1".as_slice()
 }
 
-// The cells of these lines.
+fn line_end(bytes: &[u8]) -> Option<usize>
+    ensures { result ≡ position (λ byte. byte == 10) bytes.now }
+{
+    bytes.iter().position(|byte| *byte == b'\n')
+}
+
+// The text before the first line end.
+fn first_line(bytes: &[u8]) -> &[u8]
+    ensures { (rest : List (List ℕ)) × (pieces bytes.now ≡ result.now ∷ rest) }
+{
+    match line_end(bytes) {
+        Some(end) => &bytes[..end],
+        None => bytes,
+    }
+}
+
+// The cells of these lines, the first of which is the heading.
 fn read_lines(alloc: Global, lines: &[&[u8]]) -> Result<Vec<Cell>, ListError>
     requires some { 1 ≤ length lines.now }
+    requires headed { (rest : List (List ℕ)) × (texts lines.now ≡ heading ∷ rest) }
     requires few { length lines.now < 2 ^ 31 }
     ensures { MatchResult result (λ cells. AreLinesOf (texts lines.now) (plain_cells cells.items)) (RefusesLines (texts lines.now)) }
 {
-    let [first, rest @ ..] = lines else {
-        return Err(ListError::NoListing { line: 1 });
+    let [_, rest @ ..] = lines else {
+        unreachable!()
     };
-    if !is_heading(first) {
-        return Err(ListError::NoListing { line: 1 });
-    }
     let [body @ .., last] = rest else {
         return Err(ListError::NoListing { line: 2 });
     };
@@ -44,11 +58,14 @@ fn read_lines(alloc: Global, lines: &[&[u8]]) -> Result<Vec<Cell>, ListError>
     read_body(alloc, &declared, body, last)
 }
 
-// The cells of a text.
+// The cells of a text. Its lines are kept only where the first one is the heading.
 fn read_cells(alloc: Global, bytes: &[u8]) -> Result<Vec<Cell>, ListError>
     requires { length bytes.now ≤ 268435456 }
     ensures { MatchResult result (λ cells. IsListing bytes.now (plain_cells cells.items)) (RefusesLines (pieces bytes.now)) }
 {
+    if !is_heading(first_line(bytes)) {
+        return Err(ListError::NoListing { line: 1 });
+    }
     let lines = pieces(alloc, bytes)?;
     read_lines(alloc, &lines)
 }

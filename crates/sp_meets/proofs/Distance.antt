@@ -1,5 +1,5 @@
 -- The first number of groups at which two parts of one access each meet is their distance.
-use Rattle.std.proofs.Common.{◌≡◌, ℕ, zero, suc, ◌+◌, ◌-◌, ◌<◌, ◌≤◌, Bool, true, false, not, ◌&&◌, List, [], ◌∷◌, length, take, refl, ap, sym, ◌∙◌, subst, Vec, Global, arith}
+use Rattle.std.proofs.Common.{◌≡◌, inl, inr, ℕ, zero, suc, ◌+◌, ◌-◌, ◌<◌, ◌≤◌, Bool, true, false, not, ◌&&◌, List, [], ◌∷◌, length, take, refl, ap, sym, ◌∙◌, subst, Vec, Global, arith}
 use Rattle.std.specs.Prelude.{◌||◌, ◌==◌, if◌then◌else◌, Option, Some, IfSome}
 use Rattle.std.specs.List.{All}
 use Rattle.sp_affine.specs.Affine.{Affine}
@@ -13,8 +13,9 @@ use Rattle.sp_deps.specs.Bounds.{HasCounters}
 use Rattle.sp_deps.specs.Classes.{Loops, may_meet, have_same_symbols, is_open}
 use Rattle.sp_deps.specs.Distances.{all_common, AreParallel, ArePresentAndParallel, earlier_may_meet, steps_may_meet, IsDistanceOver}
 use Rattle.sp_deps.specs.Stages.{IsFootprint, loops_between, plain_accesses, meets_up_to, stages_meet}
-use Rattle.sp_meets.specs.declared.least.Linear.TheVariants.{Other, Equal}
-use Rattle.sp_meets.specs.Steps.{loops_of, parts_meet, IsFirst, IsMost, IsOne, IsLinearOf, IsDistanceOf}
+use Rattle.sp_meets.specs.Bits.{PassesBits, NumbersPass}
+use Rattle.sp_meets.specs.declared.least.Linear.TheVariants.{Other, Equal, TooMany}
+use Rattle.sp_meets.specs.Steps.{loops_of, parts_meet, IsFirst, IsMost, IsOne, IsUnknown, IsLinearOf, IsDistanceOf}
 use Rattle.sp_meets.proofs.Later.{no_clash, not_none}
 
 or_none : (a b : Bool) → (a || b) ≡ false → (a ≡ false) × (b ≡ false)
@@ -166,8 +167,21 @@ enough_steps loops fs gs n most t h may = by_symbols (have_same_symbols fs gs) r
     by_symbols true e may = let (s, some, few, free) = most.enough t (omega (arith, h)) may in (s, some, few, ap (λ b. not b || is_open loops (Steps s) fs gs) e ∙ free)
     by_symbols false e may = (1, omega arith, most.some, ap (λ b. not b || is_open loops (Steps 1) fs gs) e)
 
-pub linear_is : (loops : Loops) (fs gs : List Affine) (n : ℕ) → AreParallel fs gs → IsMost loops fs gs n → IsLinearOf loops (Some fs) (Some gs) (Equal n)
-linear_is loops fs gs n parallel most = (parallel, enough_steps loops fs gs n most, most.some)
+pub linear_is : (loops : Loops) (fs gs : List Affine) (n : ℕ) → AreParallel fs gs → IsMost loops fs gs n → (PassesBits n → NumbersPass loops fs gs) → IsLinearOf loops (Some fs) (Some gs) (Equal n)
+linear_is loops fs gs n parallel most passes = (parallel, enough_steps loops fs gs n most, most.some, λ more. inr (passes more))
+
+pub linear_passes : (l : Loops) (fs gs : List Affine) → AreParallel fs gs → NumbersPass l fs gs → IsLinearOf l (Some fs) (Some gs) TooMany
+linear_passes l fs gs parallel passes = (parallel, inr passes)
+
+pub linear_uneven : (l : Loops) (fs gs : List Affine) → AreParallel fs gs → (length l.first ≡ length l.second → ⊥) → IsLinearOf l (Some fs) (Some gs) TooMany
+linear_uneven l fs gs parallel uneven = (parallel, inl uneven)
+
+-- where the greatest number of 64 bits is to be tried
+pub parallel_unknown : (a b : Footprint) (x y : PlainAccess) (most : ℕ) → most ≡ 18446744073709551615 → IsLinearOf (loops_between a b) x.forms y.forms (Equal most) → IsUnknown (loops_between a b) x.forms y.forms
+parallel_unknown a b x y most e h = h.3 (omega (arith, e))
+
+pub one_passes_not : PassesBits 1 → ⊥
+one_passes_not more = omega (arith, more)
 
 -- the two ends of a search over numbers of groups
 module _ (a b : Footprint) (x y : PlainAccess) (is_x : IsOne a x) (is_y : IsOne b y) (can : can_meet x y ≡ true) (some : 1 ≤ length (loops_between a b).common) where

@@ -10,3 +10,4 @@ mod Reach
 mod Spread
 mod Trees
 mod WalkLemmas
+mod Unknown

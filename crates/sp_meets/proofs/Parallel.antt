@@ -13,6 +13,7 @@ use Rattle.std.proofs.lemmas.List.{take_all}
 use Rattle.std.proofs.lemmas.Nat.{div-add-mod', mod_below, mul-le}
 use Rattle.sp_meets.specs.declared.steps.Tries.{Tries}
 use Rattle.sp_meets.specs.declared.steps.Tries.TheVariants.{Every, UpTo, Unknown}
+use Rattle.sp_meets.specs.Bits.{PassesBits, NumbersPass}
 use Rattle.sp_meets.specs.Reach.{reach, unbounded}
 use Rattle.sp_meets.specs.Steps.{loops_of, AreTriesBy, AreTriesOf, AreTriesOfAll, IsBoth, IsJoined, IsMost}
 use Rattle.sp_meets.proofs.Reach.{IsBounded, first_bounded, second_bounded, outside_bounded, shared_bounded, nothing_bounded, value_within}
@@ -130,14 +131,14 @@ module _ (loops : Loops) (f g : Affine) where
 
 pub tries_are : (common first second : List LoopRange) (f g : Affine) (start : ℕ) → start ≡ unsigned_abs (g.constant -ℤ f.constant) → f.coefs ≡ g.coefs → length first ≡ length second →
     (r : Tries) → AreTriesBy common first second f.coefs g.coefs start r → AreTriesOf (loops_of common first second) f g r
-tries_are common first second f g start s e alike (Every p) (inl (none, one)) = (omega (arith, one), λ t. still (loops_of common first second) f g (t + p) t none)
-tries_are common first second f g start s e alike (Every p) (inr h) = (some_unbounded (loops_of common first second) f g p h, λ t. again (loops_of common first second) f g p t h)
+tries_are common first second f g start s e alike (Every p) (inl (none, one)) = (omega (arith, one), (λ t. still (loops_of common first second) f g (t + p) t none), inl (none, one))
+tries_are common first second f g start s e alike (Every p) (inr h) = (some_unbounded (loops_of common first second) f g p h, (λ t. again (loops_of common first second) f g p t h), inr h)
 tries_are common first second f g start s e alike (UpTo n) (p, q, h, k, far) =
-    (far.some, λ t more. past (loops_of common first second) f g e alike p q t h k (begun _ _ (p + q) s (far.past t more)))
+    (far.some, (λ t more. past (loops_of common first second) f g e alike p q t h k (begun _ _ (p + q) s (far.past t more))), (p, q, h, k, subst (λ z. n ≤ z + (p + q) + 1) s far.near))
   where
     begun : (a b r : ℕ) {m : ℕ} → a ≡ b → a + r < m → b + r < m
     begun a b r e h = omega arith
-tries_are common first second f g start s e alike Unknown h = tt
+tries_are common first second f g start s e alike Unknown (p, q, h, k, more) = (start + (p + q) + 1, more, (p, q, h, k, subst (λ z. start + (p + q) + 1 ≤ z + (p + q) + 1) s (omega arith)))
 
 -- of all indices
 no : false ≡ true → ⊥
@@ -162,7 +163,7 @@ repeated test p h (suc k) t = ap test further ∙ h (t + k * p) ∙ repeated tes
 
 module _ (loops : Loops) (f g : Affine) (fs gs : List Affine) where
   pub with_every : (p q n : ℕ) → AreTriesOf loops f g (Every p) → AreTriesOfAll loops fs gs (Every q) → n ≡ p * q → AreTriesOfAll loops (f ∷ fs) (g ∷ gs) (Every n)
-  with_every p q n h k e = (one_or_more p q n h.0 k.0 e, same)
+  with_every p q n h k e = (one_or_more p q n h.0 k.0 e, same, (p, q, h.2, k.2, e))
     where
       one_or_more : (p q n : ℕ) → 1 ≤ p → 1 ≤ q → n ≡ p * q → 1 ≤ n
       one_or_more p q n h k e = let more = mul-le 1 1 p q h k in omega (arith, more, e)
@@ -180,10 +181,10 @@ module _ (loops : Loops) (f g : Affine) (fs gs : List Affine) where
           (ap (λ m. is_open loops (Steps (t + m)) fs gs) e ∙ repeated (λ t. is_open loops (Steps t) fs gs) q k.1 p t)
 
   pub with_up_to : (n : ℕ) → AreTriesOf loops f g (UpTo n) → AreTriesOfAll loops (f ∷ fs) (g ∷ gs) (UpTo n)
-  with_up_to n h = (h.0, λ t more. ap (λ out. not out && is_open loops (Steps t) fs gs) (h.1 t more))
+  with_up_to n h = (h.0, (λ t more. ap (λ out. not out && is_open loops (Steps t) fs gs) (h.1 t more)), inl h.2)
 
   pub rest_up_to : (n : ℕ) → AreTriesOfAll loops fs gs (UpTo n) → AreTriesOfAll loops (f ∷ fs) (g ∷ gs) (UpTo n)
-  rest_up_to n h = (h.0, λ t more. ap (λ rest. not (is_ruled_out loops f g (Steps t)) && rest) (h.1 t more) ∙ and_false (not (is_ruled_out loops f g (Steps t))))
+  rest_up_to n h = (h.0, (λ t more. ap (λ rest. not (is_ruled_out loops f g (Steps t)) && rest) (h.1 t more) ∙ and_false (not (is_ruled_out loops f g (Steps t)))), inr h.2)
     where
       and_false : (b : Bool) → (b && false) ≡ false
       and_false true = refl
@@ -197,16 +198,24 @@ module _ (loops : Loops) (f g : Affine) (fs gs : List Affine) where
   both_tries : (p q : ℕ) (r : Tries) → IsBoth p q r → AreTriesOf loops f g (Every p) → AreTriesOfAll loops fs gs (Every q) → AreAll r
   both_tries p q (Every n) is one rest = with_every loops f g fs gs p q n one rest is
   both_tries p q (UpTo n) is one rest = absurd is
-  both_tries p q Unknown is one rest = tt
+  both_tries p q Unknown is one rest = (p * q, is, inr (inl (p, q, one.2, rest.2, refl)))
+
+  -- numbers pass 64 bits in the others, or in this one
+  rest_pass : NumbersPass loops fs gs → NumbersPass loops (f ∷ fs) (g ∷ gs)
+  rest_pass (n, more, inl h) = (n, more, inl (inr h))
+  rest_pass (n, more, inr h) = (n, more, inr (inr h))
+
+  one_passes : AreTriesOf loops f g Unknown → NumbersPass loops (f ∷ fs) (g ∷ gs)
+  one_passes (n, more, h) = (n, more, inl (inl h))
 
   pub joined_tries : (one rest r : Tries) → IsJoined one rest r → AreTriesOf loops f g one → AreTriesOfAll loops fs gs rest → AreAll r
   joined_tries (Every p) (Every q) r is h k = both_tries p q r is h k
   joined_tries (Every p) (UpTo n) r is h k = subst AreAll (sym is) (rest_up_to loops f g fs gs n k)
-  joined_tries (Every p) Unknown r is h k = subst AreAll (sym is) tt
+  joined_tries (Every p) Unknown r is h k = subst AreAll (sym is) (rest_pass k)
   joined_tries (UpTo n) rest r is h k = subst AreAll (sym is) (with_up_to loops f g fs gs n h)
-  joined_tries Unknown (Every q) r is h k = subst AreAll (sym is) tt
+  joined_tries Unknown (Every q) r is h k = subst AreAll (sym is) (one_passes h)
   joined_tries Unknown (UpTo n) r is h k = subst AreAll (sym is) (rest_up_to loops f g fs gs n k)
-  joined_tries Unknown Unknown r is h k = subst AreAll (sym is) tt
+  joined_tries Unknown Unknown r is h k = subst AreAll (sym is) (one_passes h)
 
 -- a list that isn't empty is its first element and the others
 first_and_rest : (xs : List Affine) (x : Affine) → 1 ≤ length xs → x ≡ get_or xs 0 x → x ∷ take (length xs - 1) (drop 1 xs) ≡ xs
@@ -221,10 +230,10 @@ joined_whole loops xs ys f g one rest r some_as some_bs is_f is_g is h k =
     subst B (first_and_rest ys g some_bs is_g) (subst A (first_and_rest xs f some_as is_f) (joined_tries loops f g (take (length xs - 1) (drop 1 xs)) (take (length ys - 1) (drop 1 ys)) one rest r is h k))
 
 pub tries_of_none : (loops : Loops) (gs : List Affine) → AreTriesOfAll loops [] gs (Every 1)
-tries_of_none loops gs = (omega arith, λ t. refl)
+tries_of_none loops gs = (omega arith, (λ t. refl), refl)
 
 pub tries_of_few : (loops : Loops) (f : Affine) (fs : List Affine) → AreTriesOfAll loops (f ∷ fs) [] (Every 1)
-tries_of_few loops f fs = (omega arith, λ t. refl)
+tries_of_few loops f fs = (omega arith, (λ t. refl), refl)
 
 module _ (loops : Loops) (fs gs : List Affine) (n : ℕ) where
   pub most_by_every : AreTriesOfAll loops fs gs (Every n) → IsMost loops fs gs n
@@ -246,8 +255,19 @@ module _ (loops : Loops) (fs gs : List Affine) (n : ℕ) where
           by_place rest (inr more) =
               rest (t - n) (omega (arith, few, h.0)) (omega (arith, more)) (sym (h.1 (t - n)) ∙ ap (λ k. is_open loops (Steps k) fs gs) (sym (before more)) ∙ may)
 
+  pub none_past_passes : AreTriesOfAll loops fs gs (UpTo n) → PassesBits n → NumbersPass loops fs gs
+  none_past_passes h more = (n, more, inl h.2)
+
   pub most_by_none_past : AreTriesOfAll loops fs gs (UpTo n) → IsMost loops fs gs n
   most_by_none_past h = record { some = h.0; enough = λ t more may. absurd (no (sym (h.1 t more) ∙ may)) }
+
+not_one : (n : ℕ) → n ≡ 1 → PassesBits n → ⊥
+not_one n e more = omega (arith, e, more)
+
+pub every_passes : (loops : Loops) (fs gs : List Affine) (n : ℕ) → AreTriesOfAll loops fs gs (Every n) → PassesBits n → NumbersPass loops fs gs
+every_passes loops [] gs n h more = absurd (not_one n h.2 more)
+every_passes loops (f ∷ fs) [] n h more = absurd (not_one n h.2 more)
+every_passes loops (f ∷ fs) (g ∷ gs) n h more = (n, more, inr (inl h.2))
 
 -- without an index each number of steps does the same
 pub most_without : (loops : Loops) (fs gs : List Affine) → (fs ≡ []) ⊎ (gs ≡ []) → IsMost loops fs gs 1

@@ -2,9 +2,11 @@ pub mod Around
 pub mod Spots
 pub mod Sites
 pub mod Between
+pub mod Bits
 pub mod Meets
 pub mod Plain
 pub mod Entries
+pub mod ExampleNumbers
 pub mod Examples
 pub mod Reach
 pub mod Steps

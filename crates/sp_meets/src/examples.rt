@@ -1,12 +1,14 @@
 //! Worked cores. Each function does nothing: what it ensures are the meets of cores, which were worked out by hand.
 
-ghost use Rattle.std.specs.Prelude.{◌≡◌, [], ◌∷◌};
+ghost use Rattle.std.specs.Prelude.{◌≡◌, ◌^◌, [], ◌∷◌};
 ghost use Rattle.sp_words.specs.declared.kind.Kind.TheVariants.{Reg, ArgIn};
 ghost use Rattle.sp_words.specs.declared.kind.Style.TheVariants.{Pipe, Parallel};
 ghost use Rattle.sp_core.specs.ExampleForms.{meet};
 ghost use Rattle.sp_core.specs.ExampleLanes.{squares_in_lanes, stores_in_lanes};
 ghost use Rattle.sp_core.specs.ExampleLoops.{counting_down, register_between, queued, streamed, shifted};
 ghost use Rattle.sp_core.specs.ExampleTransfers.{histogram, copied};
+ghost use Rattle.sp_meets.specs.Bits.{NumbersPass};
+ghost use Rattle.sp_meets.specs.ExampleNumbers.{loops_up_to, index_by};
 ghost use Rattle.sp_meets.specs.Examples.{meets_of_below, chained, beside, nothing_between, write_between, two_parts, moved_rows};
 
 /// Which accesses of loops meet less than six groups apart.
@@ -45,4 +47,11 @@ pub fn worked_transfers()
     ensures lanes { meets_of_below 6 (stores_in_lanes 4) ≡ meet 6 11 0 ∷ meet 11 21 0 ∷ meet 16 21 0 ∷ meet 21 11 1 ∷ [] }
     // A row is loaded a group after it was stored.
     ensures rows { meets_of_below 6 moved_rows ≡ meet 7 11 0 ∷ meet 11 7 1 ∷ [] }
+{}
+
+/// By a counter of their own that goes up to 3, two indices `i + 10 * j` are 60 apart at most; by one that goes up to 2^40, two
+/// indices `i + 2^40 * j` are so far apart that no 64 bits hold it.
+pub fn worked_numbers()
+    ensures few { NumbersPass (loops_up_to 3) (index_by 10) (index_by 10) → ⊥ }
+    ensures many { NumbersPass (loops_up_to (2 ^ 40)) (index_by (2 ^ 40)) (index_by (2 ^ 40)) }
 {}

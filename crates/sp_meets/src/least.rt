@@ -6,7 +6,7 @@ ghost use Rattle.sp_deps.specs.Access.{HasRange, PlainAccess, plain_access, can_
 ghost use Rattle.sp_deps.specs.Bounds.{HasCounters};
 ghost use Rattle.sp_deps.specs.Distances.{AreParallel, ArePresentAndParallel, IsDistanceOver};
 ghost use Rattle.sp_deps.specs.Stages.{IsFootprint, loops_between};
-ghost use Rattle.sp_meets.specs.Steps.{loops_of, parts_meet, IsFirst, IsOne, IsLinearOf, IsDistanceOf};
+ghost use Rattle.sp_meets.specs.Steps.{loops_of, parts_meet, IsFirst, IsOne, IsUnknown, IsLinearOf, IsDistanceOf};
 
 use crate::steps::most_tries;
 use sp_affine::Form;
@@ -64,7 +64,7 @@ pub enum Linear {
     TooMany,
 }
 
-#[tactic(auto, using(crate::proofs::Distance::linear_is, crate::proofs::Parallel::most_without))]
+#[tactic(auto, using(crate::proofs::Distance::linear_is, crate::proofs::Distance::linear_passes, crate::proofs::Distance::linear_uneven, crate::proofs::Parallel::most_without))]
 fn linear_of(
     a: &[Form],
     b: &[Form],
@@ -109,13 +109,14 @@ fn linear_with(
 }
 
 // Where the linear parts are equal.
-#[tactic(auto, using(crate::proofs::Distance::parallel_some, crate::proofs::Distance::parallel_never))]
+#[tactic(auto, using(crate::proofs::Distance::parallel_some, crate::proofs::Distance::parallel_never, crate::proofs::Distance::parallel_unknown))]
 fn parallel_distance(a: &Footprint, b: &Footprint, most: u64) -> Option<Dist>
     requires a { IsFootprint a.now }
     requires b { IsFootprint b.now }
     requires common { take a.now.common a.now.loops.items ≡ take b.now.common b.now.loops.items }
-    ensures { (x y : PlainAccess) → IsOne a.now x → IsOne b.now y → can_meet x y ≡ true → 1 ≤ length (loops_between a.now b.now).common
+    ensures distance { (x y : PlainAccess) → IsOne a.now x → IsOne b.now y → can_meet x y ≡ true → 1 ≤ length (loops_between a.now b.now).common
         → IsLinearOf (loops_between a.now b.now) x.forms y.forms (Linear.Equal most) → IfSome result (λ d. IsDistanceOf a.now b.now x y d) }
+    ensures none { IsNone result → (x y : PlainAccess) → IsLinearOf (loops_between a.now b.now) x.forms y.forms (Linear.Equal most) → IsUnknown (loops_between a.now b.now) x.forms y.forms }
 {
     if most == u64::MAX {
         return None;
@@ -228,7 +229,7 @@ fn own_distance(a: &Footprint, b: &Footprint) -> Option<Dist>
     requires common { take a.now.common a.now.loops.items ≡ take b.now.common b.now.loops.items }
     requires some { a.now.common ≢ 0 }
     ensures distance { (x y : PlainAccess) → IsOne a.now x → IsOne b.now y → can_meet x y ≡ true → IfSome result (λ d. IsDistanceOf a.now b.now x y d) }
-    ensures none { IsNone result → (x y : PlainAccess) → IsOne a.now x → IsOne b.now y → ArePresentAndParallel x.forms y.forms }
+    ensures none { IsNone result → (x y : PlainAccess) → IsOne a.now x → IsOne b.now y → ArePresentAndParallel x.forms y.forms × IsUnknown (loops_between a.now b.now) x.forms y.forms }
 {
     match linear_between(a, b) {
         Linear::Other => Some(slanted_distance(a, b)),
@@ -247,7 +248,7 @@ pub fn least_distance(a: &Footprint, b: &Footprint) -> Option<Dist>
     requires common { take a.now.common a.now.loops.items ≡ take b.now.common b.now.loops.items }
     ensures distance { (x y : PlainAccess) → IsOne a.now x → IsOne b.now y → can_meet x y ≡ true → IfSome result (λ d. IsDistanceOf a.now b.now x y d) }
     ensures found { length a.now.loops.items ≡ a.now.common → length b.now.loops.items ≡ b.now.common → (x y : PlainAccess) → IsOne a.now x → IsOne b.now y → IsSome result }
-    ensures none { IsNone result → (x y : PlainAccess) → IsOne a.now x → IsOne b.now y → 0 < a.now.common × ArePresentAndParallel x.forms y.forms }
+    ensures none { IsNone result → (x y : PlainAccess) → IsOne a.now x → IsOne b.now y → 0 < a.now.common × ArePresentAndParallel x.forms y.forms × IsUnknown (loops_between a.now b.now) x.forms y.forms }
 {
     if a.common == 0 {
         return Some(group_distance(a, b));

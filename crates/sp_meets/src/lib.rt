@@ -16,6 +16,6 @@ mod view;
 mod walk;
 
 pub use collect::meets;
-pub use examples::{worked_loops, worked_stages, worked_transfers};
+pub use examples::{worked_loops, worked_numbers, worked_stages, worked_transfers};
 pub use least::least_distance;
 pub use std::alloc::AllocError as NoMemory;

@@ -1,12 +1,13 @@
 //! How many steps of the last counter have to be tried to find the first one at which two accesses may meet, where their
 //! linear parts are equal.
-ghost use Rattle.std.specs.Prelude.{◌≡◌, ◌≤◌, ◌<◌, ◌+◌, ◌-ℤ◌, ◌*ℤ◌, ℕ, pos, length, unsigned_abs, Some, IfSome};
+ghost use Rattle.std.specs.Prelude.{◌≡◌, ◌≤◌, ◌<◌, ◌+◌, ◌^◌, ◌-ℤ◌, ◌*ℤ◌, ℕ, pos, length, unsigned_abs, Some, IfSome, IsNone};
 ghost use Rattle.std.specs.List.{All};
 ghost use Rattle.sp_deps.specs.Access.{advance};
 ghost use Rattle.sp_deps.specs.Bounds.{HasCounters};
 ghost use Rattle.sp_deps.specs.Classes.{of_common, of_own, last_step};
 ghost use Rattle.sp_meets.specs.declared.steps.Tries.TheVariants.{Every, Unknown};
 ghost use Rattle.sp_deps.specs.Distances.{AreParallel};
+ghost use Rattle.sp_meets.specs.Bits.{PassesBits, NumbersPass};
 ghost use Rattle.sp_meets.specs.Reach.{part_reach, reach, is_unbounded, unbounded};
 ghost use Rattle.sp_meets.specs.Steps.{loops_of, AreTriesBy, AreTriesOf, AreTriesOfAll, IsBoth, IsJoined, IsMost, IsPast};
 
@@ -40,7 +41,8 @@ fn parts<'a>(coefs: &'a [i64], common: &[LoopRange], own: &[LoopRange]) -> Coefs
 }
 
 fn part_reach(x: &i64, l: &LoopRange) -> Option<u128>
-    ensures { IfSome result (λ n. part_reach (unsigned_abs x.now) l.now.from ≡ Some n) }
+    ensures some { IfSome result (λ n. part_reach (unsigned_abs x.now) l.now.from ≡ Some n) }
+    ensures none { IsNone result → (n : ℕ) → part_reach (unsigned_abs x.now) l.now.from ≡ Some n → 2 ^ 128 ≤ n }
 {
     let size = u128::from(x.unsigned_abs());
     match l.from {
@@ -53,8 +55,10 @@ fn part_reach(x: &i64, l: &LoopRange) -> Option<u128>
 }
 
 /// How far counters of an access's own take an index.
+#[tactic(auto, using(crate::proofs::Unknown::sum_first, crate::proofs::Unknown::sum_second))]
 fn reach(coefs: &[i64], loops: &[LoopRange]) -> Option<u128>
-    ensures { IfSome result (λ n. reach coefs.now loops.now ≡ Some n) }
+    ensures some { IfSome result (λ n. reach coefs.now loops.now ≡ Some n) }
+    ensures none { IsNone result → (n : ℕ) → reach coefs.now loops.now ≡ Some n → 2 ^ 128 ≤ n }
 {
     let [x, xs @ ..] = coefs else {
         return Some(0);
@@ -116,7 +120,8 @@ fn far(y: &i64, l: &LoopRange) -> u128
 
 fn most_steps(start: u64, p: u128, q: u128, step: u128) -> Option<u64>
     requires { 0 < step }
-    ensures { IfSome result (λ n. IsPast start p q step n) }
+    ensures some { IfSome result (λ n. IsPast start p q step n) }
+    ensures none { IsNone result → PassesBits (start + (p + q) + 1) }
 {
     let reach = p.checked_add(q)?.checked_add(u128::from(start))?;
     let most = u64::try_from(reach / step).ok()?;
@@ -124,6 +129,7 @@ fn most_steps(start: u64, p: u128, q: u128, step: u128) -> Option<u64>
 }
 
 // By the coefficients of two indices, and how far their constants are apart.
+#[tactic(auto, using(crate::proofs::Unknown::first_unknown, crate::proofs::Unknown::second_unknown, crate::proofs::Unknown::steps_unknown))]
 fn tries_by(
     xs: &[i64],
     ys: &[i64],
@@ -251,7 +257,7 @@ fn tries_of_all(
 }
 
 /// How many steps have to be tried, where that is known.
-#[tactic(auto, using(crate::proofs::Parallel::most_by_every, crate::proofs::Parallel::most_by_none_past))]
+#[tactic(auto, using(crate::proofs::Parallel::most_by_every, crate::proofs::Parallel::most_by_none_past, crate::proofs::Parallel::every_passes, crate::proofs::Parallel::none_past_passes))]
 pub fn most_tries(
     a: &[Form],
     b: &[Form],
@@ -263,7 +269,9 @@ pub fn most_tries(
     requires b { All (λ g. HasCounters common.now second.now g.coefs) b.now }
     requires parallel { AreParallel a.now b.now }
     requires alike { length first.now ≡ length second.now }
-    ensures { IfSome result (λ n. IsMost (loops_of common.now first.now second.now) a.now b.now n) }
+    ensures some { IfSome result (λ n. IsMost (loops_of common.now first.now second.now) a.now b.now n) }
+    ensures passes { IfSome result (λ n. PassesBits n → NumbersPass (loops_of common.now first.now second.now) a.now b.now) }
+    ensures none { IsNone result → NumbersPass (loops_of common.now first.now second.now) a.now b.now }
 {
     match tries_of_all(a, b, common, first, second) {
         Tries::Every(n) => Some(n),

@@ -129,6 +129,8 @@ loops_of_nodes_work core plan delays work timeline s start more step slots first
     let w = work s start more step slots firsts done t all circuit turn_by_turn (subst (λ xs. IsOnAt (is_on s start) (Begins xs) t) (sym b) started)
     (λ r g c l at. tells r g c l (omega (arith, at, le))) (slots_do core plan delays k n counters owned stages places timeline arranged runs takes s slots shaped last t le does) in
     record {
+      steps = w.steps;
+      first_cycles = w.first_cycles;
       starts = slots_start core plan delays k n counters owned stages places timeline arranged runs takes s slots shaped last t le w.starts;
       ends = subst (λ xs. IsOnAt (is_on s done) (Ends xs) t) b w.ends;
     }

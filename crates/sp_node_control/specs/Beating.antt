@@ -11,11 +11,11 @@ use Rattle.sp_sequence.specs.declared.part.Chain.{Chain}
 use Rattle.sp_sequence.specs.declared.part.Member.{Member}
 use Rattle.sp_sequence.specs.declared.part.Slot.{Slot}
 use Rattle.sp_beats.specs.Beats.{RunsBeats}
-use Rattle.sp_sequence_runs.specs.Chains.{Numbered, SaysWanted, turn}
+use Rattle.sp_sequence_runs.specs.Chains.{Numbered, At, SaysWanted, turn}
 use Rattle.sp_sequence_runs.specs.Places.{stage_at as stage_in, sizes, IsPlace, AreArranged}
 use Rattle.sp_sequence_runs.specs.Runs.{MemberRan, shape_of}
 use Rattle.sp_beat_runs.specs.Laws.{TellsMore}
-use Rattle.sp_beat_runs.specs.Runs.{BeatsRan, slot_cycle, slot_found, groups_in}
+use Rattle.sp_beat_runs.specs.Runs.{BeatsRan, slot_cycle, slot_found, groups_in, steps_in, step_cycle}
 use Rattle.sp_core.specs.History.{History, Groups, outer_ran, no_group, more_group}
 use Rattle.sp_core.specs.Numbering.{counters_size}
 use Rattle.sp_core.specs.PlainCore.{PlainCounter, PlainStages, outer, PlainCore}
@@ -97,7 +97,10 @@ module _ (core : PlainCore) (plan : PlainPlan) (delays : Delays) where
     abbrev pub SlotStarts : Signals → List Placed → (last slot : ℕ) → Slot → Type 0
     SlotStarts s runs last x slot = Numbered (λ j c. ChainStarts s runs last x j c) 0 slot.chains.items
 
-    pub record LoopGoes (s : Signals) (slots : List Slot) (done last : ℕ) (style : Style) (runs : List Placed) : Type 0 where
+    -- there is a step in the first cycle of each beat and at the end of each run, and slots have their first cycles where they get groups
+    pub record LoopGoes (s : Signals) (step : ℕ) (slots : List Slot) (firsts : List ℕ) (done last : ℕ) (style : Style) (runs : List Placed) : Type 0 where
+      pub steps : IsOnAt (is_on s step) (At (step_cycle (shape_of slots)) (steps_in (shape_of slots) (map beats_ran runs))) last
+      pub first_cycles : Numbered (λ x first. IsOnAt (is_on s first) (At (slot_cycle (shape_of slots) x) (groups_in (map beats_ran runs))) last) 0 firsts
       pub starts : Numbered (λ x slot. SlotStarts s runs last x slot) 0 slots
       pub ends : IsOnAt (is_on s done) (Ends (rans core plan delays (outer counters style owned stages) k n runs)) last
 
@@ -107,4 +110,4 @@ module _ (core : PlainCore) (plan : PlainPlan) (delays : Delays) where
       → RunsBeats s (is_on s start) (is_on s more) (is_on s step) slots firsts (is_on s done) → AreOuters runs → AreWithin core plan delays (outer counters style owned stages) k n from until runs
       → AreArranged places (slots_of (node_plan plan k)) → shape_of slots ≡ sizes places → TakeTime k n counters owned stages places runs
       → TellsMore s more slots last (map (beats_ran k n counters owned stages places) runs) → SlotsDo k n counters owned stages places s runs last slots
-      → (t : ℕ) → t ≤ last → IsStarted s start (rans core plan delays (outer counters style owned stages) k n runs) t → LoopGoes k n counters owned stages places s slots done t style runs
+      → (t : ℕ) → t ≤ last → IsStarted s start (rans core plan delays (outer counters style owned stages) k n runs) t → LoopGoes k n counters owned stages places s step slots firsts done t style runs

@@ -50,7 +50,7 @@ all_below slots p (suc n) = by (is_slot (slot_at slots n) p) (all_below slots p 
     by false h = below_next n (stages_in slots p n) h
 
 module _ (core : PlainCore) (plan : PlainPlan) (delays : Delays) where
-  took_some : (node : PlainNode) (k n : ℕ) (st : Standing) (copies : Copies) (h : History) → IsTimed node → HistoryFits core node h → 1 ≤ (timed core plan delays node k n st copies h).took
+  pub took_some : (node : PlainNode) (k n : ℕ) (st : Standing) (copies : Copies) (h : History) → IsTimed node → HistoryFits core node h → 1 ≤ (timed core plan delays node k n st copies h).took
   unfolding timed
   took_some (inner counters owned ops comb) k n st copies (inner_ran bs counts groups) is f = inner_some (length groups) _ _
   took_some (outer counters style owned stages) k n st copies (outer_ran bs counts groups) is f = omega arith

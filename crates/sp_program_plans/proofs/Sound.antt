@@ -58,8 +58,8 @@ fits_in_lanes core input h = record { args = h.args; drams = h.drams }
 
 pub runs_in_time : (p : PlainProgram) (plan : PlainPlan) (delays : Delays) → ProgramEnds p → ProgramPlanIsSound p plan delays → ProgramRunsInTime p plan delays
 unfolding meaning
-runs_in_time p plan delays ends sound made own input turns fits outs drams h e =
-    let x = ends own turns input fits outs drams h e in
+runs_in_time p plan delays ends sound made input turns fits outs drams h e =
+    let x = ends turns input fits outs drams h e in
     let r = ended_run (laned p) outs drams x.0 (run_core in_lanes turns (laned p) input) x.1 in
     record {
       history = x.0;

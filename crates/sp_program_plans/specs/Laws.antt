@@ -27,7 +27,6 @@ use Rattle.sp_overlap.specs.Whole.{IsTimed, HasPlan}
 use Rattle.sp_patterns.specs.Patterns.{patterns_of}
 use Rattle.sp_ports.specs.Whole.{InnersShareNone}
 use Rattle.sp_meets.specs.Meets.{IsMeetsOf}
-use Rattle.sp_lane_programs.specs.Words.{CombineOwn}
 
 -- the core of a program in lanes, and the forms of its accesses
 abbrev pub laned : PlainProgram → PlainCore
@@ -68,10 +67,10 @@ pub record RunsSoundly (p : PlainProgram) (plan : PlainPlan) (delays : Delays) (
   pub sound : IsSoundRun p plan delays input history ended
   pub no_oftener : rounds (laned p).root (shape_of (laned p).root history) ≤ rounds (core_of p).root (shape_of (core_of p).root h)
 
--- where the core ends there is such a run, if loops of several lanes combine words of their own
+-- where the core ends there is such a run
 abbrev pub ProgramRunsInTime : PlainProgram → PlainPlan → Delays → Type 0
 ProgramRunsInTime p plan delays =
-    IsPlanFor p plan → CombineOwn p.body → (input : PlainInput) (turns : ℕ) → InputFits (core_of p) input
+    IsPlanFor p plan → (input : PlainInput) (turns : ℕ) → InputFits (core_of p) input
     → (outs : List ℕ) (drams : List (List ℕ)) (h : History) → meaning plainly turns (core_of p) input ≡ ended_with outs drams h → RunsSoundly p plan delays input turns outs drams h
 
 -- and by a brisk plan it ends within the limit of as many turns as the core goes around, where no transfer waits longer than a delay

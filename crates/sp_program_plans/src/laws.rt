@@ -31,7 +31,7 @@ pub fn program_plans_are_sound()
 }
 
 /// Where the core of a program ends, its core in lanes ends with the same words of outputs and of DRAMs, in a run that the plan
-/// makes sound and that goes around no oftener, if the program combines words of its loops' own.
+/// makes sound and that goes around no oftener.
 pub fn programs_run_in_time()
     ensures { (p : PlainProgram) (plan : PlainPlan) (delays : Delays) → IsProgram p → ProgramRunsInTime p plan delays }
 {

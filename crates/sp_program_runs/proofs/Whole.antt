@@ -20,7 +20,6 @@ use Rattle.sp_lanes.specs.Unrolled.{unrolled}
 use Rattle.sp_lane_cores.specs.Laws.{StaysCore}
 use Rattle.sp_by_lane.specs.Laws.{ProgramIsByLane}
 use Rattle.sp_lane_programs.specs.Laws.{ProgramEnds}
-use Rattle.sp_lane_programs.specs.Words.{CombineOwn}
 use Rattle.sp_outcomes.specs.Laws.{IsProgramFollowed}
 use Rattle.sp_turns.specs.Laws.{ProgramRoundsWithinTurns}
 use Rattle.sp_plan.specs.PlainPlan.{PlainPlan}
@@ -70,17 +69,17 @@ at_most : (a b c : ℕ) → a ≤ b → b ≤ c → a ≤ c
 at_most a b c f g = omega (arith, f, g)
 
 -- where the program ends
-ends_in_lanes : (p : PlainProgram) → IsProgramFollowed p → ProgramEnds p → ProgramRoundsWithinTurns p → CombineOwn p.body → (n : ℕ) (input : PlainInput) → InputFits (core_of p) input
+ends_in_lanes : (p : PlainProgram) → IsProgramFollowed p → ProgramEnds p → ProgramRoundsWithinTurns p → (n : ℕ) (input : PlainInput) → InputFits (core_of p) input
     → (outs : List ℕ) (drams : List (List ℕ)) (turns : ℕ) (shape : Shape) → seq n p input ≡ program.ended outs drams turns shape → InLanes p n input outs drams turns
-ends_in_lanes p followed ends falls own n input fits outs drams turns shape e =
+ends_in_lanes p followed ends falls n input fits outs drams turns shape e =
     let c = followed n input outs drams turns shape e in
-    let x = ends own n input fits outs drams c.0 c.1 in
+    let x = ends n input fits outs drams c.0 c.1 in
     in_lanes_run p n input outs drams turns x.0 x.1
     (at_most (rounds (laned p).root (shape_of (laned p).root x.0)) (rounds (core_of p).root (shape_of (core_of p).root c.0)) turns x.2 (falls n input outs drams turns shape e outs drams c.0 c.1))
 
 pub programs_run : (p : PlainProgram) (plan : PlainPlan) (delays : Delays) (delay : ℕ) → StaysCore p → ProgramIsByLane p → ProgramIsTimed p → IsProgramFollowed p → ProgramEnds p → ProgramRoundsWithinTurns p → ChosenPlansRun (laned p) plan delays delay → ProgramRuns p plan delays delay
 programs_run p plan delays delay is by timed followed ends falls run meets has waits n input fits outs drams turns shape e =
-    let x : InLanes p n input outs drams turns = ends_in_lanes p followed ends falls has.combines_own n input fits outs drams turns shape e in
+    let x : InLanes p n input outs drams turns = ends_in_lanes p followed ends falls n input fits outs drams turns shape e in
     let chosen : HasChosen (laned p) meets plan = record { is_core = is; is_timed = timed has.is_timed; by_lane = by; meets_are = has.meets_are; is_chosen = has.is_chosen } in
     let well : RunsWell (laned p) plan delays delay input x.history x.left = run meets chosen waits input n x.history x.left (fits_in_lanes (core_of p) input fits) x.ran in
     record {

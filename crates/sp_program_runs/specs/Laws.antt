@@ -23,7 +23,6 @@ use Rattle.sp_machine.specs.Timeline.{core_timed}
 use Rattle.sp_machine.specs.Transfers.{Delays}
 use Rattle.sp_patterns.specs.Patterns.{patterns_of}
 use Rattle.sp_meets.specs.Meets.{IsMeetsOf}
-use Rattle.sp_lane_programs.specs.Words.{CombineOwn}
 use Rattle.sp_timed_programs.specs.Timed.{BodyTimed}
 use Rattle.sp_chosen_runs.specs.Laws.{RunsWell}
 
@@ -31,11 +30,9 @@ use Rattle.sp_chosen_runs.specs.Laws.{RunsWell}
 abbrev pub laned : PlainProgram → PlainCore
 laned p = unrolled (core_of p)
 
--- a program without proper `Stream` blocks, gathers, scatters and wide transfers, whose loops of several lanes combine words of
--- their own, with the plan that is chosen for it
+-- a program without proper `Stream` blocks, gathers, scatters and wide transfers, with the plan that is chosen for it
 pub record HasPlan (p : PlainProgram) (meets : List Meet) (plan : PlainPlan) : Type 0 where
   pub is_timed : BodyTimed p.mems p.body
-  pub combines_own : CombineOwn p.body
   pub meets_are : IsMeetsOf (laned p) (patterns_of (laned p)) meets
   pub is_chosen : IsPlanned (laned p) (patterns_of (laned p)) meets plan
 

@@ -22,7 +22,7 @@ use Rattle.sp_sugar.specs.Operations.{Code, source_code, code, code_of, codes}
 use Rattle.sp_sugar.specs.Values.{Source, at_place, in_register, constant, count, Sources}
 use Rattle.sp_sugar.proofs.Cores.{contains_count}
 use Rattle.sp_sugar.proofs.OwnerCounts.{count_of}
-use Rattle.sp_laned.proofs.Naming.{SourceHas, SourcesHave}
+use Rattle.sp_lane_cores.proofs.LanedNaming.{SourceHas, SourcesHave}
 use Rattle.sp_stream.proofs.Ways.{or_elim, or_first, or_second}
 
 -- what holds of each operation of a list

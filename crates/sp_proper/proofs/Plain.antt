@@ -23,7 +23,7 @@ use Rattle.sp_sugar.specs.Early.{is_early, from_register, counters_of, after as 
 use Rattle.sp_sugar.specs.Numbers.{mem_number, written_mems}
 use Rattle.sp_sugar.specs.Operations.{read_op, word_list}
 use Rattle.sp_sugar.specs.Values.{Source, at_place, in_register, constant, count, Sources}
-use Rattle.sp_laned.proofs.Naming.{SourceHas, SourcesHave, Test, InRange, names_pass, IsPassed, pass_append, code_passes}
+use Rattle.sp_lane_cores.proofs.LanedNaming.{SourceHas, SourcesHave, Test, InRange, names_pass, IsPassed, pass_append, code_passes}
 use Rattle.sp_proper.proofs.Deeds.{IsChip, Low}
 use Rattle.sp_proper.proofs.RunDeeds.{neither}
 

@@ -27,7 +27,7 @@ use Rattle.sp_sugar.specs.Values.{Sources}
 use Rattle.sp_sugar.proofs.NumberLemmas.{either}
 use Rattle.sp_sugar.proofs.OwnerCounts.{one_if, count_of, count_append}
 use Rattle.sp_sugar.proofs.Owners.{self_count}
-use Rattle.sp_laned.proofs.Naming.{SourcesHave, ValuesHave, stmt_have}
+use Rattle.sp_lane_cores.proofs.LanedNaming.{SourcesHave, ValuesHave, stmt_have}
 use Rattle.sp_proper.proofs.Deeds.{each_append, Place, IsChip, Deed, computes, resets, begins, Includes, left_part, right_part, among_front, among_back, Low, Sees, Does, touching, code_does, codes_does}
 
 -- what a statement does by itself

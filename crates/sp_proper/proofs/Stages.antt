@@ -29,7 +29,7 @@ use Rattle.sp_sugar.proofs.NumberLemmas.{either}
 use Rattle.sp_sugar.proofs.Cores.{contains_count}
 use Rattle.sp_sugar.proofs.Entering.{same_mems}
 use Rattle.sp_sugar.proofs.OwnerCounts.{one_if, count_of, count_append}
-use Rattle.sp_laned.proofs.Naming.{SourcesHave, InRange}
+use Rattle.sp_lane_cores.proofs.LanedNaming.{SourcesHave, InRange}
 use Rattle.std.proofs.lemmas.List.{length-append}
 use Rattle.sp_proper.proofs.Deeds.{each_append, Place, IsChip, Deed, Includes, includes_itself, left_part, right_part, Low, Sees, Does}
 use Rattle.sp_proper.proofs.RunDeeds.{Declares, declares_front, declares_back, RunDoes, neither, among_alone, sees_after, inner_does, next_does, bounds_do, fold_does, reduce_does}

@@ -27,8 +27,8 @@ use Rattle.sp_sugar.specs.Values.{Source, at_place, in_register, constant, count
 use Rattle.sp_sugar.proofs.Entering.{same_mems}
 use Rattle.sp_sugar.proofs.NumberLemmas.{either}
 use Rattle.sp_sugar.proofs.OwnerCounts.{count_of, count_append}
-use Rattle.sp_laned.proofs.Earlier.{run_good, early_good}
-use Rattle.sp_laned.proofs.Naming.{SourceHas, SourcesHave, ValuesHave, RegisterHas, changed_have, stmt_have}
+use Rattle.sp_lane_cores.proofs.LanedEarlier.{run_good, early_good}
+use Rattle.sp_lane_cores.proofs.LanedNaming.{SourceHas, SourcesHave, ValuesHave, RegisterHas, changed_have, stmt_have}
 use Rattle.sp_proper.proofs.Block.{block_right}
 use Rattle.sp_proper.proofs.Deeds.{Low}
 use Rattle.sp_proper.proofs.Plain.{HasKinds}

@@ -1,8 +1,7 @@
 -- The first port that shows that an input doesn't fit.
-use Rattle.std.proofs.Common.{◌≡◌, ℕ, ◌+◌, ◌<◌, ◌≤◌, List, length, get_or, map, refl, sym, ap, ◌∙◌, subst, arith, ⊎_elim, ◌↔◌, Option, Some, None, Result, Ok, Err}
+use Rattle.std.proofs.Common.{◌≡◌, ℕ, ◌+◌, ◌<◌, ◌≤◌, List, length, get_or, map, refl, sym, ap, ◌∙◌, arith, ⊎_elim}
 use Rattle.std.proofs.lemmas.Bool.{cases_lt}
 use Rattle.std.proofs.lemmas.List.{get_or-map}
-use Rattle.std.specs.Global.{Vec}
 use Rattle.sp_words.specs.declared.interface.PortDecl.{PortDecl}
 use Rattle.sp_words.specs.Ports.{PlainPorts, plain_port}
 use Rattle.sp_netlist.specs.Refusals.{IsLeast}

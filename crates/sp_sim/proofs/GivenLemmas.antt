@@ -1,5 +1,5 @@
 -- Ports that an input fits, as cells.
-use Rattle.std.proofs.Common.{◌≡◌, ℕ, zero, suc, ◌+◌, ◌*◌, ◌<◌, ◌≤◌, List, [], ◌∷◌, ◌++◌, Bool, length, get_or, map, filter_map, count_by, refl, sym, ap, ◌∙◌, subst, arith, All, Option, Some, None, is_some, one-add}
+use Rattle.std.proofs.Common.{◌≡◌, ℕ, zero, suc, ◌+◌, ◌<◌, ◌≤◌, List, [], ◌∷◌, ◌++◌, Bool, length, get_or, filter_map, count_by, refl, sym, ap, ◌∙◌, subst, arith, All, Option, Some, None, is_some, one-add}
 use Rattle.std.specs.List.{AllZip, cons_option}
 use Rattle.sp_words.specs.Words.{IsWord}
 use Rattle.sp_words.specs.Interface.{word_count}

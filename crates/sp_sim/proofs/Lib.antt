@@ -20,3 +20,6 @@ pub mod Faults
 pub mod Counted
 pub mod Parts
 pub mod Watched
+pub mod StepLemmas
+pub mod StepWords
+pub mod DenseRows

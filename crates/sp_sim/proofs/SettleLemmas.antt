@@ -1,10 +1,10 @@
 -- The nets that are computed have their words.
-use Rattle.std.proofs.Common.{◌≡◌, ℕ, ◌<◌, ◌^◌, List, [], ◌∷◌, length, map, take, Contains, refl, sym, ap, ◌∙◌, subst, arith, Option, Some}
+use Rattle.std.proofs.Common.{◌≡◌, ℕ, ◌<◌, ◌^◌, List, [], ◌∷◌, length, map, take, Contains, refl, sym, ap, subst, arith, Some}
 use Rattle.std.specs.List.{fold}
 use Rattle.sp_netlist.specs.Cells.{PlainCell, op_cell, not_cell, shift_cell, cast_cell, mux_cell}
 use Rattle.sp_netlist.specs.Rules.{drives, reads, IsNetlist, IsRight}
 use Rattle.sp_sim.specs.Rows.{word_of, with_word}
-use Rattle.sp_sim.specs.Settling.{cell_at, computed_word, computed_width, OperandsFit, IsRow, put_some, settle_cell, settle_one, settled}
+use Rattle.sp_sim.specs.Settling.{cell_at, computed_word, computed_width, OperandsFit, IsRow, settle_cell, settle_one, settled}
 use Rattle.sp_sim.proofs.CellLemmas.{right_at, drives_driven, reads_driven, IsRow-put}
 
 operands : (cells before : List PlainCell) (row : List (ℕ × ℕ)) (x : PlainCell) → IsRight cells before x

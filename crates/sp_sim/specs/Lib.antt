@@ -14,3 +14,4 @@ pub mod States
 pub mod Writing
 pub mod Texts
 pub mod Programs
+pub mod Steps

@@ -1,5 +1,5 @@
 -- What is true of the parts of a simulation.
-use Rattle.std.specs.Prelude.{◌≡◌, ℕ, ◌<◌, List, length, count_by, Option, Some, None}
+use Rattle.std.specs.Prelude.{◌≡◌, ℕ, ◌<◌, length, count_by, Option, Some, None}
 use Rattle.sp_netlist.specs.Rules.{is_dram, IsNetlist}
 use Rattle.sp_netlist.specs.Signals.{Setting, Signals}
 use Rattle.sp_netlist.specs.Cycle.{GoesOn}

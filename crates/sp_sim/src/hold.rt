@@ -17,11 +17,8 @@ use sp_netlist::{Cell, NetId};
 fn taken(row: &Row, enable: NetId, word: u64, net: NetId) -> u64
     ensures { result ≡ (if word_of row.now enable == 1 then word else word_of row.now net) }
 {
-    if row.get(enable) == 1 {
-        word
-    } else {
-        row.get(net)
-    }
+    let kept = row.get(net);
+    if row.get(enable) == 1 { word } else { kept }
 }
 
 /// The word of READY of a channel.

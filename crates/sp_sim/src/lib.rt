@@ -15,6 +15,7 @@ mod serve;
 mod settle;
 mod sim;
 mod state;
+mod step;
 mod write;
 
 pub use end::{SimEnd, SimLoad};

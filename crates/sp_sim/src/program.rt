@@ -1,10 +1,13 @@
 //! The cells of a netlist by what they do in a cycle.
-ghost use Rattle.std.specs.Prelude.{◌≡◌, ◌<◌, ◌++◌, ◌∷◌, [], map, filter, length, All, IfOk, OnOk};
+ghost use Rattle.std.specs.Prelude.{◌≡◌, ◌++◌, ◌∷◌, [], map, filter, All, IfOk, OnOk};
 ghost use Rattle.sp_netlist.specs.Cells.{plain_cell, plain_cells};
 ghost use Rattle.sp_sim.specs.Settling.{cell_at};
+ghost use Rattle.sp_netlist.specs.Order.{IsComputing};
 ghost use Rattle.sp_sim.specs.Programs.{in_part, IsProgram};
+ghost use Rattle.sp_sim.specs.Steps.{cell_of, cells_of};
 
 use crate::NoMemory;
+use crate::step::{Step, step_of};
 use sp_netlist::{Cell, Netlist, evaluation_order};
 use std::alloc::Global;
 
@@ -23,11 +26,11 @@ pub(crate) enum Part {
     Dones,
 }
 
-/// Copies of a netlist's cells, part by part, so that a cycle goes once through each part and looks at no cell that
-/// has nothing to do. Those that compute stand in an order in which operands come first.
+/// A netlist's cells, part by part, so that a cycle goes once through each part and looks at no cell that has nothing
+/// to do. Those that compute are steps, in an order in which operands come first; the others are copies.
 #[derive(Drop)]
 pub(crate) struct Program {
-    pub(crate) computed: Vec<Cell>,
+    pub(crate) steps: Vec<Step>,
     pub(crate) reads: Vec<Cell>,
     pub(crate) writes: Vec<Cell>,
     pub(crate) kept: Vec<Cell>,
@@ -96,24 +99,22 @@ fn cells_in(alloc: Global, cells: &[Cell], part: Part) -> Result<Vec<Cell>, NoMe
     Ok(found)
 }
 
-/// A copy of the cell at a place.
-fn copy_at(cells: &[Cell], at: usize) -> Result<Cell, NoMemory>
-    requires { at < length cells.now }
-    ensures { IfOk result (λ copy. plain_cell copy ≡ cell_at (plain_cells cells.now) at) }
+/// The step of the cell at a place.
+fn step_at(cells: &[Cell], at: usize) -> Step
+    requires { IsComputing (plain_cells cells.now) at }
+    ensures { cell_of result ≡ cell_at (plain_cells cells.now) at }
 {
-    let cell = &cells[at];
-    copy_of(cell)
+    step_of(&cells[at])
 }
 
-/// The cells at these places.
-fn cells_at(alloc: Global, cells: &[Cell], places: &[usize]) -> Result<Vec<Cell>, NoMemory>
-    requires { All (λ at. at < length cells.now) places.now }
-    ensures { IfOk result (λ found. plain_cells found.items ≡ map (cell_at (plain_cells cells.now)) places.now) }
+/// The steps of the cells at these places.
+fn steps_at(alloc: Global, cells: &[Cell], places: &[usize]) -> Result<Vec<Step>, NoMemory>
+    requires { All (IsComputing (plain_cells cells.now)) places.now }
+    ensures { IfOk result (λ found. cells_of found.items ≡ map (cell_at (plain_cells cells.now)) places.now) }
 {
     let mut found = Vec::with_capacity(alloc, places.len())?;
     for at in places {
-        let copy = copy_at(cells, *at)?;
-        found.push(copy)?;
+        found.push(step_at(cells, *at))?;
     }
     Ok(found)
 }
@@ -124,14 +125,14 @@ pub(crate) fn program_of(alloc: Global, netlist: &Netlist) -> Result<Program, No
 {
     let order = evaluation_order(alloc, netlist)?;
     let cells = netlist.cells();
-    let computed = cells_at(alloc, cells, &order)?;
+    let steps = steps_at(alloc, cells, &order)?;
     let reads = cells_in(alloc, cells, Part::Reads)?;
     let writes = cells_in(alloc, cells, Part::Writes)?;
     let kept = cells_in(alloc, cells, Part::Kept)?;
     let units = cells_in(alloc, cells, Part::Units)?;
     let dones = cells_in(alloc, cells, Part::Dones)?;
     Ok(Program {
-        computed,
+        steps,
         reads,
         writes,
         kept,

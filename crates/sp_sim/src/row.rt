@@ -1,10 +1,15 @@
 //! Rows of words, by nets.
-ghost use Rattle.std.specs.Prelude.{◌≡◌, map, IsTrue, IfOk, OnOk};
+ghost use Rattle.std.specs.Prelude.{◌≡◌, map, IsTrue, IfOk, OnOk, All, Contains};
+ghost use Rattle.std.specs.List.{fold};
 ghost use Rattle.std.specs.List.Sorted.{IsStrictlyIncreasing};
 ghost use Rattle.sp_sim.specs.Rows.{word_of, with_word, IsDense, IsPlaceOf};
+ghost use Rattle.sp_sim.specs.Settling.{IsRow, settle_cell};
+ghost use Rattle.sp_sim.specs.Steps.{cells_of};
 
 use crate::NoMemory;
-use sp_netlist::NetId;
+use crate::settle::{settle_each, settle_places};
+use crate::step::Step;
+use sp_netlist::{NetId, Netlist};
 use std::alloc::Global;
 use std::marker::Model;
 
@@ -20,6 +25,19 @@ fn is_dense(nets: &[u64]) -> bool
     true
 }
 
+/// The place of a number among those that ascend, or how many they are where it isn't one of them. Kept apart, so that
+/// dense nets don't pay for it.
+#[inline(never)]
+fn searched(nets: &[u64], number: u64) -> usize
+    requires { IsStrictlyIncreasing nets.now }
+    ensures { IsPlaceOf nets.now number result }
+{
+    match nets.binary_search(&number) {
+        Ok(place) => place,
+        Err(_) => nets.len(),
+    }
+}
+
 /// The place of a net among those that ascend, or their number where it isn't one of them.
 #[inline]
 fn place_of(nets: &[u64], dense: bool, net: NetId) -> usize
@@ -31,10 +49,7 @@ fn place_of(nets: &[u64], dense: bool, net: NetId) -> usize
     if dense {
         return number as usize;
     }
-    match nets.binary_search(&number) {
-        Ok(place) => place,
-        Err(_) => nets.len(),
-    }
+    searched(nets, number)
 }
 
 /// A word for each of some nets, which ascend.
@@ -92,6 +107,20 @@ impl Row {
         let place = place_of(&self.nets, self.dense, net);
         if place < self.words.len() {
             self.words[place] = word;
+        }
+    }
+
+    /// Computes the nets of these steps, one after the other.
+    pub(crate) fn settle(&mut self, netlist: &Netlist, steps: &[Step])
+        requires stand { All (Contains netlist.now) (cells_of steps.now) }
+        requires is_row { IsRow netlist.now self.old }
+        ensures settled { self.new ≡ fold settle_cell self.old (cells_of steps.now) }
+        ensures is_row { IsRow netlist.now self.new }
+    {
+        if self.dense {
+            settle_places(netlist, steps, &self.nets, &mut self.words);
+        } else {
+            settle_each(netlist, steps, self);
         }
     }
 

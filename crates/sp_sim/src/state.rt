@@ -15,7 +15,6 @@ use crate::phase::Phase;
 use crate::program::Program;
 use crate::row::Row;
 use crate::serve::serve;
-use crate::settle::settle;
 use crate::write::{write_banks, write_drams};
 use sp_netlist::{Netlist, Port};
 
@@ -64,7 +63,7 @@ pub(crate) fn look(netlist: &Netlist, program: &Program, state: &mut State) -> F
         → StandsIn (record { cells = netlist.now; args = args; drams = drams; delays = delays }) s t state.old
         → LookedIn (record { cells = netlist.now; args = args; drams = drams; delays = delays }) s t state.new result }
 {
-    settle(netlist, &program.computed, &mut state.row);
+    state.row.settle(netlist, &program.steps);
     let clash = conflict(
         &program.reads,
         &program.writes,

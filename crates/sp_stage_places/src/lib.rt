@@ -3,4 +3,4 @@
 
 mod laws;
 
-pub use laws::{stages_are_arranged, worked_places};
+pub use laws::{plans_have_places, stages_are_arranged, worked_places};

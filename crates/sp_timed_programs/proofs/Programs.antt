@@ -22,7 +22,7 @@ use Rattle.sp_sugar.specs.Runs.{Run, no_run, next_code, with_stmt}
 use Rattle.sp_sugar.specs.Stages.{run_stage, first_of, Combines, nothing, folds, reduces, reduces_elements, combines, inner_node, last_stages, load_node, store_node, style_of, outer_node, body_node, stages, node}
 use Rattle.sp_sugar.specs.Uses.{Ending, no_more, in_last_run, in_combination}
 use Rattle.sp_sugar.specs.Values.{Sources, no_sources, with_state}
-use Rattle.sp_laned.proofs.Earlier.{run_good, early_good}
+use Rattle.sp_lane_cores.proofs.LanedEarlier.{run_good, early_good}
 use Rattle.sp_overlap.specs.Whole.{IsTimed, AreTimed}
 use Rattle.sp_timed_programs.specs.Timed.{IsInTurn, StmtTimed, BodyTimed}
 

@@ -1,1 +1,4 @@
+mod Places
+pub mod Starting
 pub mod Trees
+mod Working

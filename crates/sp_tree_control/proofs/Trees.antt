@@ -25,7 +25,7 @@ use Rattle.sp_tree_control.specs.Trees.{Controls, StagesControl, IsMember, AreMe
 module _ (core : PlainCore) (plan : PlainPlan) (delays : Delays) (branches : BranchesOfNodesWork core plan delays) (machines : MachinesOfNodesWork core plan delays) (loops : LoopsOfNodesWork core plan delays) (fits : PartsFit core plan delays) (takes : StagesTakeTime core plan delays)
     (sides : SidesComeInTurn core plan delays) (bodies : BodiesComeInTurn core plan delays) (stages_turn : StagesComeInTurn core plan delays) where
   -- members do the runs of their stages
-  members_do : (s : Signals) (last : ℕ) (child : ℕ → Child) (k n : ℕ) (counters : List PlainCounter) (owned : List ℕ) (stages : PlainStages) (places : List (List (List ℕ))) (runs : List Placed) (slots : List Slot)
+  pub members_do : (s : Signals) (last : ℕ) (child : ℕ → Child) (k n : ℕ) (counters : List PlainCounter) (owned : List ℕ) (stages : PlainStages) (places : List (List (List ℕ))) (runs : List Placed) (slots : List Slot)
       → ((i : ℕ) → i < stage_count stages → Does s (child i) (stage_rans core plan delays k n counters owned stages places i runs) last)
       → AreMembers core plan delays s last child k n counters owned stages places runs slots → SlotsDo core plan delays k n counters owned stages places s runs last slots
   members_do s last child k n counters owned stages places runs slots does are =
@@ -38,12 +38,12 @@ module _ (core : PlainCore) (plan : PlainPlan) (delays : Delays) (branches : Bra
       }
 
   -- later stages by their own numbers
-  moved : (s : Signals) (last : ℕ) (stages : PlainStages) (j n i : ℕ) (runs : ℕ → List Placed) (child : ℕ → Child) → StagesControl core plan delays s last stages j n (suc i) runs child → StagesControl core plan delays s last stages j n i (λ m. runs (suc m)) (λ m. child (suc m))
+  abbrev pub moved : (s : Signals) (last : ℕ) (stages : PlainStages) (j n i : ℕ) (runs : ℕ → List Placed) (child : ℕ → Child) → StagesControl core plan delays s last stages j n (suc i) runs child → StagesControl core plan delays s last stages j n i (λ m. runs (suc m)) (λ m. child (suc m))
   moved s last no_stage j n i runs child p = tt
   moved s last (more_stage first final comb node rest) j n i runs child p = (p.0, moved s last rest (j + node_count node) (n + number_count node) (suc i) runs child p.1)
 
   mutual
-    does : (s : Signals) (last : ℕ) (node : PlainNode) (k n from until : ℕ) (runs : List Placed) (c : Child) → IsTimed node → AllFit core plan delays node runs → AreWithin core plan delays node k n from until runs
+    pub does : (s : Signals) (last : ℕ) (node : PlainNode) (k n from until : ℕ) (runs : List Placed) (c : Child) → IsTimed node → AllFit core plan delays node runs → AreWithin core plan delays node k n from until runs
         → Controls core plan delays s last node k n runs c → Does s c (rans core plan delays node k n runs) last
     does s last (branch ops first second) k n from until runs c is f w p t le started =
         let parts = fits.branches k ops first second runs f in
@@ -67,7 +67,7 @@ module _ (core : PlainCore) (plan : PlainPlan) (delays : Delays) (branches : Bra
     does s last (store r m spans) k n from until runs c is f w p t le started = p t le started
     does s last (sparse kind r m places spans count par) k n from until runs c is f w p t le started = p t le started
 
-    stages_do : (s : Signals) (last : ℕ) (stages : PlainStages) (j n from until : ℕ) (runs : ℕ → List Placed) (child : ℕ → Child) → AreTimed stages
+    pub stages_do : (s : Signals) (last : ℕ) (stages : PlainStages) (j n from until : ℕ) (runs : ℕ → List Placed) (child : ℕ → Child) → AreTimed stages
         → ((i : ℕ) → i < stage_count stages → AllFit core plan delays (stage_at stages i) (runs i))
         → ((i : ℕ) → i < stage_count stages → AreWithin core plan delays (stage_at stages i) (node_at stages j i) (number_at stages n i) from until (runs i))
         → StagesControl core plan delays s last stages j n 0 runs child

@@ -4,6 +4,7 @@ ghost use Rattle.sp_core.specs.PlainCore.{PlainCore};
 ghost use Rattle.sp_plan.specs.PlainPlan.{PlainPlan};
 ghost use Rattle.sp_machine.specs.Transfers.{Delays};
 ghost use Rattle.sp_tree_control.specs.Laws.{TreesDo};
+ghost use Rattle.sp_tree_control.specs.Starting.{TreesGo};
 
 use sp_node_control::{branches_of_nodes_work, loops_of_nodes_work, machines_of_nodes_work};
 use sp_node_fits::{parts_fit, stages_take_time};
@@ -13,6 +14,21 @@ use sp_node_runs::{bodies_come_in_turn, sides_come_in_turn, stages_come_in_turn}
 /// together of those of its parts, the whole does its runs: it is done exactly where they are over, up to a cycle.
 pub fn trees_do_their_runs()
     ensures { (core : PlainCore) (plan : PlainPlan) (delays : Delays) → TreesDo core plan delays }
+{
+    branches_of_nodes_work();
+    machines_of_nodes_work();
+    loops_of_nodes_work();
+    parts_fit();
+    stages_take_time();
+    sides_come_in_turn();
+    bodies_come_in_turn();
+    stages_come_in_turn();
+}
+
+/// Where the whole is started in the cycles of its runs, up to a cycle, each of its parts is started in the cycles of its own runs
+/// and in no other, and done where these are over.
+pub fn trees_go_as_told()
+    ensures { (core : PlainCore) (plan : PlainPlan) (delays : Delays) → TreesGo core plan delays }
 {
     branches_of_nodes_work();
     machines_of_nodes_work();

@@ -3,7 +3,7 @@ use Rattle.std.proofs.lemmas.Result.{IfOk-weaker}
 use Rattle.sp_tree.specs.ProgramParts.{plain_program}
 use Rattle.sp_core.specs.CoreParts.{plain_core}
 use Rattle.sp_sugar.specs.Core.{core_of}
-use Rattle.sp_laned.specs.Marks.{IsLaned}
+use Rattle.sp_lane_cores.specs.LanedMarks.{IsLaned}
 use Rattle.sp_proper.specs.Laws.{AreStreamsProper}
 use Rattle.sp_desugar.proofs.program.desugar.Goals as goal
 

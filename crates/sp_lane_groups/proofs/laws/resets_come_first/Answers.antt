@@ -1,4 +1,4 @@
-use Rattle.sp_lane_groups.proofs.Resets.{come_first}
+use Rattle.sp_lane_groups.proofs.ResetsWhole.{come_first}
 use Rattle.sp_lane_groups.proofs.laws.resets_come_first.Goals as goal
 
 pub returns : goal.returns

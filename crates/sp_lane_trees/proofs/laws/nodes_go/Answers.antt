@@ -14,4 +14,5 @@ returns c core = nodes_go core (record {
   outers = c.outers_go.ensures core;
   stages = c.stages_go.ensures core;
   reductions = c.reductions_go.ensures core;
+  elements = c.elements_go.ensures core;
 })

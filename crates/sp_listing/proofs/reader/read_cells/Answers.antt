@@ -1,4 +1,6 @@
-use Rattle.std.proofs.Common.{◌≡◌, length, ◌∙◌, ap, arith}
+use Rattle.std.proofs.Common.{◌≡◌, ◌∷◌, length, sym, ◌∙◌, ap, arith}
+use Rattle.std.proofs.lemmas.Bool.{false≢true}
+use Rattle.sp_listing.proofs.FirstLine.{no_heading}
 use Rattle.sp_listing.specs.Readers.{texts}
 use Rattle.sp_listing.specs.Reading.{pieces}
 use Rattle.sp_listing.proofs.ListingLemmas.{text_read, lines_some, lines_few, lines_count}
@@ -18,3 +20,13 @@ read_lines-requires-clause-few c =
 
 pub returns : goal.returns
 returns c = text_read c.args.bytes.now (texts c.deref.result.now) c.read_lines.result (ap texts c.deref.ensures.value ∙ c.in_ok-lines.ensures) c.read_lines.ensures
+
+pub returns-then-not-is_heading : goal.returns-then-not-is_heading
+returns-then-not-is_heading c =
+    no_heading c.args.bytes.now c.first_line.result.now c.first_line.ensures.0 c.first_line.ensures.1 (λ e. false≢true (sym c.if-not-is_heading.true ∙ c.is_heading.ensures.1 e))
+
+pub read_lines-requires-clause-headed : goal.read_lines-requires-clause-headed
+read_lines-requires-clause-headed c = (
+  c.first_line.ensures.0,
+  ap texts c.deref.ensures.value ∙ c.in_ok-lines.ensures ∙ c.first_line.ensures.1 ∙ ap (λ l. l ∷ c.first_line.ensures.0) (c.is_heading.ensures.0 c.if-not-is_heading.false),
+)

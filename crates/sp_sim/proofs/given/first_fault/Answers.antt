@@ -3,7 +3,7 @@ use Rattle.std.proofs.Common.{◌≡◌, ℕ, ◌+◌, ◌<◌, ◌≤◌, List,
 use Rattle.std.proofs.lemmas.List.{length-map}
 use Rattle.sp_words.specs.Ports.{plain_port, plain_ports}
 use Rattle.sp_netlist.specs.Refusals.{IsLeast}
-use Rattle.sp_sim.specs.Given.{ArgGiven, DramGiven, InputFault}
+use Rattle.sp_sim.specs.Given.{ArgGiven, InputFault}
 use Rattle.sp_sim.proofs.Faults.{fault_dram}
 use Rattle.sp_sim.proofs.given.first_fault.Goals as goal
 

@@ -12,6 +12,7 @@ use Rattle.sp_sim.specs.Rows.{word_of}
 use Rattle.sp_sim.specs.States.{LookedIn, finding}
 use Rattle.sp_sim.specs.Conflicts.{tally}
 use Rattle.sp_sim.specs.Settling.{settle_cell}
+use Rattle.sp_sim.specs.Steps.{cells_of}
 use Rattle.sp_sim.proofs.SettleLemmas.{settled_as_cells}
 use Rattle.sp_sim.proofs.Held.{all_stand}
 use Rattle.sp_sim.proofs.Parts.{reads_tallied, writes_tallied, over_by_dones}
@@ -25,7 +26,7 @@ pub returns-clause-looked : goal.returns-clause-looked
 returns-clause-looked c = λ args drams delays s t q stands.
     let g : Setting = record { cells = c.args.netlist.now; args = args; drams = drams; delays = delays } in
     let old = c.args.state.now in
-    let w = word_of c.settle.new.row in
+    let w = word_of c.settle.new.self in
     let clash = c.conflict-clash.result in
     let over = c.is_over-over.result in
     let cells = c.args.netlist.now in
@@ -35,7 +36,7 @@ returns-clause-looked c = λ args drams delays s t q stands.
     let writes = with_items_is old.writes c.conflict-clash.new.writes (c.conflict-clash.auto.writes ∙ c.deref_mut-2.ensures.len) in
     let number = ap length c.deref_mut.ensures.value ∙ c.requires.state.reads in
     let new : State = record {
-      row = c.settle.new.row;
+      row = c.settle.new.self;
       next = old.next;
       banks = old.banks;
       drams = old.drams;
@@ -45,7 +46,7 @@ returns-clause-looked c = λ args drams delays s t q stands.
       writes = with_items old.writes c.conflict-clash.new.writes;
     } in
     let settles : Settles c.args.netlist.now prog.order old new = record {
-      row = c.settle.ensures.settled ∙ ap (λ xs. fold settle_cell old.row (plain_cells xs)) c.deref.ensures.value ∙ ap (fold settle_cell old.row) prog.computed ∙ settled_as_cells cells prog.order old.row;
+      row = c.settle.ensures.settled ∙ ap (λ xs. fold settle_cell old.row (cells_of xs)) c.deref.ensures.value ∙ ap (fold settle_cell old.row) prog.computed ∙ settled_as_cells cells prog.order old.row;
       is_row = c.settle.ensures.is_row;
       next = refl;
       banks = refl;
@@ -68,4 +69,4 @@ pub settle-requires-clause-stand : goal.settle-requires-clause-stand
 settle-requires-clause-stand c =
     let cells = c.args.netlist.now in
     let prog = c.requires.program in
-    subst (All (Contains cells)) (sym (ap plain_cells c.deref.ensures.value ∙ prog.computed)) (all_stand cells prog.order prog.is_order.computing)
+    subst (All (Contains cells)) (sym (ap cells_of c.deref.ensures.value ∙ prog.computed)) (all_stand cells prog.order prog.is_order.computing)

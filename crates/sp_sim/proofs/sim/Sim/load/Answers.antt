@@ -1,10 +1,9 @@
 use Rattle.std.specs.Global.{Vec}
-use Rattle.std.proofs.Common.{◌≡◌, ℕ, List, map, sym, ap, subst, Err, arith}
+use Rattle.std.proofs.Common.{◌≡◌, ℕ, List, map, ap, subst, Err, arith}
 use Rattle.sp_netlist.specs.Ports.{ports_of}
 use Rattle.sp_netlist.specs.Refusals.{IsLeast}
-use Rattle.sp_sim.specs.declared.end.SimLoad.{SimLoad}
 use Rattle.sp_sim.specs.declared.end.SimLoad.TheVariants.{InputShape}
-use Rattle.sp_sim.specs.Given.{IsGiven, InputFault, NoFault}
+use Rattle.sp_sim.specs.Given.{InputFault, NoFault}
 use Rattle.sp_sim.proofs.GivenLemmas.{given_without_fault}
 use Rattle.sp_sim.proofs.sim.Sim.load.Goals as goal
 

@@ -3,7 +3,6 @@ use Rattle.std.proofs.lemmas.Result.{on_ok_weaker}
 use Rattle.sp_netlist.specs.Quiet.{IsQuiet}
 use Rattle.sp_netlist.specs.Signals.{Setting, Signals}
 use Rattle.sp_sim.specs.Progress.{Progress, setting_of}
-use Rattle.sp_sim.specs.States.{LookedIn}
 use Rattle.sp_sim.proofs.Watched.{watched_sim, watched_words}
 use Rattle.sp_sim.proofs.sim.Sim.watch.Goals as goal
 

@@ -1,5 +1,0 @@
-use Rattle.sp_combined_rules.proofs.Combinations.{lanes_right}
-use Rattle.sp_combined_rules.proofs.laws.lanes_keep_rules.Goals as goal
-
-pub returns : goal.returns
-returns c core lanes around inside counter p in_lane own ops comb one h there met right = lanes_right core lanes around inside counter in_lane p h there one own ops comb met right

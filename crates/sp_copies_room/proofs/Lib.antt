@@ -1,3 +1,0 @@
-mod Picked
-mod Room
-mod Streamed

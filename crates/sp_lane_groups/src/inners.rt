@@ -1,0 +1,15 @@
+//! A law of inner bodies. The function does nothing: what it ensures is the law.
+
+ghost use Rattle.sp_core.specs.PlainCore.{PlainCore};
+ghost use Rattle.sp_lane_groups.specs.InnersLaws.{InnersGo};
+
+use crate::places_have_room;
+use sp_fitting::lists_fit;
+
+/// An inner body of one lane, or without a combination, does in lanes what it does in the core.
+pub fn inners_go()
+    ensures { (core : PlainCore) → InnersGo core }
+{
+    lists_fit();
+    places_have_room();
+}

@@ -1,0 +1,10 @@
+pub mod CombinedLaws
+pub mod CombinedMeetings
+pub mod CombinedStanding
+pub mod Copies
+pub mod CopiesLaws
+pub mod CopiesRules
+pub mod UnrolledLaws
+pub mod UnrolledMeetings
+pub mod UnrolledPlaces
+pub mod UnrolledRight

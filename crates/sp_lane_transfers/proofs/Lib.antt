@@ -1,4 +1,0 @@
-pub mod Moving
-pub mod Spans
-pub mod Transfers
-pub mod Words

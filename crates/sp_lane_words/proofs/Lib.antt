@@ -1,3 +1,0 @@
-pub mod Group
-pub mod Lanes
-pub mod Masks

@@ -1,0 +1,10 @@
+pub mod Words
+pub mod Turning
+pub mod Turned
+pub mod Inner
+pub mod Serving
+pub mod Standing
+pub mod Whole
+pub mod Buffering
+pub mod Buffered
+pub mod Worked

@@ -1,0 +1,11 @@
+pub mod Bodies
+pub mod Bounds
+pub mod Example
+pub mod Given
+pub mod Laws
+pub mod Lists
+pub mod Planned
+pub mod Rows
+pub mod Spans
+pub mod Steps
+pub mod Told

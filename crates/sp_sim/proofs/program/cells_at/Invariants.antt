@@ -1,7 +1,0 @@
-use Rattle.std.proofs.Common.{◌≡◌, take, map}
-use Rattle.sp_netlist.specs.Cells.{plain_cells}
-use Rattle.sp_sim.specs.Settling.{cell_at}
-use Rattle.sp_sim.proofs.program.cells_at.Given as goal
-
-abbrev pub invariant-loop-at : goal.invariant-loop-at
-invariant-loop-at l = plain_cells l.found.items ≡ map (cell_at (plain_cells l.cells)) (take l.at-index l.places)

@@ -1,0 +1,6 @@
+mod Building
+mod Finding
+mod Lanes
+mod Scoping
+mod Taking
+mod Turning

@@ -1,5 +1,0 @@
-use Rattle.sp_unrolled_rules.proofs.Lists.{word_list_kept, bound_kept}
-use Rattle.sp_unrolled_rules.proofs.laws.lists_keep_rules.Goals as goal
-
-pub returns : goal.returns
-returns c core lanes around inside w h ops = (word_list_kept core lanes around inside w h ops, bound_kept core lanes around inside w h ops)

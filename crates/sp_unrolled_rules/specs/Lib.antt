@@ -1,4 +1,0 @@
-pub mod Laws
-pub mod Meetings
-pub mod Places
-pub mod Right

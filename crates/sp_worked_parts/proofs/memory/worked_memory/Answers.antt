@@ -1,0 +1,31 @@
+use Rattle.std.proofs.Common.{[], ◌∷◌, true, length, refl, ap, arith}
+use Rattle.std.specs.Prelude.{count_by, codes}
+use Rattle.sp_words.specs.Types.{int_type}
+use Rattle.sp_netlist.specs.Cells.{out_cell}
+use Rattle.sp_netlist.specs.Rules.{is_bank, is_done}
+use Rattle.sp_worked_parts.proofs.Closing.{out_awaits, can_end, finished, two_open}
+use Rattle.sp_worked_parts.proofs.memory.worked_memory.Goals as goal
+
+pub emit-requires-clause-banks : goal.emit-requires-clause-banks
+emit-requires-clause-banks c = ap (count_by is_bank) c.in_ok-z.ensures.cells
+
+pub emit-requires-clause-y : goal.emit-requires-clause-y
+emit-requires-clause-y c =
+    out_awaits _ ((32, true) ∷ (32, true) ∷ []) (out_cell (codes "y") 0 int_type ∷ out_cell (codes "z") 1 int_type ∷ []) c.in_ok-y.y 0 c.in_ok-z.ensures.nets c.in_ok-z.ensures.cells c.in_ok-y.ensures.net refl refl
+
+pub emit-requires-clause-z : goal.emit-requires-clause-z
+emit-requires-clause-z c =
+    out_awaits _ ((32, true) ∷ (32, true) ∷ []) (out_cell (codes "y") 0 int_type ∷ out_cell (codes "z") 1 int_type ∷ []) c.in_ok-z.z 1 c.in_ok-z.ensures.nets c.in_ok-z.ensures.cells c.in_ok-z.ensures.net refl refl
+
+pub emit-requires-clause-apart : goal.emit-requires-clause-apart
+emit-requires-clause-apart c = λ same. let a = c.in_ok-y.ensures.net in let b = c.in_ok-z.ensures.net in absurd (omega (arith, same, a, b))
+
+pub add-requires : goal.add-requires
+add-requires c =
+    can_end c.second_output.new.builder c.emit.new.builder (c.in_ok-y.y ∷ c.in_ok-z.z ∷ []) c.in_ok-done.done (ap (count_by is_done) c.in_ok-z.ensures.cells) c.in_ok-done.ensures.fills c.in_ok-done.ensures.done
+
+pub finish-requires : goal.finish-requires
+finish-requires c =
+    finished c.second_output.new.builder c.emit.new.builder c.add.new.self (c.in_ok-y.y ∷ c.in_ok-z.z ∷ []) c.in_ok-done.done (ap (count_by is_done) c.in_ok-z.ensures.cells)
+    (λ n o. two_open c.second_output.new.builder.promised c.in_ok-y.y c.in_ok-z.z n (ap length c.in_ok-z.ensures.nets) c.in_ok-y.ensures.net c.in_ok-z.ensures.net o.within) c.in_ok-done.ensures.fills c.in_ok-add.ensures.draft
+    c.in_ok-add.ensures.same_nets c.in_ok-add.ensures.added c.in_ok-add.ensures.drivers

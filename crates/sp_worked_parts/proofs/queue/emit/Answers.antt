@@ -1,0 +1,27 @@
+use Rattle.std.proofs.Common.{◌++◌, List, flat_map, subst}
+use Rattle.sp_gates.specs.Grows.{Fills}
+use Rattle.sp_gates.proofs.Growing.{HasNet-stays}
+use Rattle.sp_mem.specs.Fits.{words_of}
+use Rattle.sp_mem.proofs.Waiting.{awaits_kept}
+use Rattle.sp_taps.specs.declared.store.Store.{Store}
+use Rattle.sp_taps.specs.Wires.{wires_of}
+use Rattle.sp_worked_parts.proofs.Closing.{awaits_promises}
+use Rattle.sp_worked_parts.proofs.Fitting.{queue_fits, queue_stores, queue_drives}
+use Rattle.sp_worked_parts.proofs.queue.emit.Goals as goal
+
+pub emit_queue-requires-clause-fits : goal.emit_queue-requires-clause-fits
+emit_queue-requires-clause-fits c = queue_fits c.in_ok-asked.asked c.args.y c.in_ok-part.part c.in_ok-part.ensures c.ask.new.builder c.in_ok-asked.ensures.asked (awaits_kept _ _ _ _ c.in_ok-asked.ensures.fills (awaits_promises _ _ (flat_map wires_of c.in_ok-stores.stores.items) c.args.y c.in_ok-stores.ensures.promises c.requires.y))
+
+pub emit_queue-requires-clause-stores : goal.emit_queue-requires-clause-stores
+emit_queue-requires-clause-stores c =
+    let e = c.in_ok-stores.ensures in
+    rw c.deref.ensures.value
+    (queue_stores c.in_ok-asked.asked c.args.y c.in_ok-part.part c.in_ok-part.ensures c.add_stores.new.builder c.ask.new.builder c.in_ok-stores.stores.items c.in_ok-asked.ensures.fills e.each (_, e.rows) e.wires e.stores)
+
+pub returns-clause-fills : goal.returns-clause-fills
+returns-clause-fills c =
+    queue_drives c.in_ok-asked.asked c.args.y c.in_ok-part.part c.in_ok-part.ensures c.args.builder.now c.add_stores.new.builder c.ask.new.builder c.emit_queue.new.builder c.in_ok-stores.stores.items c.in_ok-stores.ensures.promises c.in_ok-asked.ensures.fills
+    (subst (λ (ss : List Store). Fills c.ask.new.builder c.emit_queue.new.builder (flat_map wires_of ss ++ words_of c.in_ok-part.part.takes.items)) c.deref.ensures.value c.in_ok-emit_queue.ensures.fills)
+
+pub returns-clause-done : goal.returns-clause-done
+returns-clause-done c = HasNet-stays _ _ _ _ c.in_ok-emit_queue.ensures.fills.grows c.in_ok-asked.ensures.asked.done_net

@@ -1,0 +1,5 @@
+pub mod Touches
+pub mod Memory
+pub mod Queue
+pub mod Rows
+pub mod Counted
