@@ -42,7 +42,7 @@ use Rattle.sp_lane_groups.specs.InnersLaws.{InnersGo}
 use Rattle.sp_lane_groups.proofs.InnersBounds.{order_long, each_right, goes_on, loops_kept, all_bounds_follow}
 use Rattle.sp_lane_groups.proofs.InnersFollows.{no_change, no_copy, Followed, Follows, Same}
 use Rattle.sp_lane_groups.proofs.InnersOwners.{each_owned, owned_apart, owned_inside}
-use Rattle.sp_lane_groups.proofs.InnersRounds.{inner_rounds}
+use Rattle.sp_lane_groups.proofs.InnersHistories.{inner_alike}
 use Rattle.sp_lane_groups.proofs.InnersSteps.{order_parts, order_mapped, Leaves, order_leaves}
 
 -- numbers below a bound, from the first one on
@@ -239,7 +239,7 @@ module _ (core : PlainCore) (is : IsCore core) (owns : OwnsInLanes core.root) (l
             (λ groups. pure (inner_ran bs (counts_of (loops_of scope.in_lanes (counters_in w counters) bs)) groups)) x.ended y.ended y.answer there,
         subst (λ (u : Store). AgreeAt core around w u y.ended) done y.agree,
         left_but t y.ended (both_left t x.ended y.ended x.left y.left),
-        inner_rounds core w counters owned ops comb bs second.0 y.answer hist (ap (answer_of hist) second.3),
+        inner_alike w counters owned ops comb bs second.0 y.answer hist (ap (answer_of hist) second.3),
       )
 
   -- a body of one lane has no combination of its own in lanes

@@ -10,7 +10,7 @@ pub mod InnersBounds
 pub mod InnersFollows
 pub mod InnersInner
 pub mod InnersOwners
-pub mod InnersRounds
+pub mod InnersHistories
 pub mod InnersSteps
 pub mod JoinedBalanced
 pub mod JoinedLive

@@ -7,11 +7,9 @@ use Rattle.sp_core.specs.Invariant.{IsRight, owned_in}
 use Rattle.sp_core.specs.PlainCore.{PlainNode, PlainStages, inner, outer, fsm, branch, no_stage, more_stage, PlainCore}
 use Rattle.sp_core.specs.Scope.{plainly, in_lanes, Scope}
 use Rattle.sp_core.specs.Sequential.{run}
-use Rattle.sp_core.specs.Shape.{shape_of}
 use Rattle.sp_core.specs.Step.{went}
 use Rattle.sp_core.specs.Store.{Store}
 use Rattle.sp_fitting.specs.Fitting.{StoreFits}
-use Rattle.sp_within.specs.Rounds.{rounds}
 use Rattle.sp_lanes.specs.Order.{memory_order}
 use Rattle.sp_lanes.specs.Unrolled.{unrolled, node_in}
 use Rattle.sp_lanes.specs.Within.{Within}
@@ -20,6 +18,7 @@ use Rattle.sp_lane_rules.specs.UnrolledPlaces.{GoTogether}
 use Rattle.sp_lane_groups.specs.LiveStores.{AreCopies, HoldAlike, ScopesAgree}
 use Rattle.sp_lane_cores.specs.LanedMarks.{IsLaned}
 use Rattle.sp_lane_groups.specs.PlainNodes.{IsNodePlain}
+use Rattle.sp_lane_groups.specs.InnersAlike.{GoAlike}
 use Rattle.sp_lane_groups.specs.Waiting.{ResetsFirst, waits_in}
 
 module _ (core : PlainCore) where
@@ -33,17 +32,13 @@ module _ (core : PlainCore) where
   LeavesBut around w node before after =
       (n : ℕ) → n < length (unrolled core).mems → ((m : ℕ) → is_usable core around m ≡ true → w.number m ≡ n → ⊥) → is_among n (owned_in (node_in (memory_order core) w node)) ≡ false → after n ≡ before n
 
-  -- in lanes it goes around no oftener
-  abbrev pub NoOftener : Within → PlainNode → (here there : History) → Type 0
-  NoOftener w node h g = rounds (node_in (memory_order core) w node) (shape_of (node_in (memory_order core) w node) g) ≤ rounds node (shape_of node h)
-
-  -- the node goes along: wherever it runs in the core, it runs in lanes, from stores that agree to stores that agree, and goes around
-  -- no oftener
+  -- the node goes along: wherever it runs in the core, it runs in lanes, from stores that agree to stores that agree, and what is
+  -- done goes alike
   abbrev pub GoesAlong : (turns : ℕ) → Around → Within → PlainNode → Type 0
   GoesAlong turns around w node =
       (plain lanes : Scope) → ScopesAgree w plain lanes → (s t after : Store) (h : History) → StoreFits core s → AgreeAt around w s t → run core plainly turns node plain s ≡ went h after
       → (g : History) × (ended : Store) × (run (unrolled core) in_lanes turns (node_in (memory_order core) w node) lanes t ≡ went g ended) × AgreeAt around w after ended × LeavesBut around w node t ended
-      × NoOftener w node h g
+      × GoAlike node h g
 
   -- in each inner body of a node what it owns is reset before it is used, where it has a reset operation
   abbrev mutual

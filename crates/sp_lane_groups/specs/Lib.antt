@@ -1,6 +1,8 @@
 pub mod FirstLaws
 pub mod Groups
+pub mod InnersAlike
 pub mod InnersAlong
+pub mod InnersExamples
 pub mod InnersLaws
 pub mod JoinedLaws
 pub mod JoinedWords

@@ -1,6 +1,8 @@
-//! A law of inner bodies. The function does nothing: what it ensures is the law.
+//! Laws of inner bodies, and of how histories go together. Each function does nothing: what it ensures is the law.
 
 ghost use Rattle.sp_core.specs.PlainCore.{PlainCore};
+ghost use Rattle.sp_lane_groups.specs.InnersAlike.{GoAlike};
+ghost use Rattle.sp_lane_groups.specs.InnersExamples.{in_core, in_two_lanes, loop};
 ghost use Rattle.sp_lane_groups.specs.InnersLaws.{InnersGo};
 
 use crate::places_have_room;
@@ -13,3 +15,8 @@ pub fn inners_go()
     lists_fit();
     places_have_room();
 }
+
+/// Three iterations go alike in two groups of two lanes, of which the last lane of the second one is left out.
+pub fn worked_histories()
+    ensures { GoAlike loop in_core in_two_lanes }
+{}

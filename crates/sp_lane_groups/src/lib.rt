@@ -14,7 +14,7 @@ mod shared_reads;
 mod values;
 mod words;
 
-pub use inners::inners_go;
+pub use inners::{inners_go, worked_histories};
 pub use joined_words::joined_words_stand;
 pub use laws::{
     groups_are_masked, groups_go_along, groups_have_scopes, groups_stand, inners_go_along,

@@ -1,5 +1,5 @@
 -- A group of a loop whose last stage combines elements: the stages of its lanes, and the combination after all of them.
-use Rattle.std.proofs.Common.{◌≡◌, ℕ, zero, suc, ◌+◌, ◌-◌, ◌<◌, ◌≤◌, Bool, true, false, ◌&&◌, ◌||◌, List, [], ◌++◌, length, Some, None, refl, sym, ◌∙◌, ap, subst, arith, inl, inr, ◌==◌, nat_lt}
+use Rattle.std.proofs.Common.{◌≡◌, ℕ, zero, suc, ◌+◌, ◌-◌, ◌<◌, ◌≤◌, Bool, true, false, ◌&&◌, ◌||◌, List, [], ◌++◌, length, Some, None, refl, sym, ◌∙◌, ap, subst, arith, inl, inr, ◌==◌, nat_lt, map}
 use Rattle.std.proofs.lemmas.Bool.{and_parts, ltb-true, le-leb}
 use Rattle.std.proofs.lemmas.Bool.Decides.{eqb_tells}
 use Rattle.std.specs.Prelude.{flat_map}
@@ -11,21 +11,19 @@ use Rattle.sp_tree.specs.PlainProgram as tree
 use Rattle.sp_core.specs.Around.{Around, within, lanes_of, is_port_kind, is_usable}
 use Rattle.sp_core.specs.Declarations.{mem, dram_number, is_stream, is_among}
 use Rattle.sp_core.specs.Footprint.{ListNames}
-use Rattle.sp_core.specs.History.{Runs, no_run, masked_run, more_run}
+use Rattle.sp_core.specs.History.{Entry, Runs, inner_ran, no_run, masked_run, more_run}
 use Rattle.sp_core.specs.Invariant.{owned_in, owned_in_stages, AreRight}
 use Rattle.sp_core.specs.MemoryRules.{are_memories_right}
 use Rattle.sp_core.specs.OperationRules.{are_operations_right}
 use Rattle.sp_core.specs.PlainCore.{PlainOp, PlainCounter, PlainMem, PlainNode, PlainStages, inner, no_stage, more_stage, PlainCore}
-use Rattle.sp_core.specs.Scope.{plainly, is_some_up_to, is_some_live, Scope}
+use Rattle.sp_core.specs.Scope.{plainly, counts_of, is_some_up_to, is_some_live, Scope}
 use Rattle.sp_core.specs.Scope as scope
 use Rattle.sp_core.specs.Sequential.{renew, end_of_group, run, run_stages}
-use Rattle.sp_core.specs.Shape.{shape_of}
 use Rattle.sp_core.specs.Step.{Step, went, pure, ◌>>=◌, ◌>>◌, in_order}
 use Rattle.sp_core.specs.Store.{Store}
 use Rattle.sp_fitting.specs.Fitting.{StoreFits}
 use Rattle.sp_fitting.specs.Laws.{ListsFit, NodesFit, WordsFit}
 use Rattle.sp_sugar.specs.Combination.{element_counters, element_ops}
-use Rattle.sp_within.specs.Rounds.{rounds}
 use Rattle.sp_lanes.specs.Order.{memory_order}
 use Rattle.sp_lanes.specs.Unrolled.{unrolled, owned_in_lanes, nodes_in, combination_of}
 use Rattle.sp_lanes.specs.Within.{Within, in_lane}
@@ -38,26 +36,25 @@ use Rattle.sp_lane_groups.proofs.Renewed.{bind_known}
 use Rattle.sp_lane_groups.proofs.JoinedBalanced.{Laws}
 use Rattle.sp_lane_groups.proofs.InnersBounds.{order_long}
 use Rattle.sp_lane_groups.proofs.InnersFollows.{no_copy, Follows}
-use Rattle.sp_lane_groups.proofs.InnersRounds.{run_rounds, all_rounds, GroupLess}
 use Rattle.sp_lane_trees.specs.OutersStages.{AllGoAlong}
 use Rattle.sp_lane_trees.proofs.OutersLone.{turn_of}
 use Rattle.sp_lane_trees.proofs.OutersRenewing.{Made, make_all}
 use Rattle.sp_lane_trees.specs.StagesLaws.{AreOfFirst}
+use Rattle.sp_lane_trees.proofs.ElementsValues.{element_bounds, element_loops}
+use Rattle.sp_lane_trees.proofs.LanesAlike.{gathered}
 use Rattle.sp_lane_trees.proofs.StagesLanes as lanes_group
 use Rattle.sp_lane_trees.proofs.StagesLanes.{lanes_long, nothing_ends}
 use Rattle.sp_lane_trees.proofs.StagesPassing.{neither}
 use Rattle.sp_lane_trees.specs.ElementsReduction.{LastElements}
-use Rattle.sp_lane_trees.specs.ReductionsReduction.{AreStill, own_stages}
+use Rattle.sp_lane_groups.specs.InnersAlike.{own_stages, own_runs, GroupAlike, LanesAlike}
+use Rattle.sp_lane_trees.specs.ReductionsReduction.{AreStill}
 use Rattle.sp_lane_trees.proofs.ElementsChain.{AsksElements}
 use Rattle.sp_lane_trees.proofs.ElementsForms.{element}
 use Rattle.sp_lane_trees.proofs.ElementsLanes as lane_turns
 use Rattle.sp_lane_trees.proofs.ElementsOwn.{none_combines, own_first, own_right}
 use Rattle.sp_lane_trees.proofs.ElementsPlaced.{NoLanes}
 use Rattle.sp_lane_trees.proofs.ElementsThere as there
-use Rattle.sp_lane_trees.proofs.ElementsTurns.{element_rounds, elements_run, turns_of, spare}
-
-at_most : (a n x k m : ℕ) → a ≤ n + x → x ≤ k → n + k ≤ m → a ≤ m
-at_most a n x k m f g h = omega (arith, f, g, h)
+use Rattle.sp_lane_trees.proofs.ElementsTurns.{elements_run, turns_of}
 
 -- where the first lane has an iteration, some lane has
 some_up_to : (live : ℕ → Bool) → live 0 ≡ true → (n : ℕ) → is_some_up_to live 0 n ≡ true
@@ -110,7 +107,7 @@ module _ (core : PlainCore) (nodes : NodesFit core) (lists : ListsFit core) (fit
   pub both_left : (t u v : Store) → Left t u → Left u v → Left t v
   both_left = lane_turns.both_left core nodes lists memories turns around inside_lanes w counters style owned no_stream plain lanes count g several not_dram stages earlier is reduces firsts right go apart live_at too first_live live masked mems c ds ops at node combines node_is before word acc begun ty comb asks list still own ops_right tail
 
-  abbrev Reduced : (more k l : ℕ) → (s v t after : Store) → (most : ℕ) → Type 0
+  abbrev Reduced : (more k l : ℕ) → (s v t after : Store) → (most : List Runs) → Type 0
   Reduced more k l s v t after n = lane_turns.Reduced core nodes lists memories turns around inside_lanes w counters style owned no_stream plain lanes count g several not_dram stages earlier is reduces firsts right go apart live_at too first_live live masked mems c ds ops at node combines node_is before word acc begun ty comb asks list still own ops_right tail more k l s v t after n
 
   abbrev run_there : PlainStages → Step Runs
@@ -158,7 +155,7 @@ module _ (core : PlainCore) (nodes : NodesFit core) (lists : ListsFit core) (fit
   mine_right = own_right core owned is place stages earlier reduces right
 
   -- the combination after all lanes
-  module _ (s t after : Store) (n : ℕ) (fits : StoreFits core s) (x : Reduced count (lanes_of counters) 0 s s t after n) where
+  module _ (s t after : Store) (n : List Runs) (fits : StoreFits core s) (x : Reduced count (lanes_of counters) 0 s s t after n) where
     acc_is : x.ended (w.number acc) ≡ s acc
     acc_is = x.agrees.memories acc acc_usable ∙ x.kept acc (not_is acc (λ i. (asks.other acc i).0 refl))
 
@@ -192,10 +189,10 @@ module _ (core : PlainCore) (nodes : NodesFit core) (lists : ListsFit core) (fit
     record TailRan : Type 0 where
       runs : Runs
       ran : run_there tail x.ended ≡ went runs made.ended
-      rounds_there : run_rounds tail runs ≤ element_rounds c ds
+      form : (groups : List (List Entry)) × (runs ≡ more_run (inner_ran (element_bounds ds) (counts_of (element_loops c ds)) groups) no_run)
 
     tail_ran : TailRan
-    unfolding run_stages pure rounds shape_of
+    unfolding run_stages pure
     tail_ran =
         let h = elements_run (unrolled core) turns c ds (there.last_ops core fitting laws turns around inside_lanes w counters owned plain lanes count g several is mems c ds before at word acc begun ty comb asks plain_before still own ops_right acc_out flag_out apart_counters zero_lanes) None lanes x.ended made.ended made.answers made.ran in
         record {
@@ -204,13 +201,10 @@ module _ (core : PlainCore) (nodes : NodesFit core) (lists : ListsFit core) (fit
               (some_live too (live 0 g.some) (lanes_of counters - 1))
               ∙ bind_known (run (unrolled core) scope.in_lanes turns last_node lanes) (λ h. run_there no_stage >>= (λ rs. pure (more_run h rs))) x.ended made.ended h.0 h.1
               ∙ bind_known (run_there no_stage) (λ rs. pure (more_run h.0 rs)) made.ended made.ended no_run refl;
-          rounds_there = one_node (rounds last_node (shape_of last_node h.0)) (element_rounds c ds) h.2;
+          form = (made.answers, ap (λ x. more_run x no_run) h.2);
         }
-      where
-        one_node : (a b : ℕ) → a ≡ b → a + 0 ≤ b
-        one_node a b e = omega (arith, e)
 
-  pub group_follows : Follows core around w Left none_left both_left (GroupLess all_stages stages) (in_order (λ l. turn_of core plainly turns style owned stages (live_at l) (plain l)) (lanes_from 0 count)) (turn_of (unrolled core) scope.in_lanes turns style all_owned all_stages too lanes)
+  pub group_follows : Follows core around w Left none_left both_left (GroupAlike counters stages too) (in_order (λ l. turn_of core plainly turns style owned stages (live_at l) (plain l)) (lanes_from 0 count)) (turn_of (unrolled core) scope.in_lanes turns style all_owned all_stages too lanes)
   unfolding pure
   group_follows s t after gs fits agree ran =
       let made0 : Made (unrolled core) scope.in_lanes turns all_owned t = make_all (unrolled core) scope.in_lanes turns all_owned t in
@@ -222,9 +216,9 @@ module _ (core : PlainCore) (nodes : NodesFit core) (lists : ListsFit core) (fit
         own = λ m j i le less. made0.inside ((in_lane (memory_order core) counters owned w j).number m) (lanes_group.own_in core nodes memories turns around inside_lanes w counters style owned no_stream plain lanes count g not_dram mine earlier mine_first mine_none mine_right go apart live_at too first_live live masked j m less i) ∙ ap (λ (x : PlainMem). Some (fresh_of x.kind x.dims x.start [])) ((g.together j less).memories m (g.valid m i)).1;
       } in
       let many = turns_of core turns style owned no_stream stages is reduces firsts c ds ops at node combines node_is plain live_at count first_live count 0 (omega arith) s after gs ran in
-      let n : ℕ = many.0 in
+      let n : List Runs = map (own_runs stages) gs in
       let x : Reduced count (lanes_of counters) 0 s s made0.after after n =
-      lane_turns.reduces_run core nodes lists memories turns around inside_lanes w counters style owned no_stream plain lanes count g several not_dram stages earlier is reduces firsts right go apart live_at too first_live live masked mems c ds ops at node combines node_is before word acc begun ty comb asks list still own ops_right tail count (lanes_of counters) 0 (omega arith) (omega arith) (λ n free. (neither all_owned (owned_in_stages all_stages) n free).1) s s made0.after after n fits fits (λ m i. refl) reached many.1 in
+      lane_turns.reduces_run core nodes lists memories turns around inside_lanes w counters style owned no_stream plain lanes count g several not_dram stages earlier is reduces firsts right go apart live_at too first_live live masked mems c ds ops at node combines node_is before word acc begun ty comb asks list still own ops_right tail count (lanes_of counters) 0 (omega arith) (omega arith) (λ n free. (neither all_owned (owned_in_stages all_stages) n free).1) s s made0.after after n fits fits (λ m i. refl) reached many.0 in
       let z = tail_ran s made0.after after n fits x in
       let done : Store = (made s made0.after after n fits x).ended in
       let q = x.runs z.runs done z.ran in
@@ -238,12 +232,8 @@ module _ (core : PlainCore) (nodes : NodesFit core) (lists : ListsFit core) (fit
         agree = record { memories = at_memory s made0.after after n fits x; drams = at_dram s made0.after after n fits x };
         left = both_left t made0.after done (λ n low outer free. made0.outside n (neither all_owned (owned_in_stages all_stages) n free).0) (both_left made0.after x.ended done x.left (left_there s made0.after after n fits x));
         fits = x.fits;
-        related = (
-          (let long = order_long (λ l. turn_of core plainly turns style owned stages (live_at l) (plain l)) (lanes_from 0 count) s after gs ran in let some = g.some in omega (arith, long, some, lanes_long 0 count)),
-          at_most _ _ _ _ _ q.2 z.rounds_there (spared count g.some n (all_rounds stages gs) many.2),
-        );
+        related = gathered counters stages several too gs q.0
+            (let long = order_long (λ l. turn_of core plainly turns style owned stages (live_at l) (plain l)) (lanes_from 0 count) s after gs ran in let some = g.some in omega (arith, long, some, lanes_long 0 count))
+            (element_counters c ds) [] ops (Some at) (element_bounds ds) (counts_of (element_loops c ds)) z.form.0 many.1
+            (subst (λ xs. LanesAlike (own_stages stages) too xs 0 (lanes_of counters) n q.0) z.form.1 q.2);
       }
-    where
-      spared : (k : ℕ) → 1 ≤ k → (n m : ℕ) → n + spare core turns style owned no_stream stages is reduces firsts c ds ops at node combines node_is plain live_at count first_live k ≤ m → n + element_rounds c ds ≤ m
-      spared zero some n m h = absurd (omega (arith, some))
-      spared (suc k) some n m h = h

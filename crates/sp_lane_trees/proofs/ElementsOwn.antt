@@ -1,5 +1,5 @@
 -- The stages of a loop but the one that combines elements, and what holds of them.
-use Rattle.std.proofs.Common.{◌≡◌, ℕ, ◌+◌, ◌≤◌, Bool, true, false, List, ◌++◌, Some, refl, sym, ◌∙◌, ap, subst, arith}
+use Rattle.std.proofs.Common.{◌≡◌, ℕ, Bool, true, false, List, ◌++◌, Some, refl, sym, ◌∙◌, ap, subst}
 use Rattle.sp_core.specs.Around.{Around}
 use Rattle.sp_core.specs.Footprint.{StagesName}
 use Rattle.sp_core.specs.History.{History, Runs, no_run, masked_run, more_run}
@@ -7,26 +7,18 @@ use Rattle.sp_core.specs.Invariant.{owned_in, AreRight, IsRight}
 use Rattle.sp_core.specs.PlainCore.{PlainNode, PlainStages, no_stage, more_stage, PlainCore}
 use Rattle.sp_core.specs.Scope.{plainly, is_some_live, Scope}
 use Rattle.sp_core.specs.Sequential.{run, run_stages}
-use Rattle.sp_core.specs.Shape.{shape_of}
 use Rattle.sp_core.specs.Step.{Step, went, pure, ◌>>=◌}
 use Rattle.sp_core.specs.Store.{Store}
-use Rattle.sp_within.specs.Rounds.{rounds}
 use Rattle.sp_lanes.specs.Unrolled.{combination_of}
 use Rattle.sp_lane_rules.specs.Copies.{OwnInLanes}
 use Rattle.sp_lane_cores.specs.LanedMarks.{NoneCombines}
 use Rattle.sp_lane_groups.proofs.LiveAlong.{answer_of, store_of}
 use Rattle.sp_lane_groups.proofs.Renewed.{bind_known, bind_split}
 use Rattle.sp_lane_groups.specs.PlainNodes.{IsNodePlain, AreStagesPlain}
-use Rattle.sp_lane_groups.proofs.InnersRounds.{run_rounds}
+use Rattle.sp_lane_trees.proofs.LanesAlike.{HasEnd, here, later}
 use Rattle.sp_lane_trees.specs.StagesLaws.{AreOfFirst}
-use Rattle.sp_lane_trees.specs.ReductionsReduction.{own_stages}
+use Rattle.sp_lane_groups.specs.InnersAlike.{own_stages, own_runs}
 use Rattle.sp_lane_trees.specs.ElementsReduction.{CombinesElements, LastElements}
-
-added : (i a e b : ℕ) → a + e ≤ b → (i + a) + e ≤ i + b
-added i a e b h = omega (arith, h)
-
-least : (a x : ℕ) → 0 + a ≤ a + x
-least a x = omega arith
 
 -- steps by a choice that is made
 chosen_true : {A : Type 0} (b : Bool) (one other : Step A) (s : Store) → b ≡ true → (elim b as (λ _. Step A) [ true ↦ one | false ↦ other ]) s ≡ one s
@@ -89,11 +81,12 @@ module _ (core : PlainCore) (owned : List ℕ) (is : ℕ → Bool) where
     pub combines : combination_of stages ≡ Some node
     pub history : History
     pub ran : run core plainly turns node scope between ≡ went history after
-    pub fewer : run_rounds (own_stages stages) runs + rounds node (shape_of node history) ≤ run_rounds stages whole
+    pub runs_are : own_runs stages whole ≡ runs
+    pub ended : HasEnd stages whole node history
 
   pub parted : (turns : ℕ) (live : ℕ → Bool) (scope : Scope) → live 0 ≡ true → (stages : PlainStages) → LastElements core owned is stages → AreOfFirst stages → (s after : Store) (r : Runs) → run_stages core plainly turns stages live scope s ≡ went r after
       → Parted turns stages live scope s after r
-  unfolding run_stages pure rounds shape_of
+  unfolding run_stages pure
   parted turns live scope on no_stage h firsts s after r ran = absurd h
   parted turns live scope on (more_stage f e true node (more_stage f2 e2 c2 n2 rest)) h firsts s after r ran = absurd h
   parted turns live scope on (more_stage f e true node no_stage) h firsts s after r ran =
@@ -111,7 +104,8 @@ module _ (core : PlainCore) (owned : List ℕ) (is : ℕ → Bool) where
         combines = refl;
         history = one.0;
         ran = one.2 ∙ ap (λ u. went one.0 u) (ap (store_of s) two.2 ∙ ap (store_of s) two.3);
-        fewer = subst (λ q. run_rounds no_stage no_run + rounds node (shape_of node one.0) ≤ run_rounds (more_stage f e true node no_stage) q) (ap (answer_of r) two.3) (least (rounds node (shape_of node one.0)) (run_rounds no_stage two.0));
+        runs_are = subst (λ q. own_runs (more_stage f e true node no_stage) q ≡ no_run) (ap (answer_of r) two.3) refl;
+        ended = subst (λ q. HasEnd (more_stage f e true node no_stage) q node one.0) (ap (answer_of r) two.3) here;
       }
   parted turns live scope on (more_stage f e false node rest) h firsts s after r ran =
       let is_on : is_some_live live f e ≡ true = ap (λ x. is_some_live live x e) firsts.0 ∙ ap (is_some_live live 0) firsts.1 ∙ on in
@@ -132,5 +126,6 @@ module _ (core : PlainCore) (owned : List ℕ) (is : ℕ → Bool) where
         combines = x.combines;
         history = x.history;
         ran = x.ran ∙ ap (λ u. went x.history u) (ap (store_of after) two.3);
-        fewer = subst (λ q. run_rounds (more_stage f e false node (own_stages rest)) (more_run one.0 x.runs) + rounds x.node (shape_of x.node x.history) ≤ run_rounds (more_stage f e false node rest) q) (ap (answer_of r) two.3) (added _ _ _ _ x.fewer);
+        runs_are = subst (λ q. own_runs (more_stage f e false node rest) q ≡ more_run one.0 x.runs) (ap (answer_of r) two.3) (ap (λ z. more_run one.0 z) x.runs_are);
+        ended = subst (λ q. HasEnd (more_stage f e false node rest) q x.node x.history) (ap (answer_of r) two.3) (later x.ended);
       }

@@ -30,6 +30,7 @@ pub mod ElementsTuples
 pub mod ElementsTurns
 pub mod ElementsValues
 pub mod ElementsWords
+pub mod LanesAlike
 pub mod NodesBranch
 pub mod NodesFsm
 pub mod NodesStand
@@ -50,6 +51,8 @@ pub mod ReductionsLanes
 pub mod ReductionsNode
 pub mod ReductionsOwn
 pub mod ReductionsTurns
+pub mod Rounds
+pub mod StagesAlike
 pub mod StagesGroups
 pub mod StagesLanes
 pub mod StagesLive

@@ -12,18 +12,17 @@ use Rattle.sp_core.specs.PlainCore.{PlainOp, PlainNode, branch, PlainCore}
 use Rattle.sp_core.specs.Scope.{plainly, Scope}
 use Rattle.sp_core.specs.Scope as scope
 use Rattle.sp_core.specs.Sequential.{run}
-use Rattle.sp_core.specs.Shape.{shape_of}
 use Rattle.sp_core.specs.Step.{Step, pure, ◌>>=◌}
 use Rattle.sp_core.specs.Store.{Store}
 use Rattle.sp_core.specs.Typed.{last_gives}
 use Rattle.sp_fitting.specs.Laws.{ListsFit, NodesFit}
-use Rattle.sp_within.specs.Rounds.{rounds}
 use Rattle.sp_lanes.specs.Order.{memory_order}
 use Rattle.sp_lanes.specs.Unrolled.{unrolled, node_in}
-use Rattle.sp_lanes.specs.Within.{Within, ops_in}
+use Rattle.sp_lanes.specs.Within.{ops_in}
 use Rattle.sp_lane_groups.specs.RoomLaws.{PlacesHaveRoom}
 use Rattle.sp_lane_rules.proofs.UnrolledPlaces.{among_both}
-use Rattle.sp_lane_groups.specs.InnersAlong.{LeavesBut, NoOftener}
+use Rattle.sp_lane_groups.specs.InnersAlike.{GoAlike, one_side, other_side}
+use Rattle.sp_lane_groups.specs.InnersAlong.{LeavesBut}
 use Rattle.sp_lane_groups.proofs.InnersFollows.{Followed, Follows, Same, pure_follows, bind_follows, bind_same, list_follows}
 use Rattle.sp_lane_trees.specs.NodesLaws.{BranchesGo}
 use Rattle.sp_lane_trees.proofs.NodesWhole.{node_follows, sides_follow}
@@ -36,15 +35,14 @@ neither xs ys n e = by (is_among n xs) (is_among n ys) (sym (among_both n xs ys)
     by true b e = absurd (true≢false e)
     by false b e = (refl, e)
 
--- the side that is taken goes around no oftener, and so does the branch
-abbrev Side : PlainCore → Within → (first second : PlainNode) → Bool → History → History → Type 0
-Side core w first second true h g = NoOftener core w first h g
-Side core w first second false h g = NoOftener core w second h g
+-- what the side that is taken does goes alike, and so does the branch
+abbrev Side : (first second : PlainNode) → Bool → History → History → Type 0
+Side first second true h g = GoAlike first h g
+Side first second false h g = GoAlike second h g
 
-branch_rounds : (core : PlainCore) (w : Within) (test : List PlainOp) (first second : PlainNode) (es : List Entry) (b : Bool) (h g : History) → Side core w first second b h g → NoOftener core w (branch test first second) (branch_ran es b h) (branch_ran es b g)
-unfolding node_in rounds shape_of
-branch_rounds core w test first second es true h g r = r
-branch_rounds core w test first second es false h g r = r
+branch_alike : (test : List PlainOp) (first second : PlainNode) (es : List Entry) (b : Bool) (h g : History) → Side first second b h g → GoAlike (branch test first second) (branch_ran es b h) (branch_ran es b g)
+branch_alike test first second es true h g r = one_side r
+branch_alike test first second es false h g r = other_side r
 
 pub branch_goes : (core : PlainCore) → ListsFit core → NodesFit core → PlacesHaveRoom core → BranchesGo core
 unfolding run node_in
@@ -57,7 +55,7 @@ branch_goes core lists nodes room is owns turns around inside earlier w test fir
     Left = LeavesBut core around w (branch test first second)
 
     Related : History → History → Type 0
-    Related = NoOftener core w (branch test first second)
+    Related = GoAlike (branch test first second)
 
     none_left : (t : Store) → Left t t
     none_left t n lt outer free = refl
@@ -86,12 +84,12 @@ branch_goes core lists nodes room is owns turns around inside earlier w test fir
         (λ es. (elim (last_word es == 1) as (λ _. Step History) [ true ↦ run core plainly turns first plain | false ↦ run core plainly turns second plain ]) >>= (λ h. pure (branch_ran es (last_word es == 1) h)))
         (λ es. (elim (last_word es == 1) as (λ _. Step History) [ true ↦ run (unrolled core) scope.in_lanes turns (node_in (memory_order core) w first) lanes | false ↦ run (unrolled core) scope.in_lanes turns (node_in (memory_order core) w second) lanes ]) >>= (λ h. pure (branch_ran es (last_word es == 1) h)))
         tested
-        (λ es. bind_follows core around w Left none_left both_left (Side core w first second (last_word es == 1)) Related
+        (λ es. bind_follows core around w Left none_left both_left (Side first second (last_word es == 1)) Related
         (elim (last_word es == 1) as (λ _. Step History) [ true ↦ run core plainly turns first plain | false ↦ run core plainly turns second plain ])
         (elim (last_word es == 1) as (λ _. Step History) [ true ↦ run (unrolled core) scope.in_lanes turns (node_in (memory_order core) w first) lanes | false ↦ run (unrolled core) scope.in_lanes turns (node_in (memory_order core) w second) lanes ])
         (λ h. pure (branch_ran es (last_word es == 1) h)) (λ h. pure (branch_ran es (last_word es == 1) h))
-        (sides_follow core around w Left none_left both_left (Side core w first second) (last_word es == 1) (run core plainly turns first plain) (run core plainly turns second plain)
+        (sides_follow core around w Left none_left both_left (Side first second) (last_word es == 1) (run core plainly turns first plain) (run core plainly turns second plain)
         (run (unrolled core) scope.in_lanes turns (node_in (memory_order core) w first) lanes) (run (unrolled core) scope.in_lanes turns (node_in (memory_order core) w second) lanes)
         (node_follows core around w Left none_left both_left nodes is.memories turns earlier first h.right.1 one in_first plain lanes agree)
         (node_follows core around w Left none_left both_left nodes is.memories turns (earlier ++ owned_in first) second h.right.2 two in_second plain lanes agree))
-        (λ a b r. pure_follows core around w Left none_left both_left Related (branch_ran es (last_word es == 1) a) (branch_ran es (last_word es == 1) b) (branch_rounds core w test first second es (last_word es == 1) a b r)))
+        (λ a b r. pure_follows core around w Left none_left both_left Related (branch_ran es (last_word es == 1) a) (branch_ran es (last_word es == 1) b) (branch_alike test first second es (last_word es == 1) a b r)))

@@ -1,5 +1,5 @@
 -- An FSM in lanes: its state is a register that isn't used outside.
-use Rattle.std.proofs.Common.{◌≡◌, ℕ, suc, ◌+◌, ◌<◌, ◌≤◌, Bool, true, false, ◌&&◌, ◌||◌, cond, List, [], ◌∷◌, ◌++◌, length, Option, Some, refl, sym, ◌∙◌, ap, subst, arith, ◌==◌, nat_lt, inl, inr}
+use Rattle.std.proofs.Common.{◌≡◌, ℕ, ◌+◌, ◌<◌, Bool, true, false, ◌&&◌, ◌||◌, cond, List, [], ◌∷◌, ◌++◌, length, Option, Some, refl, sym, ◌∙◌, ap, subst, arith, ◌==◌, nat_lt, inl, inr}
 use Rattle.std.proofs.lemmas.Bool.{and_parts, true≢false, eq-eqb, ne_eqb, ltb-true}
 use Rattle.std.proofs.lemmas.Bool.Decides.{eqb_tells}
 use Rattle.std.proofs.lemmas.List.Elements.{All-nil, All-cons}
@@ -18,7 +18,6 @@ use Rattle.sp_core.specs.PlainCore.{PlainOp, PlainNode, fsm, PlainCore}
 use Rattle.sp_core.specs.Scope.{Reading, plainly, Scope}
 use Rattle.sp_core.specs.Scope as scope
 use Rattle.sp_core.specs.Sequential.{state_now, run}
-use Rattle.sp_core.specs.Shape.{shape_of, body_shapes}
 use Rattle.sp_core.specs.Step.{Step, went, pure, ◌>>=◌, change, repeated}
 use Rattle.sp_core.specs.Store.{Store, hold}
 use Rattle.sp_core.specs.Typed.{last_gives}
@@ -26,7 +25,6 @@ use Rattle.sp_fitting.specs.Fitting.{StoreFits, EntriesFit, IsCell, type_at}
 use Rattle.sp_fitting.specs.Laws.{ListsFit, NodesFit}
 use Rattle.sp_fitting.proofs.Contents.{type_of_mem, held}
 use Rattle.sp_fitting.proofs.Lists.{last_fits}
-use Rattle.sp_within.specs.Rounds.{rounds, turn_rounds}
 use Rattle.sp_lanes.specs.Order.{memory_order, occurrence}
 use Rattle.sp_lanes.specs.Unrolled.{unrolled, node_in}
 use Rattle.sp_lanes.specs.Within.{Within, owning, ops_in}
@@ -36,7 +34,8 @@ use Rattle.sp_lane_groups.specs.LiveStores.{ScopesAgree, ArePlain}
 use Rattle.sp_lane_groups.proofs.LiveAlong.{answer_of, store_of}
 use Rattle.sp_lane_groups.proofs.LiveCopies.{copies_apart}
 use Rattle.sp_lane_groups.proofs.Renewed.{bind_known, bind_split}
-use Rattle.sp_lane_groups.specs.InnersAlong.{AgreeAt, LeavesBut, NoOftener, GoesAlong, StandsIn}
+use Rattle.sp_lane_groups.specs.InnersAlike.{GoAlike, TurnsAlike, no_turns, more_turns, turned}
+use Rattle.sp_lane_groups.specs.InnersAlong.{AgreeAt, LeavesBut, GoesAlong, StandsIn}
 use Rattle.sp_lane_groups.proofs.InnersFollows.{no_copy, Followed, Follows, Same, pure_follows, bind_follows, bind_same, list_follows}
 use Rattle.sp_lane_groups.proofs.InnersOwners.{each_owned, not_outside, owned_inside}
 use Rattle.sp_lane_trees.specs.NodesLaws.{FsmsGo}
@@ -44,27 +43,6 @@ use Rattle.sp_lane_trees.proofs.NodesBranch.{neither}
 use Rattle.sp_lane_trees.proofs.NodesWhole.{node_follows}
 use Rattle.sp_lane_trees.proofs.NodesStand.{fsm_stands}
 use Rattle.sp_lane_trees.proofs.NodesTurns.{repeated_follows}
-
--- turns whose bodies go around no oftener
-abbrev AllLess : PlainCore → Within → PlainNode → List Turn → List Turn → Type 0
-AllLess core there body xs ys =
-    turn_rounds (node_in (memory_order core) there body) (body_shapes (node_in (memory_order core) there body) (turns_of ys)) ≤ turn_rounds body (body_shapes body (turns_of xs))
-
-none_less : (core : PlainCore) (there : Within) (body : PlainNode) → AllLess core there body [] []
-unfolding rounds shape_of
-none_less core there body = omega arith
-
-more_less : (core : PlainCore) (there : Within) (body : PlainNode) (a b : Turn) (xs ys : List Turn) → NoOftener core there body a.body b.body → AllLess core there body xs ys → AllLess core there body (a ∷ xs) (b ∷ ys)
-unfolding rounds shape_of
-more_less core there body a b xs ys r q = added _ _ _ _ r q
-  where
-    added : (i j m n : ℕ) → i ≤ j → m ≤ n → suc i + m ≤ suc j + n
-    added i j m n f g = omega (arith, f, g)
-
-fsm_rounds : (core : PlainCore) (w : Within) (start : List PlainOp) (state : ℕ) (test : List PlainOp) (body : PlainNode) (next : List PlainOp) (first : List Entry) (xs ys : List Turn) (last end : List Entry) → AllLess core (owning (memory_order core) (state ∷ []) w) body xs ys
-    → NoOftener core w (fsm start state test body next) (fsm_ran first (turns_of xs) last) (fsm_ran first (turns_of ys) end)
-unfolding node_in rounds shape_of
-fsm_rounds core w start state test body next first xs ys last end r = r
 
 module _ (core : PlainCore) (lists : ListsFit core) (nodes : NodesFit core) (room : PlacesHaveRoom core) (is : IsCore core) (owns : OwnsInLanes core.root) (turns : ℕ)
     (around inside : Around) (earlier : List ℕ) (w : Within) (start : List PlainOp) (state : ℕ) (test : List PlainOp) (body : PlainNode) (next : List PlainOp) (h : StandsIn core around inside earlier w (fsm start state test body next)) where
@@ -225,11 +203,11 @@ module _ (core : PlainCore) (lists : ListsFit core) (nodes : NodesFit core) (roo
     one_turn_there tested = run (unrolled core) scope.in_lanes turns (node_in (memory_order core) there body) lanes >>= (λ h. state_now (unrolled core) scope.in_lanes turns lanes (there.number state) (ops_in there next) >>= (λ es. pure (turn tested h es)))
 
     abbrev TurnLess : Turn → Turn → Type 0
-    TurnLess a b = NoOftener core there body a.body b.body
+    TurnLess a b = GoAlike body a.body b.body
 
     turn_follows : (tested : List Entry) → Follows core place there Left none_left both_left TurnLess (one_turn tested) (one_turn_there tested)
     turn_follows tested =
-        bind_follows core place there Left none_left both_left (NoOftener core there body) TurnLess (run core plainly turns body plain) (run (unrolled core) scope.in_lanes turns (node_in (memory_order core) there body) lanes)
+        bind_follows core place there Left none_left both_left (GoAlike body) TurnLess (run core plainly turns body plain) (run (unrolled core) scope.in_lanes turns (node_in (memory_order core) there body) lanes)
         (λ h. state_now core plainly turns plain state next >>= (λ es. pure (turn tested h es)))
         (λ h. state_now (unrolled core) scope.in_lanes turns lanes (there.number state) (ops_in there next) >>= (λ es. pure (turn tested h es)))
         (node_follows core place there Left none_left both_left nodes is.memories turns (earlier ++ state ∷ []) body h.right.1 goes (λ t ended f. f) plain lanes agree)
@@ -249,14 +227,14 @@ module _ (core : PlainCore) (lists : ListsFit core) (nodes : NodesFit core) (roo
     turns_there first = repeated turns (operations (unrolled core) lanes (ops_in there test)) is_on one_turn_there >>= end_of first
 
     abbrev Related : History → History → Type 0
-    Related = NoOftener core w (fsm start state test body next)
+    Related = GoAlike (fsm start state test body next)
 
     turns_follow : (first : List Entry) → Follows core place there Left none_left both_left Related (turns_here first) (turns_there first)
     turns_follow first =
-        bind_follows core place there Left none_left both_left (λ x y. AllLess core there body x.0 y.0) Related (repeated turns (operations core plain test) is_on one_turn) (repeated turns (operations (unrolled core) lanes (ops_in there test)) is_on one_turn_there) (end_of first) (end_of first)
-        (repeated_follows core place there Left none_left both_left TurnLess (AllLess core there body) (none_less core there body) (λ a b xs ys r q. more_less core there body a b xs ys r q) (operations core plain test) (operations (unrolled core) lanes (ops_in there test)) is_on one_turn one_turn_there
+        bind_follows core place there Left none_left both_left (λ x y. TurnsAlike body x.0 y.0) Related (repeated turns (operations core plain test) is_on one_turn) (repeated turns (operations (unrolled core) lanes (ops_in there test)) is_on one_turn_there) (end_of first) (end_of first)
+        (repeated_follows core place there Left none_left both_left TurnLess (TurnsAlike body) no_turns (λ a b xs ys r q. more_turns r q) (operations core plain test) (operations (unrolled core) lanes (ops_in there test)) is_on one_turn one_turn_there
         (lists_here test h.plain.1 (and_parts (are_operations_right core place test) (last_gives test Bit) turn_right.0).0) turn_follows turns)
-        (λ a b r. pure_follows core place there Left none_left both_left Related (fsm_ran first (turns_of a.0) a.1) (fsm_ran first (turns_of b.0) b.1) (fsm_rounds core w start state test body next first a.0 b.0 a.1 b.1 r))
+        (λ a b r. pure_follows core place there Left none_left both_left Related (fsm_ran first (turns_of a.0) a.1) (fsm_ran first (turns_of b.0) b.1) (turned r))
 
     abbrev Whole : Store → Store → Type 0
     Whole = LeavesBut core around w (fsm start state test body next)

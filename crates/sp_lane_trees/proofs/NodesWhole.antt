@@ -14,7 +14,8 @@ use Rattle.sp_lanes.specs.Order.{memory_order}
 use Rattle.sp_lanes.specs.Unrolled.{unrolled, node_in}
 use Rattle.sp_lanes.specs.Within.{Within}
 use Rattle.sp_lane_groups.specs.LiveStores.{ScopesAgree}
-use Rattle.sp_lane_groups.specs.InnersAlong.{LeavesBut, NoOftener, GoesAlong}
+use Rattle.sp_lane_groups.specs.InnersAlike.{GoAlike}
+use Rattle.sp_lane_groups.specs.InnersAlong.{LeavesBut, GoesAlong}
 use Rattle.sp_lane_groups.proofs.InnersFollows.{Follows}
 use Rattle.std.specs.Prelude.{List}
 
@@ -25,7 +26,7 @@ module _ (core : PlainCore) (around : Around) (w : Within) (Left : Store → Sto
   -- a node that goes along
   pub node_follows : (nodes : NodesFit core) (memories : are_memories_right core ≡ true) (turns : ℕ) (earlier : List ℕ) (node : PlainNode) → IsRight core around earlier node → GoesAlong core turns around w node
       → ((t ended : Store) → LeavesBut core around w node t ended → Left t ended) → (plain lanes : Scope) → ScopesAgree w plain lanes
-      → Follows core around w Left none both (NoOftener core w node) (run core plainly turns node plain) (run (unrolled core) scope.in_lanes turns (node_in (memory_order core) w node) lanes)
+      → Follows core around w Left none both (GoAlike node) (run core plainly turns node plain) (run (unrolled core) scope.in_lanes turns (node_in (memory_order core) w node) lanes)
   node_follows nodes memories turns earlier node right goes weaker plain lanes agree s t after h fits alike ran =
       let x = goes plain lanes agree s t after h fits alike ran in
       record {

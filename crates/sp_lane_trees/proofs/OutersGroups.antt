@@ -14,12 +14,10 @@ use Rattle.sp_core.specs.PlainCore.{PlainCounter, PlainNode, PlainStages, outer,
 use Rattle.sp_core.specs.Scope.{plainly, Loop, loops_of, counts_of, group_values, is_live, Scope, in_group}
 use Rattle.sp_core.specs.Scope as scope
 use Rattle.sp_core.specs.Sequential.{bounds, run}
-use Rattle.sp_core.specs.Shape.{shape_of}
 use Rattle.sp_core.specs.Step.{Step, went, pure, ◌>>=◌, in_order}
 use Rattle.sp_core.specs.Store.{Store}
 use Rattle.sp_fitting.specs.Fitting.{StoreFits}
 use Rattle.sp_fitting.specs.Laws.{ListsFit, NodesFit}
-use Rattle.sp_within.specs.Rounds.{rounds}
 use Rattle.sp_lanes.specs.Order.{memory_order}
 use Rattle.sp_lanes.specs.Unrolled.{unrolled, owned_in_lanes, node_in, left_as_they_are, stages_by_lane, stage_after, combination_in, combination_of, nodes_in}
 use Rattle.sp_lanes.specs.Within.{Within, in_lane, counters_in}
@@ -34,11 +32,12 @@ use Rattle.sp_lane_groups.proofs.Places.{groups_are}
 use Rattle.sp_lane_groups.proofs.Renewed.{bind_known, bind_split, order_on, order_split, order_none}
 use Rattle.sp_lane_groups.specs.ValuesLanes.{GoOn, iterations_of, AreFirst}
 use Rattle.sp_lane_groups.proofs.ValuesCut.{groups_cut, first_are_live}
+use Rattle.sp_lane_groups.specs.InnersAlike.{GoAlike, GroupAlike, GroupsAlike, no_groups, more_groups, alone}
 use Rattle.sp_lane_groups.specs.InnersAlong.{AgreeAt, GoesAlong, StandsIn}
 use Rattle.sp_lane_groups.proofs.InnersBounds.{order_long, each_right, goes_on, loops_kept, all_bounds_follow}
 use Rattle.sp_lane_groups.proofs.InnersFollows.{Followed, Follows, Same}
 use Rattle.sp_lane_groups.proofs.InnersOwners.{each_owned, owned_apart, owned_inside}
-use Rattle.sp_lane_groups.proofs.InnersRounds.{outer_rounds, order_answers, GroupLess, GroupsLess, one_less, none_less, more_less}
+use Rattle.sp_lane_groups.proofs.InnersHistories.{outer_alike, order_answers}
 use Rattle.sp_lane_groups.proofs.InnersSteps.{order_parts, order_mapped}
 use Rattle.sp_lane_trees.specs.OutersLaws.{OutersGo}
 use Rattle.sp_lane_trees.specs.OutersStages.{AllGoAlong}
@@ -115,7 +114,7 @@ module _ (core : PlainCore) (is : IsCore core) (owns : OwnsInLanes core.root) (l
     abbrev HasFirst : List ℤ → Type 0
     HasFirst values = (count : ℕ) × AreFirst counters (loops_of scope.in_lanes counters bs) values count
 
-    group_follows : (values : List ℤ) → HasFirst values → Follows core around w Left none_left both_left (GroupLess lone_stages stages) (in_order in_core (cut values)) (in_all_lanes values)
+    group_follows : (values : List ℤ) → HasFirst values → Follows core around w Left none_left both_left (GroupAlike counters stages (is_live (loops_of scope.in_lanes counters bs) values)) (in_order in_core (cut values)) (in_all_lanes values)
     group_follows values first s t after gs fits alike ran =
         let count : ℕ = first.0 in
         let same : count ≡ 1 = one_at_most count (lanes_of counters) first.1.some first.1.most one in
@@ -137,10 +136,11 @@ module _ (core : PlainCore) (is : IsCore core) (owns : OwnsInLanes core.root) (l
           agree = subst (λ (u : Store). AgreeAt core around w u x.ended) last x.agree;
           left = x.left;
           fits = subst (StoreFits core) last x.fits;
-          related = subst (λ rs. GroupLess lone_stages stages rs x.answer) r.5 (one_less lone_stages stages r.0 r.2 x.answer x.related);
+          related = subst (λ rs. GroupAlike counters stages (is_live (loops_of scope.in_lanes counters bs) values) rs x.answer) r.5
+              (subst (λ q. GroupAlike counters stages (is_live (loops_of scope.in_lanes counters bs) values) (r.0 ∷ q) x.answer) (order_none (λ l. in_core (lane_values counters l values)) r.1 after r.2 r.4).1 (alone one x.related));
         }
 
-    groups_follow : (all : List (List ℤ)) → All HasFirst all → Follows core around w Left none_left both_left (GroupsLess lone_stages stages) (in_order in_core (flat_map cut all)) (in_order in_all_lanes all)
+    groups_follow : (all : List (List ℤ)) → All HasFirst all → Follows core around w Left none_left both_left (GroupsAlike counters stages (loops_of scope.in_lanes counters bs) all) (in_order in_core (flat_map cut all)) (in_order in_all_lanes all)
     unfolding in_order pure
     groups_follow [] first s t after gs fits alike ran =
         let r = order_none in_core s after gs ran in
@@ -151,7 +151,7 @@ module _ (core : PlainCore) (is : IsCore core) (owns : OwnsInLanes core.root) (l
           agree = subst (λ (u : Store). AgreeAt core around w u t) r.0 alike;
           left = none_left t;
           fits = subst (StoreFits core) r.0 fits;
-          related = none_less lone_stages stages gs;
+          related = subst (λ rs. GroupsAlike counters stages (loops_of scope.in_lanes counters bs) [] rs []) r.1 no_groups;
         }
     groups_follow (values ∷ all) first s t after gs fits alike ran =
         let r = order_parts in_core (cut values) (flat_map cut all) s after gs ran in
@@ -164,7 +164,7 @@ module _ (core : PlainCore) (is : IsCore core) (owns : OwnsInLanes core.root) (l
           agree = y.agree;
           left = both_left t x.ended y.ended x.left y.left;
           fits = y.fits;
-          related = subst (λ rs. GroupsLess lone_stages stages rs (x.answer ∷ y.answer)) (order_answers in_core (cut values) (flat_map cut all) s r.1 after r.0 r.2 gs ran r.3 r.4) (more_less lone_stages stages r.0 r.2 x.answer y.answer x.related y.related);
+          related = subst (λ rs. GroupsAlike counters stages (loops_of scope.in_lanes counters bs) (values ∷ all) rs (x.answer ∷ y.answer)) (order_answers in_core (cut values) (flat_map cut all) s r.1 after r.0 r.2 gs ran r.3 r.4) (more_groups x.related y.related);
         }
 
   -- its groups, by loops
@@ -173,7 +173,7 @@ module _ (core : PlainCore) (is : IsCore core) (owns : OwnsInLanes core.root) (l
 
   lone_goes : (plain lanes : Scope) → ScopesAgree w plain lanes → (s t after : Store) (hist : History) → StoreFits core s → AgreeAt core around w s t → run core plainly turns (outer counters style owned stages) plain s ≡ went hist after
       → (g : History) × (ended : Store) × (run (unrolled core) scope.in_lanes turns lone lanes t ≡ went g ended) × AgreeAt core around w after ended × Left t ended
-      × (rounds lone (shape_of lone g) ≤ rounds (outer counters style owned stages) (shape_of (outer counters style owned stages) hist))
+      × GoAlike (outer counters style owned stages) hist g
   unfolding run pure
   lone_goes plain lanes agree s t after hist fits alike ran =
       let first = bind_split (in_order (bounds core plainly turns plain) counters)
@@ -188,7 +188,7 @@ module _ (core : PlainCore) (is : IsCore core) (owns : OwnsInLanes core.root) (l
       let x : Followed core around w Left none_left both_left (Same core around w Left none_left both_left) (in_order (bounds (unrolled core) scope.in_lanes turns lanes) (counters_in w counters)) t bs first.1 =
       all_bounds_follow core around w Left none_left both_left inside h.together h.copies (room is owns around w h.copies) plain lanes agree (λ u v l n lt out free. l n out) is.memories lists turns counters h.plain.0 each s t first.1 bs fits alike first.2 in
       let all : List (List ℤ) = group_values (loops_of scope.in_lanes counters bs) in
-      let y : Followed core around w Left none_left both_left (GroupsLess lone_stages stages) (in_order (in_all_lanes plain lanes agree bs long) all) x.ended second.0 second.1 =
+      let y : Followed core around w Left none_left both_left (GroupsAlike counters stages (loops_of scope.in_lanes counters bs) all) (in_order (in_all_lanes plain lanes agree bs long) all) x.ended second.0 second.1 =
       groups_follow plain lanes agree bs long all (first_are_live counters bs long h.laned.0 on) first.1 x.ended second.1 second.0 x.fits x.agree
       (ap (λ ls. in_order (in_core plain lanes agree bs long) ls first.1) (sym (groups_cut counters bs long h.laned.0 on)) ∙ second.2) in
       let there : all_groups lanes (loops_of scope.in_lanes (counters_in w counters) bs) x.ended ≡ went y.answer y.ended =
@@ -202,7 +202,7 @@ module _ (core : PlainCore) (is : IsCore core) (owns : OwnsInLanes core.root) (l
             (λ groups. pure (outer_ran bs (counts_of (loops_of scope.in_lanes (counters_in w counters) bs)) (groups_of groups))) x.ended y.ended y.answer there,
         subst (λ (u : Store). AgreeAt core around w u y.ended) done y.agree,
         both_left t x.ended y.ended x.left y.left,
-        outer_rounds counters (counters_in w counters) style owned all_owned stages lone_stages bs bs (counts_of (loops_of plainly counters bs)) (counts_of (loops_of scope.in_lanes (counters_in w counters) bs)) second.0 y.answer hist (ap (answer_of hist) second.3) y.related.0 y.related.1,
+        outer_alike w counters style owned stages bs second.0 y.answer hist (ap (answer_of hist) second.3) y.related,
       )
 
   pub goes : GoesAlong core turns around w (outer counters style owned stages)
@@ -213,7 +213,7 @@ module _ (core : PlainCore) (is : IsCore core) (owns : OwnsInLanes core.root) (l
         ap (λ node. run (unrolled core) scope.in_lanes turns node lanes t) lone_is ∙ x.2,
         x.3,
         (λ n lt out free. x.4 n lt out (ap (λ node. is_among n (owned_in node)) (sym lone_is) ∙ free)),
-        subst (λ (node : PlainNode). rounds node (shape_of node x.0) ≤ rounds (outer counters style owned stages) (shape_of (outer counters style owned stages) hist)) (sym lone_is) x.5,
+        x.5,
       )
 
 pub outer_goes : (core : PlainCore) → ListsFit core → NodesFit core → PlacesHaveRoom core → OutersGo core

@@ -29,13 +29,14 @@ use Rattle.sp_lane_groups.specs.Groups.{IsGroup}
 use Rattle.sp_lane_groups.proofs.Among.{row_in, row_out}
 use Rattle.sp_lane_groups.proofs.Apart.{lane_copies, out_number, out_usable, in_usable, own_out}
 use Rattle.sp_lane_groups.proofs.Renewed.{bind_known, bind_split}
+use Rattle.sp_lane_groups.specs.InnersAlike.{StagesAlike}
 use Rattle.sp_lane_groups.specs.InnersAlong.{AgreeAt, LeavesBut}
 use Rattle.sp_lane_groups.proofs.InnersFollows.{no_copy, Followed, Follows}
 use Rattle.sp_lane_trees.proofs.TransfersMoving.{Moved}
 use Rattle.sp_lane_trees.specs.OutersStages.{AllGoAlong}
 use Rattle.sp_lane_trees.proofs.OutersEnds.{end_stays, ends_move}
 use Rattle.sp_lane_trees.proofs.OutersRenewing.{Made, make_all, made_fit}
-use Rattle.sp_lane_trees.proofs.OutersStages.{StagesLess, neither, stages_follow}
+use Rattle.sp_lane_trees.proofs.OutersStages.{neither, stages_follow}
 
 -- a group
 abbrev pub turn_of : PlainCore → Reading → (turns : ℕ) → Style → (owned : List ℕ) → PlainStages → (live : ℕ → Bool) → Scope → Step Runs
@@ -134,7 +135,7 @@ module _ (core : PlainCore) (nodes : NodesFit core) (memories : are_memories_rig
       (ends_move core place inside_lanes there together copies plainly scope.in_lanes turns style owned g.valid s t after a agree ran)
 
   pub turn_follows : (live too : ℕ → Bool) → ((l : ℕ) → too l ≡ live l)
-      → Follows core around w Left none_left both_left (StagesLess core there stages) (turn_of core plainly turns style owned stages live (plain 0)) (turn_of (unrolled core) scope.in_lanes turns style all_owned lone_stages too lanes)
+      → Follows core around w Left none_left both_left (StagesAlike stages) (turn_of core plainly turns style owned stages live (plain 0)) (turn_of (unrolled core) scope.in_lanes turns style all_owned lone_stages too lanes)
   unfolding pure
   turn_follows live too same s t after runs fits agree ran =
       let first = bind_split (in_order (renew core plainly turns) owned) (λ _. run_stages core plainly turns stages live (plain 0) >>= (λ runs. end_of_group core plainly turns style owned >> pure runs)) s after runs ran in
@@ -144,7 +145,7 @@ module _ (core : PlainCore) (nodes : NodesFit core) (memories : are_memories_rig
       let made_too : Made (unrolled core) scope.in_lanes turns all_owned t = make_all (unrolled core) scope.in_lanes turns all_owned t in
       let reached : made.after ≡ first.1 = ap (store_of s) (sym made.ran ∙ first.2) in
       let inside : AgreeAt core place there first.1 made_too.after = subst (λ (u : Store). AgreeAt core place there u made_too.after) reached (enters s t agree made made_too) in
-      let x : Followed core place there Left none_left both_left (StagesLess core there stages) (run_stages (unrolled core) scope.in_lanes turns lone_stages too lanes) made_too.after second.0 second.1 =
+      let x : Followed core place there Left none_left both_left (StagesAlike stages) (run_stages (unrolled core) scope.in_lanes turns lone_stages too lanes) made_too.after second.0 second.1 =
       stages_follow core nodes memories turns place there Left none_left both_left whole weaker (plain 0) lanes (g.scopes 0 first_lane) live too same stages earlier go right
       (λ n free. (neither all_owned (owned_in_stages lone_stages) n free).1) first.1 made_too.after second.1 second.0 (made_fit core plainly turns memories owned s first.1 first.0 fits first.2) inside second.2 in
       let y : Moved core place inside_lanes there together copies (end_of_group (unrolled core) scope.in_lanes turns style all_owned) x.ended third.0 third.1 = ended_alike second.1 x.ended third.1 third.0 x.agree third.2 in
@@ -161,5 +162,5 @@ module _ (core : PlainCore) (nodes : NodesFit core) (memories : are_memories_rig
         left = both_left t made_too.after y.ended (λ n lt outer free. made_too.outside n (neither all_owned (owned_in_stages lone_stages) n free).0)
             (both_left made_too.after x.ended y.ended x.left (λ n lt outer free. y.others n lt (not_inside n outer (neither all_owned (owned_in_stages lone_stages) n free).0)));
         fits = subst (StoreFits core) (stayed ∙ done) x.fits;
-        related = subst (λ r. StagesLess core there stages r x.answer) (ap (answer_of runs) third.3) x.related;
+        related = subst (λ r. StagesAlike stages r x.answer) (ap (answer_of runs) third.3) x.related;
       }

@@ -1,5 +1,5 @@
 -- A group of a loop whose last stage combines a word: the stages of its lanes, and the combination after all of them.
-use Rattle.std.proofs.Common.{◌≡◌, ℕ, zero, suc, ◌+◌, ◌-◌, ◌<◌, ◌≤◌, Bool, true, false, ◌&&◌, ◌||◌, List, [], ◌∷◌, ◌++◌, length, Option, Some, None, refl, sym, ◌∙◌, ap, subst, arith, inl, inr, ◌==◌, nat_lt}
+use Rattle.std.proofs.Common.{◌≡◌, ℕ, zero, suc, ◌+◌, ◌-◌, ◌<◌, ◌≤◌, Bool, true, false, ◌&&◌, ◌||◌, List, [], ◌∷◌, ◌++◌, length, Option, Some, None, refl, sym, ◌∙◌, ap, subst, arith, inl, inr, ◌==◌, nat_lt, map}
 use Rattle.std.proofs.lemmas.Bool.{and_parts, ltb-true, le-leb}
 use Rattle.std.proofs.lemmas.Bool.Decides.{eqb_tells}
 use Rattle.std.specs.Prelude.{flat_map, option_map}
@@ -10,7 +10,7 @@ use Rattle.sp_tree.specs.declared.statement.Comb.{Comb}
 use Rattle.sp_core.specs.Around.{Around, within, lanes_of, is_port_kind, is_usable}
 use Rattle.sp_core.specs.Declarations.{mem, dram_number, is_stream, is_among}
 use Rattle.sp_core.specs.Footprint.{ListNames}
-use Rattle.sp_core.specs.History.{Entry, History, Runs, no_run, masked_run, more_run, word_at}
+use Rattle.sp_core.specs.History.{Entry, Runs, inner_ran, no_run, masked_run, more_run, word_at}
 use Rattle.sp_core.specs.Invariant.{owned_in, owned_in_stages, AreRight}
 use Rattle.sp_core.specs.MemoryRules.{are_memories_right}
 use Rattle.sp_core.specs.OperationRules.{are_operations_right}
@@ -20,13 +20,11 @@ use Rattle.sp_core.specs.PlainCore.{PlainOp, PlainCounter, PlainMem, PlainNode, 
 use Rattle.sp_core.specs.Scope.{plainly, is_some_up_to, is_some_live, Scope}
 use Rattle.sp_core.specs.Scope as scope
 use Rattle.sp_core.specs.Sequential.{renew, end_of_group, run, run_stages}
-use Rattle.sp_core.specs.Shape.{Shape, inner_shape, shape_of}
 use Rattle.sp_core.specs.Step.{Step, went, pure, ◌>>=◌, ◌>>◌, in_order}
 use Rattle.sp_core.specs.Store.{Store}
 use Rattle.sp_fitting.specs.Fitting.{StoreFits}
 use Rattle.sp_fitting.specs.Laws.{ListsFit, NodesFit, WordsFit}
 use Rattle.sp_sugar.specs.Combination.{operator_of}
-use Rattle.sp_within.specs.Rounds.{rounds}
 use Rattle.sp_lanes.specs.Bodies.{Body, lane_bodies, all_ops}
 use Rattle.sp_lanes.specs.Combined.{combined}
 use Rattle.sp_lanes.specs.Joined.{is_balanced}
@@ -44,7 +42,6 @@ use Rattle.sp_lane_groups.specs.JoinedWords.{in_turn, words_of, EachHasWord}
 use Rattle.sp_lane_groups.proofs.JoinedBalanced.{Laws}
 use Rattle.sp_lane_groups.proofs.InnersBounds.{order_long}
 use Rattle.sp_lane_groups.proofs.InnersFollows.{no_copy, Follows}
-use Rattle.sp_lane_groups.proofs.InnersRounds.{run_rounds, all_rounds, GroupLess}
 use Rattle.sp_lane_trees.specs.OutersStages.{AllGoAlong}
 use Rattle.sp_lane_trees.proofs.OutersLone.{turn_of}
 use Rattle.sp_lane_trees.proofs.OutersRenewing.{Made, make_all}
@@ -59,23 +56,13 @@ use Rattle.sp_lane_trees.proofs.CombinationsGroup as combined_group
 use Rattle.sp_lane_trees.proofs.CombinationsGroup.{have_words}
 use Rattle.sp_lane_trees.proofs.CombinationsRegisters.{put_in}
 use Rattle.sp_lane_trees.proofs.CombinationsRights.{plain_front}
-use Rattle.sp_lane_trees.specs.ReductionsReduction.{AreStill, own_stages, LastReduces}
+use Rattle.sp_lane_groups.specs.InnersAlike.{own_stages, own_runs, GroupAlike, LanesAlike}
+use Rattle.sp_lane_trees.specs.ReductionsReduction.{AreStill, LastReduces}
+use Rattle.sp_lane_trees.proofs.LanesAlike.{gathered}
 use Rattle.sp_lane_trees.proofs.ReductionsFronts.{fronts_stand}
 use Rattle.sp_lane_trees.proofs.ReductionsLanes as lane_turns
 use Rattle.sp_lane_trees.proofs.ReductionsOwn.{named_before, none_combines, own_first, own_right}
 use Rattle.sp_lane_trees.proofs.ReductionsTurns.{turns_of, alone_runs}
-
--- a combination without counters goes around no more
-no_rounds : (ops : List PlainOp) (last : ℕ) (h : History) → run_rounds (more_stage 0 last true (inner [] [] ops None) no_stage) (more_run h no_run) ≤ 0
-unfolding rounds shape_of
-no_rounds ops last h = by (shape_of (inner [] [] ops None) h)
-  where
-    by : (s : Shape) → rounds (inner [] [] ops None) s + 0 ≤ 0
-    by (inner_shape counts) = omega arith
-    by s = omega arith
-
-at_most : (a n x : ℕ) → a ≤ n + x → x ≤ 0 → a ≤ n
-at_most a n x f g = omega (arith, f, g)
 
 -- where the first lane has an iteration, some lane has
 some_up_to : (live : ℕ → Bool) → live 0 ≡ true → (n : ℕ) → is_some_up_to live 0 n ≡ true
@@ -137,7 +124,7 @@ module _ (core : PlainCore) (nodes : NodesFit core) (lists : ListsFit core) (fit
   pub both_left : (t u v : Store) → Left t u → Left u v → Left t v
   both_left = lane_turns.both_left core nodes lists memories turns around inside_lanes w counters style owned no_stream plain lanes count g several not_dram stages earlier is reduces firsts right go apart live_at too first_live live masked ops at node combines node_is before begun word acc ty comb asks list front_plain still own ops_right tail
 
-  abbrev Reduced : (more k l : ℕ) → (s v t after : Store) → (most : ℕ) → Type 0
+  abbrev Reduced : (more k l : ℕ) → (s v t after : Store) → (most : List Runs) → Type 0
   Reduced more k l s v t after n = lane_turns.Reduced core nodes lists memories turns around inside_lanes w counters style owned no_stream plain lanes count g several not_dram stages earlier is reduces firsts right go apart live_at too first_live live masked ops at node combines node_is before begun word acc ty comb asks list front_plain still own ops_right tail more k l s v t after n
 
   abbrev run_there : PlainStages → Step Runs
@@ -198,7 +185,7 @@ module _ (core : PlainCore) (nodes : NodesFit core) (lists : ListsFit core) (fit
   some_words k some (v ∷ vs) long = (v, vs, refl)
 
   -- where stores agree after the lanes, they do after the combination
-  module _ (s t after : Store) (n : ℕ) (x : Reduced count (lanes_of counters) 0 s s t after n) (value : ℕ) where
+  module _ (s t after : Store) (n : List Runs) (x : Reduced count (lanes_of counters) 0 s s t after n) (value : ℕ) where
     abbrev ended : Store
     ended = combined_in (unrolled core) begun_there (w.number acc) value x.ended
 
@@ -251,14 +238,14 @@ module _ (core : PlainCore) (nodes : NodesFit core) (lists : ListsFit core) (fit
     left_there n lt outer free = left_other core (unrolled core) w.number begun acc value x.ended n (λ i. outer acc acc_usable (sym i)) (λ b e i. outer b (flag_usable b e) (sym i))
 
   -- the combination after all lanes
-  record Combines (s t after : Store) (n : ℕ) (x : Reduced count (lanes_of counters) 0 s s t after n) : Type 0 where
+  record Combines (s t after : Store) (n : List Runs) (x : Reduced count (lanes_of counters) 0 s s t after n) : Type 0 where
     value : ℕ
     written : (after acc ≡ Some (put_in core acc value (s acc))) × ((b : ℕ) → begun ≡ Some b → after b ≡ Some (put_in core b 1 (s b)))
     runs : Runs
     ran : run_there tail x.ended ≡ went runs (combined_in (unrolled core) begun_there (w.number acc) value x.ended)
-    none : run_rounds tail runs ≤ 0
+    form : (groups : List (List Entry)) × (runs ≡ more_run (inner_ran [] [] groups) no_run)
 
-  combines_there : (s t after : Store) (n : ℕ) → StoreFits core s → (x : Reduced count (lanes_of counters) 0 s s t after n) → Combines s t after n x
+  combines_there : (s t after : Store) (n : List Runs) → StoreFits core s → (x : Reduced count (lanes_of counters) 0 s s t after n) → Combines s t after n x
   unfolding run_stages pure
   combines_there s t after n fits x =
       let v = some_words count g.some x.words x.long in
@@ -282,14 +269,14 @@ module _ (core : PlainCore) (nodes : NodesFit core) (lists : ListsFit core) (fit
         value = value;
         written = left.2;
         runs = more_run h.0 no_run;
-        none = no_rounds last_ops (lanes_of counters - 1) h.0;
+        form = (last.0 ∷ [], ap (λ x. more_run x no_run) h.2);
         ran = chosen_true (is_some_live too 0 (lanes_of counters - 1)) (run (unrolled core) scope.in_lanes turns last_node lanes >>= (λ h. run_there no_stage >>= (λ rs. pure (more_run h rs)))) (run_there no_stage >>= (λ rs. pure (masked_run rs))) x.ended
             (some_live too (live 0 g.some) (lanes_of counters - 1))
             ∙ bind_known (run (unrolled core) scope.in_lanes turns last_node lanes) (λ h. run_there no_stage >>= (λ rs. pure (more_run h rs))) x.ended done h.0 h.1
             ∙ bind_known (run_there no_stage) (λ rs. pure (more_run h.0 rs)) done done no_run refl;
       }
 
-  pub group_follows : Follows core around w Left none_left both_left (GroupLess all_stages stages) (in_order (λ l. turn_of core plainly turns style owned stages (live_at l) (plain l)) (lanes_from 0 count)) (turn_of (unrolled core) scope.in_lanes turns style all_owned all_stages too lanes)
+  pub group_follows : Follows core around w Left none_left both_left (GroupAlike counters stages too) (in_order (λ l. turn_of core plainly turns style owned stages (live_at l) (plain l)) (lanes_from 0 count)) (turn_of (unrolled core) scope.in_lanes turns style all_owned all_stages too lanes)
   unfolding pure
   group_follows s t after gs fits agree ran =
       let made : Made (unrolled core) scope.in_lanes turns all_owned t = make_all (unrolled core) scope.in_lanes turns all_owned t in
@@ -301,9 +288,9 @@ module _ (core : PlainCore) (nodes : NodesFit core) (lists : ListsFit core) (fit
         own = λ m j i le less. made.inside ((in_lane (memory_order core) counters owned w j).number m) (lanes_group.own_in core nodes memories turns around inside_lanes w counters style owned no_stream plain lanes count g not_dram mine earlier mine_first mine_none mine_right go apart live_at too first_live live masked j m less i) ∙ ap (λ (x : PlainMem). Some (fresh_of x.kind x.dims x.start [])) ((g.together j less).memories m (g.valid m i)).1;
       } in
       let many = turns_of core turns style owned no_stream stages is reduces firsts ops at node combines node_is plain live_at count first_live count 0 (omega arith) s after gs ran in
-      let x : Reduced count (lanes_of counters) 0 s s made.after after (all_rounds stages gs) =
-      lane_turns.reduces_run core nodes lists memories turns around inside_lanes w counters style owned no_stream plain lanes count g several not_dram stages earlier is reduces firsts right go apart live_at too first_live live masked ops at node combines node_is before begun word acc ty comb asks list front_plain still own ops_right tail count (lanes_of counters) 0 (omega arith) (omega arith) (λ n free. (neither all_owned (owned_in_stages all_stages) n free).1) s s made.after after (all_rounds stages gs) fits fits (λ m i. refl) reached many in
-      let c : Combines s made.after after (all_rounds stages gs) x = combines_there s made.after after (all_rounds stages gs) fits x in
+      let x : Reduced count (lanes_of counters) 0 s s made.after after (map (own_runs stages) gs) =
+      lane_turns.reduces_run core nodes lists memories turns around inside_lanes w counters style owned no_stream plain lanes count g several not_dram stages earlier is reduces firsts right go apart live_at too first_live live masked ops at node combines node_is before begun word acc ty comb asks list front_plain still own ops_right tail count (lanes_of counters) 0 (omega arith) (omega arith) (λ n free. (neither all_owned (owned_in_stages all_stages) n free).1) s s made.after after (map (own_runs stages) gs) fits fits (λ m i. refl) reached many.0 in
+      let c : Combines s made.after after (map (own_runs stages) gs) x = combines_there s made.after after (map (own_runs stages) gs) fits x in
       let done : Store = combined_in (unrolled core) begun_there (w.number acc) c.value x.ended in
       let q = x.runs c.runs done c.ran in
       record {
@@ -313,8 +300,9 @@ module _ (core : PlainCore) (nodes : NodesFit core) (lists : ListsFit core) (fit
             bind_known (in_order (renew (unrolled core) scope.in_lanes turns) all_owned) (λ _. run_there all_stages >>= (λ runs. end_of_group (unrolled core) scope.in_lanes turns style all_owned >> pure runs)) t made.after made.answers made.ran
             ∙ bind_known (run_there all_stages) (λ runs. end_of_group (unrolled core) scope.in_lanes turns style all_owned >> pure runs) made.after done q.0 q.1
             ∙ bind_known (end_of_group (unrolled core) scope.in_lanes turns style all_owned) (λ _. pure q.0) done done [] (nothing_ends (unrolled core) scope.in_lanes turns style all_owned done no_stream);
-        agree = record { memories = at_memory s made.after after (all_rounds stages gs) x c.value c.written; drams = at_dram s made.after after (all_rounds stages gs) x c.value };
-        left = both_left t made.after done (λ n low outer free. made.outside n (neither all_owned (owned_in_stages all_stages) n free).0) (both_left made.after x.ended done x.left (left_there s made.after after (all_rounds stages gs) x c.value));
+        agree = record { memories = at_memory s made.after after (map (own_runs stages) gs) x c.value c.written; drams = at_dram s made.after after (map (own_runs stages) gs) x c.value };
+        left = both_left t made.after done (λ n low outer free. made.outside n (neither all_owned (owned_in_stages all_stages) n free).0) (both_left made.after x.ended done x.left (left_there s made.after after (map (own_runs stages) gs) x c.value));
         fits = x.fits;
-        related = ((let long = order_long (λ l. turn_of core plainly turns style owned stages (live_at l) (plain l)) (lanes_from 0 count) s after gs ran in let some = g.some in omega (arith, long, some, lanes_long 0 count)), at_most _ _ _ q.2 c.none);
+        related = gathered counters stages several too gs q.0 (let long = order_long (λ l. turn_of core plainly turns style owned stages (live_at l) (plain l)) (lanes_from 0 count) s after gs ran in let some = g.some in omega (arith, long, some, lanes_long 0 count)) [] [] ops (Some at) [] [] c.form.0 many.1
+            (subst (λ xs. LanesAlike (own_stages stages) too xs 0 (lanes_of counters) (map (own_runs stages) gs) q.0) c.form.1 q.2);
       }

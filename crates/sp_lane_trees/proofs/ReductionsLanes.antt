@@ -34,32 +34,23 @@ use Rattle.sp_lane_groups.proofs.Renewed.{bind_split}
 use Rattle.sp_lane_groups.proofs.RunsWhole.{run_long}
 use Rattle.sp_lane_groups.specs.JoinedWords.{words_of}
 use Rattle.sp_lane_groups.specs.InnersAlong.{AgreeAt}
-use Rattle.sp_lane_groups.proofs.InnersRounds.{run_rounds}
 use Rattle.sp_lane_trees.specs.OutersStages.{AllGoAlong}
 use Rattle.sp_lane_trees.specs.StagesLaws.{AreOfFirst}
 use Rattle.sp_lane_trees.proofs.StagesLanes as lanes_group
 use Rattle.sp_lane_trees.proofs.StagesLanes.{among_stages, less_of, next_of}
-use Rattle.sp_lane_trees.proofs.StagesPassing.{neither, Passed, rests}
+use Rattle.sp_lane_trees.proofs.StagesAlike.{own_same}
+use Rattle.sp_lane_trees.proofs.StagesPassing.{left_alike, neither, Passed, rests}
 use Rattle.sp_lane_trees.proofs.CombinationsChain.{Asks, Accumulated, Written, joint, runs_parts, left_other, left_acc, left_flag, acc_not, flag_not, holds_same, more_left}
 use Rattle.sp_lane_trees.proofs.CombinationsCombining.{after_word, combining, Holds, combined_in, IsBegun, was_combined}
 use Rattle.sp_lane_trees.proofs.CombinationsFrames.{AgreeOn, KeptBut, Framed, FramedAt, bind_framed, pure_framed, change_framed, framed_closed}
 use Rattle.sp_lane_trees.proofs.CombinationsRegisters.{put_in}
 use Rattle.sp_lane_trees.proofs.CombinationsRights.{masks_back, right_parts}
-use Rattle.sp_lane_trees.specs.ReductionsReduction.{AreStill, own_stages, LastReduces}
+use Rattle.sp_lane_groups.specs.InnersAlike.{own_stages, left_out, LanesAlike, all_lanes, with_one, without}
+use Rattle.sp_lane_trees.specs.ReductionsReduction.{AreStill, LastReduces}
 use Rattle.sp_lane_trees.proofs.ReductionsFronts.{still_run, AllRan}
 use Rattle.sp_lane_trees.proofs.ReductionsKept.{Keeps, of_bind, of_pure, all_renewed_keep, end_of_group_keeps, run_stages_keep}
 use Rattle.sp_lane_trees.proofs.ReductionsOwn.{named_before, none_combines, own_names, own_change, own_first, own_right}
 use Rattle.sp_lane_trees.proofs.ReductionsTurns.{own_turn, OneTurn, Turns}
-
--- sums of rounds
-at_most : (a b c : ℕ) → a ≤ b → b ≤ c → a ≤ c
-at_most a b c f g = omega (arith, f, g)
-
-more_most : (a b n : ℕ) → a ≤ b → a ≤ n + b
-more_most a b n f = omega (arith, f)
-
-together : (h o q m x n : ℕ) → h ≤ o + q → q ≤ m + x → o + m ≤ n → h ≤ n + x
-together h o q m x n f g k = omega (arith, f, g, k)
 
 -- steps of a group look at and change only what they name or own
 module _ (core : PlainCore) (turns : ℕ) (is : ℕ → Bool) where
@@ -159,7 +150,7 @@ module _ (core : PlainCore) (nodes : NodesFit core) (lists : ListsFit core) (mem
   abbrev turn : ℕ → Step Runs
   turn l = own_turn core turns style owned no_stream stages is reduces firsts ops at node combines node_is plain live_at count first_live l
 
-  abbrev pub Many : (k l : ℕ) → (s after : Store) → (most : ℕ) → Type 0
+  abbrev pub Many : (k l : ℕ) → (s after : Store) → (runs : List Runs) → Type 0
   Many k l s after n = Turns core turns style owned no_stream stages is reduces firsts ops at node combines node_is plain live_at count first_live k l s after n
 
   abbrev One : (l : ℕ) → (s after : Store) → Type 0
@@ -260,13 +251,13 @@ module _ (core : PlainCore) (nodes : NodesFit core) (lists : ListsFit core) (mem
 
   -- so many iterations from one on, from a store of the core, one that no combination changes, and one of the lanes: their own stages
   -- from the last two, where the words that are combined stand after all lanes, and what the combinations leave
-  pub record Reduced (more k l : ℕ) (s v t after : Store) (most : ℕ) : Type 0 where
+  pub record Reduced (more k l : ℕ) (s v t after : Store) (most : List Runs) : Type 0 where
     pub words : List (List Entry)
     pub long : length words ≡ more
     pub fit : EachFit words
     pub alone : Store
     pub ended : Store
-    pub runs : (x : Runs) (last : Store) → run_there tail ended ≡ went x last → (h : Runs) × (run_there (rest_of l k) t ≡ went h last) × (run_rounds (rest_of l k) h ≤ most + run_rounds tail x)
+    pub runs : (x : Runs) (last : Store) → run_there tail ended ≡ went x last → (h : Runs) × (run_there (rest_of l k) t ≡ went h last) × LanesAlike mine too x l k most h
     pub agrees : AgreeAt core around w alone ended
     pub on : AgreeOn is after alone
     pub kept : KeptBut is v alone
@@ -278,36 +269,36 @@ module _ (core : PlainCore) (nodes : NodesFit core) (lists : ListsFit core) (mem
     pub accumulated : Accumulated core plain owned before begun at word acc ty comb is asks s after (words_of word words)
 
   -- lanes without an iteration
-  dead_run : (more l : ℕ) → count ≤ l → l + more ≡ lanes_of counters → (t : Store) (x : Runs) (last : Store) → run_there tail t ≡ went x last → (h : Runs) × (run_there (rest_of l more) t ≡ went h last) × (run_rounds (rest_of l more) h ≤ run_rounds tail x)
-  dead_run zero l le e t x last there = (x, there, omega arith)
+  dead_run : (more l : ℕ) → count ≤ l → l + more ≡ lanes_of counters → (t : Store) (x : Runs) (last : Store) → run_there tail t ≡ went x last → (h : Runs) × (run_there (rest_of l more) t ≡ went h last) × LanesAlike mine too x l more [] h
+  dead_run zero l le e t x last there = (x, there, all_lanes)
   dead_run (suc more) l le e t x last there =
       let z = dead_run more (suc l) (omega (arith, le)) (omega (arith, e)) t x last there in
       let q = rests core nodes memories turns place (lane_at l) (plain l) lanes (g.scopes l (omega (arith, e))) l too (masked l le (omega (arith, e))) (nodes_in (memory_order core) (lane_at l) mine) (rest_of (suc l) more) z.0 t last z.1 in
-      (q.0, q.1, at_most _ _ _ q.2 z.2)
+      (q.0, q.1, subst (LanesAlike mine too x l (suc more) []) (sym (q.2 ∙ left_alike (memory_order core) (lane_at l) mine z.0 ∙ ap (λ xs. left_out xs z.0) (own_same core mine mine_none))) (without (masked l le (omega (arith, e))) z.2))
 
   -- where no iteration follows nothing does
-  no_more : (k l : ℕ) (s after : Store) (n : ℕ) → Many k l s after n → (words : List (List Entry)) → length words ≡ k → words_of word words ≡ [] → s ≡ after
-  no_more zero l s after n h words long e = h
+  no_more : (k l : ℕ) (s after : Store) (n : List Runs) → Many k l s after n → (words : List (List Entry)) → length words ≡ k → words_of word words ≡ [] → s ≡ after
+  no_more zero l s after n h words long e = h.0
   no_more (suc k) l s after n h [] long e = absurd (omega (arith, long))
   no_more (suc k) l s after n h (es ∷ words) long e = cc
 
   abbrev IsWithin : List ℕ → Type 0
   IsWithin xs = (n : ℕ) → is_among n whole ≡ false → is_among n xs ≡ false
 
-  pub reduces_run : (more k l : ℕ) → l + more ≡ count → l + k ≡ lanes_of counters → IsWithin (owned_in_stages (rest_of l k)) → (s v t after : Store) (n : ℕ) → StoreFits core s → StoreFits core v → AgreeOn is s v → Reached l v t → Many more l s after n → Reduced more k l s v t after n
+  pub reduces_run : (more k l : ℕ) → l + more ≡ count → l + k ≡ lanes_of counters → IsWithin (owned_in_stages (rest_of l k)) → (s v t after : Store) (n : List Runs) → StoreFits core s → StoreFits core v → AgreeOn is s v → Reached l v t → Many more l s after n → Reduced more k l s v t after n
   reduces_run zero k l e f inside s v t after n fits fits_too agree h many = record {
     words = [];
     long = refl;
     fit = tt;
     alone = v;
     ended = t;
-    runs = λ x last there. (let q = dead_run k l (omega (arith, e)) f t x last there in (q.0, q.1, more_most _ _ n q.2));
+    runs = λ x last there. (let q = dead_run k l (omega (arith, e)) f t x last there in (q.0, q.1, subst (λ rs. LanesAlike mine too x l k rs q.0) (sym many.1) q.2));
     agrees = h.agrees;
-    on = subst (λ (u : Store). AgreeOn is u v) many agree;
+    on = subst (λ (u : Store). AgreeOn is u v) many.0 agree;
     kept = λ m n. refl;
     same = λ m i u. refl;
     left = none_left t;
-    fits = subst (StoreFits core) many fits;
+    fits = subst (StoreFits core) many.0 fits;
     stays = λ m j i lt less. refl;
     ran = tt;
     accumulated = tt;
@@ -335,7 +326,7 @@ module _ (core : PlainCore) (nodes : NodesFit core) (lists : ListsFit core) (mem
         fit = (c.fits, z.fit);
         alone = z.alone;
         ended = z.ended;
-        runs = λ x last there. (let q = z.runs x last there in let r = y.runs (rest_of (suc l) k) q.0 last q.1 in (r.0, r.1, together _ _ _ _ _ _ r.2 q.2 many.3));
+        runs = λ x last there. (let q = z.runs x last there in let r = y.runs (rest_of (suc l) k) q.0 last q.1 in (r.0, r.1, subst (λ rs. LanesAlike mine too x l (suc k) rs r.0) (sym many.3) (with_one (live l lt) r.2 q.2)));
         agrees = z.agrees;
         on = z.on;
         kept = λ m n. z.kept m n ∙ frame.kept_too m n;

@@ -14,12 +14,10 @@ use Rattle.sp_core.specs.PlainCore.{PlainCounter, PlainMem, PlainNode, PlainStag
 use Rattle.sp_core.specs.Scope.{Reading, plainly, Scope}
 use Rattle.sp_core.specs.Scope as scope
 use Rattle.sp_core.specs.Sequential.{renew, end_of_group, run_stages}
-use Rattle.sp_core.specs.Shape.{shape_of}
 use Rattle.sp_core.specs.Step.{Step, went, pure, ◌>>=◌, ◌>>◌, in_order}
 use Rattle.sp_core.specs.Store.{Store}
 use Rattle.sp_fitting.specs.Fitting.{StoreFits}
 use Rattle.sp_fitting.specs.Laws.{NodesFit}
-use Rattle.sp_within.specs.Rounds.{rounds}
 use Rattle.sp_lanes.specs.Order.{memory_order}
 use Rattle.sp_lanes.specs.Unrolled.{unrolled, owned_in_lanes, nodes_in, stages_in, stages_by_lane}
 use Rattle.sp_lanes.specs.Within.{Within, in_lane}
@@ -30,22 +28,16 @@ use Rattle.sp_lane_groups.specs.Groups.{lanes_from, IsGroup}
 use Rattle.sp_lane_groups.proofs.Among.{row_in, row_out}
 use Rattle.sp_lane_groups.proofs.Apart.{out_number, out_usable, in_usable, own_out, own_own}
 use Rattle.sp_lane_groups.proofs.Renewed.{bind_known, bind_split, order_split, order_none}
+use Rattle.sp_lane_groups.specs.InnersAlike.{left_out, LanesAlike, all_lanes, with_one, without}
 use Rattle.sp_lane_groups.specs.InnersAlong.{AgreeAt}
 use Rattle.sp_lane_groups.proofs.InnersBounds.{order_long}
 use Rattle.sp_lane_groups.proofs.InnersFollows.{no_copy, Follows}
-use Rattle.sp_lane_groups.proofs.InnersRounds.{run_rounds, all_rounds, GroupLess}
 use Rattle.sp_lane_trees.specs.OutersStages.{AllGoAlong}
 use Rattle.sp_lane_trees.proofs.OutersLone.{turn_of}
 use Rattle.sp_lane_trees.proofs.OutersRenewing.{Made, make_all, made_fit}
 use Rattle.sp_lane_trees.specs.StagesLaws.{AreOfFirst}
-use Rattle.sp_lane_trees.proofs.StagesPassing.{neither, Passed, passes, rests}
-
--- sums of rounds
-at_most : (a b c : ℕ) → a ≤ b → b ≤ c → a ≤ c
-at_most a b c f g = omega (arith, f, g)
-
-summed : (i a b c : ℕ) → i ≤ a + b → b ≤ c → i ≤ a + c
-summed i a b c f g = omega (arith, f, g)
+use Rattle.sp_lane_trees.proofs.StagesAlike.{InLanes, own_same}
+use Rattle.sp_lane_trees.proofs.StagesPassing.{neither, left_alike, Passed, passes, rests}
 
 pub lanes_long : (l n : ℕ) → length (lanes_from l n) ≡ n
 lanes_long l zero = refl
@@ -184,29 +176,29 @@ module _ (core : PlainCore) (nodes : NodesFit core) (memories : are_memories_rig
       let stayed : second.1 ≡ third.1 = ap (store_of s) (sym (nothing_ends core plainly turns style owned second.1 no_stream) ∙ third.2) in
       subst (λ r. After l below t after r) (ap (answer_of runs) third.3) (subst (λ (u : Store). After l below t u second.0) (stayed ∙ ap (store_of s) third.3) x)
 
-  record Gone (rest : PlainStages) (t after : Store) (gs : List Runs) : Type 0 where
+  record Gone (l k : ℕ) (t after : Store) (gs : List Runs) : Type 0 where
     runs : Runs
     ended : Store
-    ran : run_there rest t ≡ went runs ended
+    ran : run_there (rest_of l k) t ≡ went runs ended
     agrees : AgreeAt core around w after ended
     left : Left t ended
     fits : StoreFits core after
-    fewer : run_rounds rest runs ≤ all_rounds stages gs
+    alike : LanesAlike stages too no_run l k gs runs
 
   -- lanes without an iteration
-  dead_run : (more l : ℕ) → count ≤ l → l + more ≡ lanes_of counters → (t : Store) → (runs : Runs) × (run_there (rest_of l more) t ≡ went runs t) × (run_rounds (rest_of l more) runs ≤ 0)
-  unfolding run_stages pure rounds shape_of
-  dead_run zero l le e t = (no_run, refl, omega arith)
+  dead_run : (more l : ℕ) → count ≤ l → l + more ≡ lanes_of counters → (t : Store) → (runs : Runs) × (run_there (rest_of l more) t ≡ went runs t) × LanesAlike stages too no_run l more [] runs
+  unfolding run_stages pure
+  dead_run zero l le e t = (no_run, refl, all_lanes)
   dead_run (suc more) l le e t =
       let z = dead_run more (suc l) (omega (arith, le)) (omega (arith, e)) t in
       let q = rests core nodes memories turns place (lane_at l) (plain l) lanes (g.scopes l (omega (arith, e))) l too (masked l le (omega (arith, e))) (nodes_in (memory_order core) (lane_at l) stages) (rest_of (suc l) more) z.0 t t z.1 in
-      (q.0, q.1, at_most _ _ _ q.2 z.2)
+      (q.0, q.1, subst (LanesAlike stages too no_run l (suc more) []) (sym (q.2 ∙ left_alike (memory_order core) (lane_at l) stages z.0 ∙ ap (λ xs. left_out xs z.0) (own_same core stages none))) (without (masked l le (omega (arith, e))) z.2))
 
   abbrev IsWithin : List ℕ → Type 0
   IsWithin xs = (n : ℕ) → is_among n whole ≡ false → is_among n xs ≡ false
 
   -- those that have one, and after them the others
-  live_run : (more k l : ℕ) → l + more ≡ count → l + k ≡ lanes_of counters → IsWithin (owned_in_stages (rest_of l k)) → (s t after : Store) (gs : List Runs) → StoreFits core s → Reached l s t → in_order turn (lanes_from l more) s ≡ went gs after → Gone (rest_of l k) t after gs
+  live_run : (more k l : ℕ) → l + more ≡ count → l + k ≡ lanes_of counters → IsWithin (owned_in_stages (rest_of l k)) → (s t after : Store) (gs : List Runs) → StoreFits core s → Reached l s t → in_order turn (lanes_from l more) s ≡ went gs after → Gone l k t after gs
   live_run zero k l e f inside s t after gs fits h ran =
       let r = order_none turn s after gs ran in
       let z = dead_run k l (omega (arith, e)) f t in
@@ -217,7 +209,7 @@ module _ (core : PlainCore) (nodes : NodesFit core) (memories : are_memories_rig
         agrees = subst (λ (u : Store). AgreeAt core around w u t) r.0 h.agrees;
         left = none_left t;
         fits = subst (StoreFits core) r.0 fits;
-        fewer = at_most _ _ _ z.2 (omega arith);
+        alike = subst (λ q. LanesAlike stages too no_run l k q z.0) r.1 z.2;
       }
   live_run (suc more) zero l e f inside s t after gs fits h ran = absurd (let most = g.most in omega (arith, e, f, most))
   live_run (suc more) (suc k) l e f inside s t after gs fits h ran =
@@ -227,7 +219,7 @@ module _ (core : PlainCore) (nodes : NodesFit core) (memories : are_memories_rig
       let y : After l below t r.1 r.0 = one_turn l below lt s t r.1 r.0 fits h r.3 in
       let split : (n : ℕ) → is_among n whole ≡ false → (is_among n (flat_map owned_in (nodes_in (memory_order core) (lane_at l) stages)) ≡ false) × (is_among n (owned_in_stages (rest_of (suc l) k)) ≡ false) =
       λ n free. among_stages n l (nodes_in (memory_order core) (lane_at l) stages) (rest_of (suc l) k) (inside n free) in
-      let z : Gone (rest_of (suc l) k) y.ended after r.2 =
+      let z : Gone (suc l) k y.ended after r.2 =
       live_run more k (suc l) (next_of l more count e) (omega (arith, f)) (λ n free. (split n free).1) r.1 y.ended after r.2 y.fits (next_reached l below s t r.1 r.0 h y) r.4 in
       let v = y.runs (rest_of (suc l) k) z.runs z.ended z.ran in
       record {
@@ -237,10 +229,10 @@ module _ (core : PlainCore) (nodes : NodesFit core) (memories : are_memories_rig
         agrees = z.agrees;
         left = both_left t y.ended z.ended (λ n low outer free. y.left n low (not_inside l n below outer (neither all_owned (owned_in_stages (rest_of 0 (lanes_of counters))) n free).0) (split n free).0) z.left;
         fits = z.fits;
-        fewer = subst (λ rs. run_rounds (rest_of l (suc k)) v.0 ≤ all_rounds stages rs) r.5 (summed _ _ _ _ v.2 z.fewer);
+        alike = subst (λ rs. LanesAlike stages too no_run l (suc k) rs v.0) r.5 (with_one (live l lt) v.2 z.alike);
       }
 
-  pub group_follows : Follows core around w Left none_left both_left (GroupLess (rest_of 0 (lanes_of counters)) stages) (in_order turn (lanes_from 0 count)) (turn_of (unrolled core) scope.in_lanes turns style all_owned (rest_of 0 (lanes_of counters)) too lanes)
+  pub group_follows : Follows core around w Left none_left both_left (InLanes stages too (lanes_of counters)) (in_order turn (lanes_from 0 count)) (turn_of (unrolled core) scope.in_lanes turns style all_owned (rest_of 0 (lanes_of counters)) too lanes)
   unfolding pure
   group_follows s t after gs fits agree ran =
       let all : PlainStages = rest_of 0 (lanes_of counters) in
@@ -252,7 +244,7 @@ module _ (core : PlainCore) (nodes : NodesFit core) (memories : are_memories_rig
         };
         own = λ m j i le less. made.inside ((lane_at j).number m) (own_in j m less i) ∙ ap (λ (x : PlainMem). Some (fresh_of x.kind x.dims x.start [])) ((g.together j less).memories m (g.valid m i)).1;
       } in
-      let z : Gone all made.after after gs =
+      let z : Gone 0 (lanes_of counters) made.after after gs =
       live_run count (lanes_of counters) 0 (omega arith) (omega arith) (λ n free. (neither all_owned (owned_in_stages all) n free).1) s made.after after gs fits reached ran in
       record {
         answer = z.runs;
@@ -264,5 +256,5 @@ module _ (core : PlainCore) (nodes : NodesFit core) (memories : are_memories_rig
         agree = z.agrees;
         left = both_left t made.after z.ended (λ n low outer free. made.outside n (neither all_owned (owned_in_stages all) n free).0) z.left;
         fits = z.fits;
-        related = ((let long = order_long turn (lanes_from 0 count) s after gs ran in let some = g.some in omega (arith, long, some, lanes_long 0 count)), z.fewer);
+        related = ((let long = order_long turn (lanes_from 0 count) s after gs ran in let some = g.some in omega (arith, long, some, lanes_long 0 count)), z.alike);
       }

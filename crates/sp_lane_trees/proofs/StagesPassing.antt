@@ -1,5 +1,5 @@
 -- The stages of one lane, before those of the lanes after it.
-use Rattle.std.proofs.Common.{◌≡◌, ℕ, ◌+◌, ◌<◌, ◌≤◌, Bool, true, false, ◌||◌, List, [], ◌∷◌, ◌++◌, length, refl, sym, ◌∙◌, ap, subst, arith}
+use Rattle.std.proofs.Common.{◌≡◌, ℕ, ◌<◌, Bool, true, false, ◌||◌, List, [], ◌∷◌, ◌++◌, length, refl, sym, ◌∙◌, ap, subst}
 use Rattle.std.proofs.lemmas.Bool.{true≢false}
 use Rattle.std.specs.Prelude.{flat_map}
 use Rattle.sp_core.specs.Around.{Around, is_usable}
@@ -11,12 +11,10 @@ use Rattle.sp_core.specs.PlainCore.{PlainNode, PlainStages, no_stage, more_stage
 use Rattle.sp_core.specs.Scope.{plainly, is_some_live, Scope}
 use Rattle.sp_core.specs.Scope as scope
 use Rattle.sp_core.specs.Sequential.{run, run_stages}
-use Rattle.sp_core.specs.Shape.{shape_of}
 use Rattle.sp_core.specs.Step.{Step, went, pure, ◌>>=◌}
 use Rattle.sp_core.specs.Store.{Store}
 use Rattle.sp_fitting.specs.Fitting.{StoreFits}
 use Rattle.sp_fitting.specs.Laws.{NodesFit}
-use Rattle.sp_within.specs.Rounds.{rounds}
 use Rattle.sp_lanes.specs.Order.{memory_order}
 use Rattle.sp_lanes.specs.Unrolled.{unrolled, node_in, nodes_in, stages_in}
 use Rattle.sp_lanes.specs.Within.{Within}
@@ -26,8 +24,8 @@ use Rattle.sp_lane_groups.specs.LiveStores.{ScopesAgree}
 use Rattle.sp_lane_groups.proofs.LiveAlong.{answer_of, store_of}
 use Rattle.sp_lane_groups.proofs.Renewed.{bind_known, bind_split}
 use Rattle.sp_lane_groups.proofs.WordsMasks.{one_live}
+use Rattle.sp_lane_groups.specs.InnersAlike.{own_stages, left_out, LaneAlike, lane_over, stage_ran}
 use Rattle.sp_lane_groups.specs.InnersAlong.{AgreeAt}
-use Rattle.sp_lane_groups.proofs.InnersRounds.{run_rounds}
 use Rattle.sp_lane_trees.specs.OutersStages.{AllGoAlong}
 use Rattle.sp_lane_trees.specs.StagesLaws.{AreOfFirst}
 
@@ -46,8 +44,16 @@ chosen_true {A = A} b one other s e = ap (λ c. (elim c as (λ _. Step A) [ true
 chosen_false : {A : Type 0} (b : Bool) (one other : Step A) (s : Store) → b ≡ false → (elim b as (λ _. Step A) [ true ↦ one | false ↦ other ]) s ≡ other s
 chosen_false {A = A} b one other s e = ap (λ c. (elim c as (λ _. Step A) [ true ↦ one | false ↦ other ]) s) e
 
-grown : (i j m a b : ℕ) → i ≤ j → m ≤ a + b → i + m ≤ j + a + b
-grown i j m a b f g = omega (arith, f, g)
+-- what the stages of a lane without an iteration leave of a run
+abbrev pub left_nodes : List PlainNode → Runs → Runs
+left_nodes [] g = g
+left_nodes (node ∷ ns) g = masked_run (left_nodes ns g)
+
+pub left_alike : (order : List ℕ) (w : Within) (stages : PlainStages) (g : Runs) → left_nodes (nodes_in order w stages) g ≡ left_out (own_stages stages) g
+unfolding nodes_in
+left_alike order w no_stage g = refl
+left_alike order w (more_stage f e true node rest) g = left_alike order w rest g
+left_alike order w (more_stage f e false node rest) g = ap masked_run (left_alike order w rest g)
 
 module _ (core : PlainCore) (nodes : NodesFit core) (memories : are_memories_right core ≡ true) (turns : ℕ) (place : Around) (w : Within) (plain lanes : Scope) (agree : ScopesAgree w plain lanes) (l : ℕ) (too : ℕ → Bool) where
   abbrev run_there : PlainStages → Step Runs
@@ -60,18 +66,18 @@ module _ (core : PlainCore) (nodes : NodesFit core) (memories : are_memories_rig
     pub fits : StoreFits core after
     pub left : (n : ℕ) → n < length (unrolled core).mems → ((m : ℕ) → is_usable core place m ≡ true → w.number m ≡ n → ⊥) → is_among n (flat_map owned_in (nodes_in (memory_order core) w xs)) ≡ false → ended n ≡ t n
     pub runs : (rest : PlainStages) (g : Runs) (last : Store) → run_there rest ended ≡ went g last → (h : Runs) × (run_there (stages_in l (nodes_in (memory_order core) w xs) rest) t ≡ went h last)
-        × (run_rounds (stages_in l (nodes_in (memory_order core) w xs) rest) h ≤ run_rounds xs done + run_rounds rest g)
+        × LaneAlike xs done g h
 
   -- a lane that has an iteration
   pub passes : too l ≡ true → (live : ℕ → Bool) → live 0 ≡ true → (xs : PlainStages) (earlier : List ℕ) → AreOfFirst xs → NoneCombines core xs → AllGoAlong core turns place w xs → AreRight core place earlier xs
       → (s t after : Store) (r : Runs) → StoreFits core s → AgreeAt core place w s t → run_stages core plainly turns xs live plain s ≡ went r after → Passed xs t after r
-  unfolding run_stages nodes_in pure rounds shape_of
+  unfolding run_stages nodes_in pure
   passes on live first no_stage earlier firsts none go right s t after r fits agrees ran = record {
     ended = t;
     agrees = subst (λ (u : Store). AgreeAt core place w u t) (ap (store_of s) ran) agrees;
     fits = subst (StoreFits core) (ap (store_of s) ran) fits;
     left = λ n lt outer free. refl;
-    runs = λ rest g last there. (g, there, omega arith);
+    runs = λ rest g last there. (g, there, subst (λ q. LaneAlike no_stage q g g) (ap (answer_of r) ran) lane_over);
   }
   passes on live first (more_stage f e true node rest) earlier firsts none go right s t after r fits agrees ran = absurd none
   passes on live first (more_stage f e false node rest) earlier firsts none go right s t after r fits agrees ran =
@@ -97,18 +103,18 @@ module _ (core : PlainCore) (nodes : NodesFit core) (memories : are_memories_rig
           chosen_true (is_some_live too l l) (run (unrolled core) scope.in_lanes turns here lanes >>= (λ h. run_there (stages_in l others more) >>= (λ rs. pure (more_run h rs)))) (run_there (stages_in l others more) >>= (λ rs. pure (masked_run rs))) t (one_live too l ∙ on)
               ∙ bind_known (run (unrolled core) scope.in_lanes turns here lanes) (λ h. run_there (stages_in l others more) >>= (λ rs. pure (more_run h rs))) t x.1 x.0 x.2
               ∙ bind_known (run_there (stages_in l others more)) (λ rs. pure (more_run x.0 rs)) x.1 last z.0 z.1,
-          subst (λ q. run_rounds (stages_in l (here ∷ others) more) (more_run x.0 z.0) ≤ run_rounds (more_stage f e false node rest) q + run_rounds more g) (ap (answer_of r) two.3) (grown _ _ _ _ _ x.5 z.2),
+          subst (λ q. LaneAlike (more_stage f e false node rest) q g (more_run x.0 z.0)) (ap (answer_of r) two.3) (stage_ran x.5 z.2),
         ));
       }
 
   -- and one that has none
-  pub rests : too l ≡ false → (ns : List PlainNode) (rest : PlainStages) (g : Runs) (t last : Store) → run_there rest t ≡ went g last → (h : Runs) × (run_there (stages_in l ns rest) t ≡ went h last) × (run_rounds (stages_in l ns rest) h ≤ run_rounds rest g)
-  unfolding run_stages pure rounds shape_of
-  rests off [] rest g t last there = (g, there, omega arith)
+  pub rests : too l ≡ false → (ns : List PlainNode) (rest : PlainStages) (g : Runs) (t last : Store) → run_there rest t ≡ went g last → (h : Runs) × (run_there (stages_in l ns rest) t ≡ went h last) × (h ≡ left_nodes ns g)
+  unfolding run_stages pure
+  rests off [] rest g t last there = (g, there, refl)
   rests off (node ∷ ns) rest g t last there =
       let z = rests off ns rest g t last there in (
         masked_run z.0,
         chosen_false (is_some_live too l l) (run (unrolled core) scope.in_lanes turns node lanes >>= (λ h. run_there (stages_in l ns rest) >>= (λ rs. pure (more_run h rs)))) (run_there (stages_in l ns rest) >>= (λ rs. pure (masked_run rs))) t (one_live too l ∙ off)
             ∙ bind_known (run_there (stages_in l ns rest)) (λ rs. pure (masked_run rs)) t last z.0 z.1,
-        z.2,
+        ap masked_run z.2,
       )

@@ -1,14 +1,13 @@
 -- A transfer in lanes: its slice or its count, and then its words.
-use Rattle.std.proofs.Common.{◌≡◌, ℕ, ◌≤◌, Bool, true, false, ◌&&◌, ◌||◌, List, [], length, Option, Some, None, refl, sym, ◌∙◌, ap, arith, ◌==◌, nat_le, nat_lt}
+use Rattle.std.proofs.Common.{◌≡◌, ℕ, Bool, true, false, ◌&&◌, ◌||◌, List, [], length, Option, Some, None, refl, sym, ◌∙◌, ap, ◌==◌, nat_le, nat_lt}
 use Rattle.std.proofs.lemmas.Bool.{and_parts, true≢false}
 use Rattle.std.specs.List.{list_all}
 use Rattle.sp_words.specs.Types.{int_type}
-use Rattle.sp_core.specs.declared.node.SparseKind.{SparseKind}
 use Rattle.sp_core.specs.declared.node.SparseKind.TheVariants.{Gather, Scatter, WideLoad, WideStore}
 use Rattle.sp_core.specs.Around.{Around, is_usable}
 use Rattle.sp_core.specs.Declarations.{mem, dram}
 use Rattle.sp_core.specs.Elements.{index_value, natural, numbers_below}
-use Rattle.sp_core.specs.History.{Entry, History, Taken, last_word, moved, picked}
+use Rattle.sp_core.specs.History.{Entry, History, Taken, last_word, picked}
 use Rattle.sp_core.specs.Invariant.{IsCore}
 use Rattle.sp_core.specs.NodeRules.{is_sram, is_line, range_count, ends_in_range, is_span_right, is_slice_right, is_sram_here, fits_sram, fits_line, are_places, is_pick_right, is_none, is_wide_right, is_node_right, is_owned_once}
 use Rattle.sp_core.specs.OperationRules.{is_bound}
@@ -17,14 +16,12 @@ use Rattle.sp_core.specs.PlainCore.{PlainOp, PlainSpan, PlainNode, inner, outer,
 use Rattle.sp_core.specs.Scope.{plainly, Scope}
 use Rattle.sp_core.specs.Scope as scope
 use Rattle.sp_core.specs.Sequential.{taken, run}
-use Rattle.sp_core.specs.Shape.{shape_of}
 use Rattle.sp_core.specs.Step.{Step, went, pure, ◌>>=◌, in_order}
 use Rattle.sp_core.specs.Store.{Store}
 use Rattle.sp_core.specs.Transfers.{load_slice, store_slice, gather_word, scatter_word}
 use Rattle.sp_core.specs.Typed.{is_type}
 use Rattle.sp_fitting.specs.Fitting.{StoreFits}
 use Rattle.sp_fitting.specs.Laws.{ListsFit}
-use Rattle.sp_within.specs.Rounds.{rounds}
 use Rattle.sp_lanes.specs.Order.{memory_order}
 use Rattle.sp_lanes.specs.Unrolled.{unrolled, node_in}
 use Rattle.sp_lanes.specs.Within.{Within, ops_in, spans_in}
@@ -34,7 +31,8 @@ use Rattle.sp_lane_groups.specs.LiveStores.{HaveRoom, LeavesOthers, ScopesAgree,
 use Rattle.sp_lane_groups.proofs.LiveAccesses.{Same, same_declared}
 use Rattle.sp_lane_groups.proofs.Renewed.{bind_known, bind_split}
 use Rattle.sp_lane_groups.specs.PlainNodes.{AreSpansPlain}
-use Rattle.sp_lane_groups.specs.InnersAlong.{AgreeAt, LeavesBut, NoOftener, GoesAlong, StandsIn}
+use Rattle.sp_lane_groups.specs.InnersAlike.{GoAlike, loaded, stored, sparsely}
+use Rattle.sp_lane_groups.specs.InnersAlong.{AgreeAt, LeavesBut, GoesAlong, StandsIn}
 use Rattle.sp_lane_trees.specs.TransfersLaws.{TransfersGo}
 use Rattle.sp_lane_trees.proofs.TransfersMoving.{Alike, Others, Moves, pure_moves, bind_moves, order_moves}
 use Rattle.sp_lane_trees.proofs.TransfersSpans.{bound_follows, spans_follow}
@@ -46,29 +44,6 @@ front a b e = (and_parts a b e).0
 either : (a b : Bool) {P : Type 0} → (a || b) ≡ true → (a ≡ true → P) → (b ≡ true → P) → P
 either true b e f g = f refl
 either false b e f g = g e
-
--- a transfer that moves the same words goes around as often
-same_most : (a b : ℕ) → a ≡ b → a ≤ b
-same_most a b e = omega (arith, e)
-
-module _ (core : PlainCore) (w : Within) where
-  load_same : (r m : ℕ) (spans : List PlainSpan) (h : History) → NoOftener core w (load r m spans) h h
-  unfolding node_in rounds shape_of
-  load_same r m spans (moved ts ws) = same_most _ _ refl
-  load_same r m spans (picked es ws) = same_most _ _ refl
-  load_same r m spans h = same_most _ _ refl
-
-  store_same : (r m : ℕ) (spans : List PlainSpan) (h : History) → NoOftener core w (store r m spans) h h
-  unfolding node_in rounds shape_of
-  store_same r m spans (moved ts ws) = same_most _ _ refl
-  store_same r m spans (picked es ws) = same_most _ _ refl
-  store_same r m spans h = same_most _ _ refl
-
-  sparse_same : (kind : SparseKind) (r m : ℕ) (index : Option ℕ) (spans : List PlainSpan) (count : List PlainOp) (par : ℕ) (h : History) → NoOftener core w (sparse kind r m index spans count par) h h
-  unfolding node_in rounds shape_of
-  sparse_same kind r m index spans count par (moved ts ws) = same_most _ _ refl
-  sparse_same kind r m index spans count par (picked es ws) = same_most _ _ refl
-  sparse_same kind r m index spans count par h = same_most _ _ refl
 
 module _ (core : PlainCore) (lists : ListsFit core) (room : PlacesHaveRoom core) (is : IsCore core) (owns : OwnsInLanes core.root) (turns : ℕ) (around inside : Around) (earlier : List ℕ) (w : Within) (node : PlainNode) (h : StandsIn core around inside earlier w node) where
   abbrev rooms : HaveRoom core around w (unrolled core)
@@ -165,8 +140,8 @@ module _ (core : PlainCore) (lists : ListsFit core) (room : PlacesHaveRoom core)
       (order_moves core around inside w h.together h.copies one two f (numbers_below (natural (index_value (last_word es))))) (λ ws. pure_moves core around inside w h.together h.copies (picked es ws))
 
 module _ (core : PlainCore) (lists : ListsFit core) (room : PlacesHaveRoom core) (is : IsCore core) (owns : OwnsInLanes core.root) (turns : ℕ) (around inside : Around) (earlier : List ℕ) (w : Within) where
-  weaker : (node : PlainNode) (two : Step History) (t after : Store) (hist : History) (h : StandsIn core around inside earlier w node) → Ran core lists room is owns turns around inside earlier w node h two t after hist → NoOftener core w node hist hist
-      → (g : History) × (ended : Store) × (two t ≡ went g ended) × AgreeAt core around w after ended × LeavesBut core around w node t ended × NoOftener core w node hist g
+  weaker : (node : PlainNode) (two : Step History) (t after : Store) (hist : History) (h : StandsIn core around inside earlier w node) → Ran core lists room is owns turns around inside earlier w node h two t after hist → GoAlike node hist hist
+      → (g : History) × (ended : Store) × (two t ≡ went g ended) × AgreeAt core around w after ended × LeavesBut core around w node t ended × GoAlike node hist g
   weaker node two t after hist h x less = (hist, x.0, x.1, x.2, (λ n lt outer free. x.3 n lt outer), less)
 
   -- a load, whatever its kind
@@ -193,7 +168,7 @@ module _ (core : PlainCore) (lists : ListsFit core) (room : PlacesHaveRoom core)
       let u : is_usable core around m ≡ true = either (fits_sram core around r m spans) (fits_line core around r m spans) a.1
       (fits_usable core lists room is owns turns around inside earlier w (load r m spans) h r m spans) (line_usable core lists room is owns turns around inside earlier w (load r m spans) h r m spans) in
       weaker (load r m spans) (run (unrolled core) scope.in_lanes turns (node_in (memory_order core) w (load r m spans)) lanes) t after hist h
-      (loads (load r m spans) h r m spans h.plain (spans_right core lists room is owns turns around inside earlier w (load r m spans) h r spans a.0) u plain lanes agree s t after hist fits alike ran) (load_same core w r m spans hist)
+      (loads (load r m spans) h r m spans h.plain (spans_right core lists room is owns turns around inside earlier w (load r m spans) h r spans a.0) u plain lanes agree s t after hist fits alike ran) loaded
 
   store_goes : (r m : ℕ) (spans : List PlainSpan) → StandsIn core around inside earlier w (store r m spans) → GoesAlong core turns around w (store r m spans)
   unfolding run node_in
@@ -201,21 +176,21 @@ module _ (core : PlainCore) (lists : ListsFit core) (room : PlacesHaveRoom core)
       let a = and_parts (is_slice_right core around r spans) (fits_sram core around r m spans) (front (is_node_right core around (store r m spans)) (is_owned_once core earlier []) h.right) in
       weaker (store r m spans) (run (unrolled core) scope.in_lanes turns (node_in (memory_order core) w (store r m spans)) lanes) t after hist h
       (stores (store r m spans) h r m spans h.plain (spans_right core lists room is owns turns around inside earlier w (store r m spans) h r spans a.0)
-      (fits_usable core lists room is owns turns around inside earlier w (store r m spans) h r m spans a.1) plain lanes agree s t after hist fits alike ran) (store_same core w r m spans hist)
+      (fits_usable core lists room is owns turns around inside earlier w (store r m spans) h r m spans a.1) plain lanes agree s t after hist fits alike ran) stored
 
   wide_load_goes : (r m : ℕ) (index : Option ℕ) (spans : List PlainSpan) (count : List PlainOp) (par : ℕ) → StandsIn core around inside earlier w (sparse WideLoad r m index spans count par) → GoesAlong core turns around w (sparse WideLoad r m index spans count par)
   unfolding run node_in
   wide_load_goes r m index spans count par h plain lanes agree s t after hist fits alike ran =
       let node : PlainNode = sparse WideLoad r m index spans count par in
       let a = wide_parts core lists room is owns turns around inside earlier w node h r m index spans count par (front (is_node_right core around node) (is_owned_once core earlier []) h.right) in
-      weaker node (run (unrolled core) scope.in_lanes turns (node_in (memory_order core) w node) lanes) t after hist h (loads node h r m spans h.plain.0 a.1 a.0 plain lanes agree s t after hist fits alike ran) (sparse_same core w WideLoad r m index spans count par hist)
+      weaker node (run (unrolled core) scope.in_lanes turns (node_in (memory_order core) w node) lanes) t after hist h (loads node h r m spans h.plain.0 a.1 a.0 plain lanes agree s t after hist fits alike ran) sparsely
 
   wide_store_goes : (r m : ℕ) (index : Option ℕ) (spans : List PlainSpan) (count : List PlainOp) (par : ℕ) → StandsIn core around inside earlier w (sparse WideStore r m index spans count par) → GoesAlong core turns around w (sparse WideStore r m index spans count par)
   unfolding run node_in
   wide_store_goes r m index spans count par h plain lanes agree s t after hist fits alike ran =
       let node : PlainNode = sparse WideStore r m index spans count par in
       let a = wide_parts core lists room is owns turns around inside earlier w node h r m index spans count par (front (is_node_right core around node) (is_owned_once core earlier []) h.right) in
-      weaker node (run (unrolled core) scope.in_lanes turns (node_in (memory_order core) w node) lanes) t after hist h (stores node h r m spans h.plain.0 a.1 a.0 plain lanes agree s t after hist fits alike ran) (sparse_same core w WideStore r m index spans count par hist)
+      weaker node (run (unrolled core) scope.in_lanes turns (node_in (memory_order core) w node) lanes) t after hist h (stores node h r m spans h.plain.0 a.1 a.0 plain lanes agree s t after hist fits alike ran) sparsely
 
   gather_goes : (r m : ℕ) (index : Option ℕ) (spans : List PlainSpan) (count : List PlainOp) (par : ℕ) → StandsIn core around inside earlier w (sparse Gather r m index spans count par) → GoesAlong core turns around w (sparse Gather r m index spans count par)
   unfolding run node_in
@@ -232,7 +207,7 @@ module _ (core : PlainCore) (lists : ListsFit core) (room : PlacesHaveRoom core)
       (λ es. in_order (gather_word core r m p) (numbers_below (natural (index_value (last_word es)))) >>= (λ ws. pure (picked es ws)))
       (λ es. in_order (gather_word (unrolled core) r (w.number m) (w.number p)) (numbers_below (natural (index_value (last_word es)))) >>= (λ ws. pure (picked es ws)))
       (pick_moves core lists room is owns turns around inside earlier w node h r m p (gather_word core r m p) (gather_word (unrolled core) r (w.number m) (w.number p))
-      (gathers core around inside w h.together h.copies r m p a.0 v (alike_at core lists room is owns turns around inside earlier w node h m a.0) (alike_at core lists room is owns turns around inside earlier w node h p v))) ran) (sparse_same core w Gather r m (Some p) spans count par hist)
+      (gathers core around inside w h.together h.copies r m p a.0 v (alike_at core lists room is owns turns around inside earlier w node h m a.0) (alike_at core lists room is owns turns around inside earlier w node h p v))) ran) sparsely
 
   scatter_goes : (r m : ℕ) (index : Option ℕ) (spans : List PlainSpan) (count : List PlainOp) (par : ℕ) → StandsIn core around inside earlier w (sparse Scatter r m index spans count par) → GoesAlong core turns around w (sparse Scatter r m index spans count par)
   unfolding run node_in
@@ -249,7 +224,7 @@ module _ (core : PlainCore) (lists : ListsFit core) (room : PlacesHaveRoom core)
       (λ es. in_order (scatter_word core r m p) (numbers_below (natural (index_value (last_word es)))) >>= (λ ws. pure (picked es ws)))
       (λ es. in_order (scatter_word (unrolled core) r (w.number m) (w.number p)) (numbers_below (natural (index_value (last_word es)))) >>= (λ ws. pure (picked es ws)))
       (pick_moves core lists room is owns turns around inside earlier w node h r m p (scatter_word core r m p) (scatter_word (unrolled core) r (w.number m) (w.number p))
-      (scatters core around inside w h.together h.copies r m p a.0 v (alike_at core lists room is owns turns around inside earlier w node h m a.0) (alike_at core lists room is owns turns around inside earlier w node h p v))) ran) (sparse_same core w Scatter r m (Some p) spans count par hist)
+      (scatters core around inside w h.together h.copies r m p a.0 v (alike_at core lists room is owns turns around inside earlier w node h m a.0) (alike_at core lists room is owns turns around inside earlier w node h p v))) ran) sparsely
 
 pub transfers_go : (core : PlainCore) → ListsFit core → PlacesHaveRoom core → TransfersGo core
 transfers_go core lists room is owns turns around inside earlier w (load r m spans) t h = load_goes core lists room is owns turns around inside earlier w r m spans h

@@ -26,7 +26,8 @@ use Rattle.sp_lane_trees.specs.StagesLaws.{AreOfFirst, StagesGo}
 use Rattle.sp_lane_trees.specs.ElementsLaws.{InFirstLane, ElementsGo}
 use Rattle.sp_lane_trees.specs.ElementsReduction.{LastElements}
 use Rattle.sp_lane_trees.specs.ReductionsLaws.{ReductionsGo}
-use Rattle.sp_lane_trees.specs.ReductionsReduction.{own_stages, LastReduces}
+use Rattle.sp_lane_groups.specs.InnersAlike.{own_stages}
+use Rattle.sp_lane_trees.specs.ReductionsReduction.{LastReduces}
 use Rattle.sp_lane_trees.specs.TransfersLaws.{TransfersGo}
 use Rattle.sp_lane_trees.specs.Laws.{NodesGo}
 use Rattle.sp_lane_trees.specs.Words.{CombinesWords, CombineWords}

@@ -33,6 +33,7 @@ use Rattle.sp_lane_trees.specs.Laws.{NodesGo}
 use Rattle.sp_lane_trees.specs.Outcomes.{EndsInLanes, ProgramGoes}
 use Rattle.sp_lane_trees.proofs.Numbers.{below_less}
 use Rattle.sp_lane_trees.proofs.Ports as ports
+use Rattle.sp_lane_trees.proofs.Rounds.{node_less}
 use Rattle.sp_lane_trees.proofs.Stores.{first_agree, outs_agree, drams_agree}
 use Rattle.sp_words.specs.declared.kind.Kind.{Kind}
 use Rattle.sp_words.specs.declared.kind.Kind.TheVariants.{ArgIn, ArgOut}
@@ -104,6 +105,7 @@ module _ (core : PlainCore) (is : IsCore core) (owns : OwnsInLanes core.root) (w
         ap (outcome (unrolled core)) x.2
             ∙ ap (λ ws. ended ws (dram_words (unrolled core) x.1) x.0) (outs_agree core args outs args_usable outs_usable r.0 x.1 x.3 ∙ r.2)
             ∙ ap (λ ws. ended outs_there ws x.0) (drams_agree core args outs args_usable outs_usable r.0 x.1 x.3 ∙ r.3),
+        node_less (memory_order core) (outside (memory_order core)) core.root h x.0 x.5,
         x.5,
       )
 

@@ -13,7 +13,7 @@ use Rattle.sp_lane_groups.specs.InnersAlong.{GoesAlong, StandsIn}
 use Rattle.sp_lane_trees.specs.OutersStages.{AllGoAlong}
 use Rattle.sp_lane_trees.specs.StagesLaws.{AreOfFirst}
 use Rattle.sp_lane_trees.specs.ElementsReduction.{LastElements}
-use Rattle.sp_lane_trees.specs.ReductionsReduction.{own_stages}
+use Rattle.sp_lane_groups.specs.InnersAlike.{own_stages}
 
 -- a place stands in the first lane of each counter but of these
 abbrev pub InFirstLane : (numbers : List ℕ) → Within → Type 0

@@ -11,7 +11,8 @@ use Rattle.sp_lane_rules.specs.Copies.{OwnsInLanes, OwnInLanes}
 use Rattle.sp_lane_groups.specs.InnersAlong.{GoesAlong, StandsIn}
 use Rattle.sp_lane_trees.specs.OutersStages.{AllGoAlong}
 use Rattle.sp_lane_trees.specs.StagesLaws.{AreOfFirst}
-use Rattle.sp_lane_trees.specs.ReductionsReduction.{own_stages, LastReduces}
+use Rattle.sp_lane_groups.specs.InnersAlike.{own_stages}
+use Rattle.sp_lane_trees.specs.ReductionsReduction.{LastReduces}
 
 -- a controller of several lanes that is no stream block, and whose stages own in each lane what they own, goes along where its last
 -- stage combines a word and each of the others goes along in each lane

@@ -13,12 +13,6 @@ abbrev pub AreStill : List PlainOp → Type 0
 AreStill [] = Unit {0}
 AreStill (op ∷ ops) = (changes_memory op.kind ≡ false) × AreStill ops
 
--- the stages but the one that combines
-abbrev pub own_stages : PlainStages → PlainStages
-own_stages no_stage = no_stage
-own_stages (more_stage first last true node rest) = own_stages rest
-own_stages (more_stage first last false node rest) = more_stage first last false node (own_stages rest)
-
 module _ (core : PlainCore) where
   -- an inner body without counters that combines one word, in a loop that owns these memories, and whose other stages keep those
   -- that pass a test. What it does before changes nothing, and names only what the loop owns or keeps; what isn't its own are the

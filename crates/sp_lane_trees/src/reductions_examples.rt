@@ -6,7 +6,8 @@ ghost use Rattle.sp_tree.specs.declared.statement.Comb.TheVariants as combiner;
 ghost use Rattle.sp_words.specs.Types.{int_type};
 ghost use Rattle.sp_lane_cores.specs.LanedMarks.{is_other, reduced};
 ghost use Rattle.sp_lane_trees.specs.ReductionsExamples.{counted, summed_stages, kept_stages, summed_core};
-ghost use Rattle.sp_lane_trees.specs.ReductionsReduction.{own_stages, LastReduces};
+ghost use Rattle.sp_lane_groups.specs.InnersAlike.{own_stages};
+ghost use Rattle.sp_lane_trees.specs.ReductionsReduction.{LastReduces};
 
 /// The last stage of one combines a word of the loop's own register, that of the other a word from outside, which its other stage
 /// doesn't change; the other stage doesn't name the accumulator.

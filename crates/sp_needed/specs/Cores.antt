@@ -5,10 +5,10 @@ use Rattle.sp_words.specs.declared.kind.Kind.TheVariants.{Reg, Sram, ArgIn, ArgO
 use Rattle.sp_words.specs.declared.kind.Style.TheVariants.{Pipe}
 use Rattle.sp_words.specs.Types.{int_type}
 use Rattle.sp_core.specs.declared.access.Meet.{Meet}
-use Rattle.sp_core.specs.ExampleForms.{lit, count, two, read, write, below, stages, mem_of, port, core, meet, form}
+use Rattle.sp_core.specs.ExampleForms.{lit, count, two, read, write, below, stages, in_lane, mem_of, port, core, meet, form}
 use Rattle.sp_core.specs.ExampleTransfers.{whole}
 use Rattle.sp_core.specs.Forms.{PlainForms}
-use Rattle.sp_core.specs.PlainCore.{PlainCore, inner, outer, load}
+use Rattle.sp_core.specs.PlainCore.{PlainCore, inner, outer, load, no_stage}
 use Rattle.sp_plan.specs.ExamplePlans.{plain_mem, banked, in_turns, timed, plan_of}
 use Rattle.sp_plan.specs.PlainPlan.{PlainMemPlan, outer_plan, other_plan, PlainPlan}
 use Rattle.sp_machine.specs.Transfers.{Delays}
@@ -100,3 +100,20 @@ paired_meets = meet 2 6 0 ∷ meet 2 8 0 ∷ []
 
 abbrev pub paired_plan : PlainMemPlan → PlainPlan
 paired_plan t = plan_of (t ∷ banked 1 1 (0 ∷ []) 1 1 ∷ []) (outer_plan (0 ∷ 1 ∷ []) (0 ∷ 0 ∷ []) ∷ other_plan ∷ timed (0 ∷ 0 ∷ 0 ∷ 0 ∷ 2 ∷ 3 ∷ []) 1 4 ∷ [])
+
+-- a loop of two lanes that owns r, which the second stage of lane 0 writes in 4 and the first one of lane 1 reads in 5
+unfoldable pub across_lanes : PlainCore
+across_lanes = core (mem_of (codes "y") ArgOut int_type [] None ∷ mem_of (codes "r") Reg int_type [] (Some 0) ∷ []) []
+    (outer [] Pipe [] (stages (
+    outer (below 0 2 1 2 ∷ []) Pipe (1 ∷ [])
+    (in_lane 0 (inner [] [] (lit 5 ∷ []) None ∷ inner [] [] (lit 7 ∷ write 1 (0 ∷ []) ∷ []) None ∷ [])
+    (in_lane 1 (inner [] [] (read 1 [] ∷ write 0 (0 ∷ []) ∷ []) None ∷ inner [] [] (lit 5 ∷ []) None ∷ [])
+    no_stage)) ∷
+    [])))
+
+abbrev pub across_lanes_meets : List Meet
+across_lanes_meets = meet 4 5 0 ∷ []
+
+abbrev pub across_lanes_plan : PlainPlan
+across_lanes_plan = plan_of (plain_mem 1 ∷ plain_mem 2 ∷ [])
+    (outer_plan (0 ∷ []) (0 ∷ []) ∷ outer_plan (0 ∷ 1 ∷ 0 ∷ 1 ∷ []) (0 ∷ 0 ∷ 0 ∷ 0 ∷ []) ∷ timed (0 ∷ []) 1 0 ∷ timed (0 ∷ 0 ∷ []) 1 1 ∷ timed (0 ∷ 1 ∷ []) 1 2 ∷ timed (0 ∷ []) 1 0 ∷ [])

@@ -1,18 +1,19 @@
 //! Runs by plans that are right, and by ones that break a rule.
 
 ghost use Rattle.sp_core.specs.Cost.{inner_timing, outer_timing};
-ghost use Rattle.sp_core.specs.ExampleForms.{cost_in, input, meet};
+ghost use Rattle.sp_core.specs.ExampleForms.{cost_in, input, meet, met_in};
 ghost use Rattle.sp_core.specs.Latency.{limit};
 ghost use Rattle.sp_core.specs.ExampleLoops.{register_between};
 ghost use Rattle.sp_core.specs.ExampleTransfers.{copied};
+ghost use Rattle.sp_core.specs.Invariant.{wrong_place};
 ghost use Rattle.sp_core.specs.Elements.{numbers_below};
 ghost use Rattle.sp_core.specs.Meaning.{meaning};
 ghost use Rattle.sp_core.specs.Scope.{in_lanes};
 ghost use Rattle.sp_machine.specs.Examples.{always, at};
-ghost use Rattle.sp_needed.specs.Cores.{added_up, added_up_meets, added_up_plan, between_plan, distant, distant_meets, distant_plan, paired, paired_forms, paired_meets, paired_plan, passed_on, passed_on_meets, passed_on_plan, read_twice, read_twice_meets, read_twice_plan, waits_at};
+ghost use Rattle.sp_needed.specs.Cores.{across_lanes, across_lanes_meets, across_lanes_plan, added_up, added_up_meets, added_up_plan, between_plan, distant, distant_meets, distant_plan, paired, paired_forms, paired_meets, paired_plan, passed_on, passed_on_meets, passed_on_plan, read_twice, read_twice_meets, read_twice_plan, waits_at};
 ghost use Rattle.sp_needed.specs.Seen.{missed_in, shared_in};
 ghost use Rattle.sp_plan.specs.ExamplePlans.{all_right, banked, copied_plan, no_forms, register_meets, verdicts};
-ghost use Rattle.std.specs.Prelude.{[], ◌≡◌, ◌∷◌, Some, false, replicate, true};
+ghost use Rattle.std.specs.Prelude.{[], ◌≡◌, ◌∷◌, None, Some, false, replicate, true};
 
 /// Each rule by which reads find their words: the order of two accesses, the interval, stages that are held in one slot, chains,
 /// copies. By a plan that is right no read misses its word; by one that breaks the rule alone these do.
@@ -66,4 +67,14 @@ pub fn late_plans_pass_the_limit()
     ensures valid { verdicts passed_on no_forms passed_on_meets (passed_on_plan (1000 ∷ 1001 ∷ 1002 ∷ 1003 ∷ []) 1004) ≡ all_right }
     ensures cost { cost_in passed_on (outer_timing (0 ∷ []) (0 ∷ []) ∷ inner_timing 1 1004 ∷ []) 0 (meaning in_lanes 0 passed_on (input (7 ∷ []) [])) ≡ Some 1011 }
     ensures most { limit 4 0 passed_on ≡ 680 }
+{}
+
+/// A core that keeps all rules of cores, and yet shares a loop's register between lanes, the later stage of one before the earlier
+/// stage of the next: by a valid plan the read comes in a slot before that of the write, and misses its word. No program has such
+/// a core in lanes.
+pub fn lanes_that_share_miss_words()
+    ensures core { wrong_place across_lanes ≡ None }
+    ensures met { met_in across_lanes across_lanes_meets (meaning in_lanes 0 across_lanes (input [] [])) ≡ Some true }
+    ensures valid { verdicts across_lanes no_forms across_lanes_meets across_lanes_plan ≡ all_right }
+    ensures missed { missed_in across_lanes across_lanes_plan (always 0) (input [] []) (meaning in_lanes 0 across_lanes (input [] [])) ≡ Some (at 7 1 0 ∷ []) }
 {}

@@ -7,5 +7,6 @@ mod examples;
 
 pub use costs::worked_costs;
 pub use examples::{
-    late_plans_pass_the_limit, rules_keep_ports_apart, rules_keep_words, wrong_plans_break_one_rule,
+    lanes_that_share_miss_words, late_plans_pass_the_limit, rules_keep_ports_apart,
+    rules_keep_words, wrong_plans_break_one_rule,
 };
