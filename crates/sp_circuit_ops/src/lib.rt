@@ -1,0 +1,8 @@
+//! The operations of a core's list as those of a circuit.
+#![tactic(auto)]
+
+mod laws;
+mod ops;
+
+pub use laws::placed_operations_fit;
+pub use ops::{WordNet, circuit_ops};
