@@ -5,3 +5,4 @@ pub mod Reading
 pub mod Queued
 pub mod Numbered
 pub mod Running
+pub mod Working

@@ -23,6 +23,7 @@ use Rattle.sp_contents.specs.Found.{contents_at, first_contents}
 use Rattle.sp_contents.specs.Inside.{RunsAreInside, RunsAreAllowed}
 use Rattle.sp_contents.specs.Steady.{IsAllowed}
 use Rattle.sp_used_copies.specs.Laws.{RunsHaveCopies}
+use Rattle.sp_told_operations.specs.Laws.{TimelinesAreOfItems}
 use Rattle.sp_memory_words.specs.Registers.{copy_place, ContentsBegin}
 use Rattle.sp_memory_words.specs.Runs.{RunsHappenWell}
 
@@ -31,13 +32,14 @@ each_told : (P : Moment → Type 0) (es : List Stamped) → Each P (told es) →
 each_told P [] h = tt
 each_told P (e ∷ es) h = (h.0, each_told P es h.1)
 
-pub runs_happen_well : (core : PlainCore) (plan : PlainPlan) (delays : Delays) → RunsAreInside core → RunsAreAllowed core → TellsAll core plan delays core.root → RunsHaveCopies core plan delays → RunsHappenWell core plan delays
+pub runs_happen_well : (core : PlainCore) (plan : PlainPlan) (delays : Delays) → RunsAreInside core → RunsAreAllowed core → TellsAll core plan delays core.root → RunsHaveCopies core plan delays → TimelinesAreOfItems core plan delays → RunsHappenWell core plan delays
 unfolding run_core
-runs_happen_well core plan delays inside allowed tells copies forms meets w input turns h t ran first found = record {
+runs_happen_well core plan delays inside allowed tells copies items forms meets w input turns h t ran first found = record {
   in_time = found.in_time;
   allowed = each_told (IsAllowed core) (core_timed core plan delays h).events
       (subst (Each (IsAllowed core)) (sym (tells 0 0 (record { path = []; counters = [] }) (λ m. 0) h)) ((allowed w.is_core w.is_timed).1 h (inside w.is_timed turns no_scope (first_store core input) t h ran)));
   copied = copies forms meets w h;
+  of_items = items w.is_timed h;
 }
 
 -- what holds of the words of a memory, by its number, holds on where lists of memories are held of which it holds

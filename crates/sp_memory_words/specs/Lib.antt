@@ -5,3 +5,4 @@ pub mod Registers
 pub mod Queues
 pub mod Accesses
 pub mod Runs
+pub mod Example

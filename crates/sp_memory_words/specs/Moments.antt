@@ -13,6 +13,7 @@ use Rattle.sp_machine.specs.InOrder.{is_done, does_change}
 use Rattle.sp_machine.specs.Stamps.{Stamped}
 use Rattle.sp_contents.specs.Steady.{IsAllowed}
 use Rattle.sp_used_copies.specs.Laws.{HasCopy}
+use Rattle.sp_told_operations.specs.Laws.{IsOfItem}
 
 -- a moment of a timeline, in a cycle and at a copy
 abbrev pub IsAt : List Stamped → (cycle copy : ℕ) → Moment → Type 0
@@ -40,9 +41,10 @@ module _ (m : ℕ) where
   Freshens core (renews n) = (n ≡ m) × (is_done core (renews n) ≡ true)
   Freshens core _ = ⊥
 
--- Moments from contents on: each finds in its own cycle what it finds in the order of the text, all are allowed, and what is done to
--- a memory on the chip is done to a copy that the plan has.
+-- Moments from contents on: each finds in its own cycle what it finds in the order of the text, all are allowed, what is done to a
+-- memory on the chip is done to a copy that the plan has, and each event is of the operation or the transfer of its number.
 pub record HappensWell (core : PlainCore) (plan : PlainPlan) (events : List Stamped) (first : Place → Option Contents) : Type 0 where
   pub in_time : InTime is_place (does core) (Sees core) does_change (events_of core events) first
   pub allowed : Each (λ x. IsAllowed core x.moment) events
   pub copied : Each (λ x. HasCopy core plan x.copy x.moment) events
+  pub of_items : Each (λ x. IsOfItem core x.moment) events

@@ -2,7 +2,8 @@
 
 ghost use Rattle.sp_core.specs.PlainCore.{PlainCore};
 ghost use Rattle.sp_machine.specs.Transfers.{Delays};
-ghost use Rattle.sp_memory_words.specs.Accesses.{AccessesAsk};
+ghost use Rattle.sp_memory_words.specs.Accesses.{AccessesAsk, OperationsStay};
+ghost use Rattle.sp_memory_words.specs.Example.{WorkedWords};
 ghost use Rattle.sp_memory_words.specs.Queues.{QueuesGo};
 ghost use Rattle.sp_memory_words.specs.Registers.{ArgumentsAnswer, ContentsBegin, RegistersAnswer, RegistersHold};
 ghost use Rattle.sp_memory_words.specs.Runs.{RunsHappenWell};
@@ -12,6 +13,7 @@ ghost use Rattle.sp_words.specs.Ports.{PlainInput};
 use sp_contents::{runs_are_allowed, runs_are_inside};
 use sp_machine::timelines_tell_all;
 use sp_queue::queues_give_first_words;
+use sp_told_operations::{numbers_stand_for_one, timelines_are_of_items, transfers_move};
 use sp_used_copies::runs_have_copies;
 
 /// Where a register's circuit is asked, up to a cycle, what happens to the register in a timeline, each of its copies has up to the
@@ -43,18 +45,35 @@ pub fn queues_go()
     queues_give_first_words();
 }
 
-/// A circuit whose accesses are those of a memory's operations, each of which acts in time at the copies of its events, with what
+/// The events of an operation's number are at its memory, with acts of its kind.
+pub fn operations_stay()
+    ensures { (core : PlainCore) (plan : PlainPlan) → OperationsStay core plan }
+{
+    numbers_stand_for_one();
+}
+
+/// A circuit that has an access for each operation on a memory, each of which acts in time at the copies of its events, with what
 /// FSMs and owners do there, is asked what happens to the memory.
 pub fn accesses_ask()
-    ensures { AccessesAsk }
-{}
+    ensures { (core : PlainCore) (plan : PlainPlan) → AccessesAsk core plan }
+{
+    numbers_stand_for_one();
+    transfers_move();
+}
 
-/// What happens in a run of a core by a valid plan is found in time, is allowed, and is at copies that the plan has.
+/// What happens in a run of a core by a valid plan is found in time, is allowed, is at copies that the plan has, and is of the
+/// operations and transfers of its numbers.
 pub fn runs_happen_well()
     ensures { (core : PlainCore) (plan : PlainPlan) (delays : Delays) → RunsHappenWell core plan delays }
 {
     runs_are_allowed();
     runs_are_inside();
     runs_have_copies();
+    timelines_are_of_items();
     timelines_tell_all();
 }
+
+/// A worked output that is written once, and a worked queue. It does nothing: what it ensures is the example.
+pub fn worked_words()
+    ensures { WorkedWords }
+{}

@@ -4,6 +4,6 @@
 mod laws;
 
 pub use laws::{
-    accesses_ask, arguments_answer, contents_begin, queues_go, registers_answer, registers_hold,
-    runs_happen_well,
+    accesses_ask, arguments_answer, contents_begin, operations_stay, queues_go, registers_answer,
+    registers_hold, runs_happen_well, worked_words,
 };
