@@ -1,0 +1,4 @@
+pub mod Ranges
+pub mod Having
+pub mod Moving
+pub mod Working
