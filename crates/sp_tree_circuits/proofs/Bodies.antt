@@ -39,7 +39,7 @@ use Rattle.sp_tree_bodies.specs.Scoped.{Scoped, placed}
 use Rattle.sp_tree_bodies.specs.Scopes.{scopes_of}
 use Rattle.sp_tree_circuits.specs.Parts.{DirectNet, BoundCircuits, SpanCircuits, SliceCircuit, InnerCircuit}
 use Rattle.sp_tree_circuits.specs.Circuits.{Circuit}
-use Rattle.sp_tree_circuits.specs.Answers.{BoundsAnswered, SpansAnswered, Answered, TransfersMove, taken_in, SlicesStand}
+use Rattle.sp_tree_circuits.specs.Answers.{EachBound, EachSpan, Answered, TransfersMove, taken_in, SlicesStand}
 use Rattle.sp_tree_circuits.specs.Acts.{AreEventsOf, Acts}
 use Rattle.sp_tree_circuits.proofs.Given.{Laws}
 use Rattle.sp_tree_circuits.proofs.Ready.{Ready, answered_in, acts_in}
@@ -71,14 +71,14 @@ module _ (core : PlainCore) (plan : PlainPlan) (delays : Delays) (laws : Laws co
     }
 
     -- as the laws of bounds and of slices ask for them
-    pub bound_nets : (n : ℕ) (counters : List PlainCounter) (counts : List Count) (w : BoundCircuits core plan s near env draft counters counts) → BoundsAnswered core plan s events last near env draft n counters counts w → AreBoundNets s draft part t near env n counters counts
+    pub bound_nets : (n : ℕ) (counters : List PlainCounter) (counts : List Count) (w : BoundCircuits core plan s near env draft counters counts) → EachBound core plan s (AreAnsweredInTime s events last) near env draft n counters counts w → AreBoundNets s draft part t near env n counters counts
     bound_nets n [] [] w answered = no_bound
     bound_nets n [] (count ∷ counts) w answered = elim w [ ]
     bound_nets n (c ∷ counters) [] w answered = elim w [ ]
     bound_nets n (c ∷ counters) (count ∷ counts) w answered =
         two_bounds (bound_net n c.from count.from w.0.from answered.0) (bound_net (n + length c.from) c.until count.until w.0.until answered.1) w.0.by w.0.par w.0.goes_on (bound_nets (n + (length c.from + length c.until)) counters counts w.1 answered.2)
 
-    span_nets : (n : ℕ) (spans : List PlainSpan) (nets : List SpanNets) (w : SpanCircuits core plan s near env draft spans nets) → SpansAnswered core plan s events last near env draft n spans nets w → AreSpanNets s draft part t near env n spans nets
+    span_nets : (n : ℕ) (spans : List PlainSpan) (nets : List SpanNets) (w : SpanCircuits core plan s near env draft spans nets) → EachSpan core plan s (AreAnsweredInTime s events last) near env draft n spans nets w → AreSpanNets s draft part t near env n spans nets
     span_nets n [] [] w answered = no_span
     span_nets n [] (net ∷ nets) w answered = elim w [ ]
     span_nets n (single ops ∷ spans) [] w answered = elim w [ ]

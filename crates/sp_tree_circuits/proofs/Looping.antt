@@ -36,12 +36,13 @@ use Rattle.sp_node_fits.proofs.Takes.{took_some}
 use Rattle.sp_node_bodies.specs.Bounds.{AreBoundNets}
 use Rattle.sp_node_bodies.specs.Given.{Nets, AreStanding}
 use Rattle.sp_node_bodies.specs.Rows.{TookBounds}
+use Rattle.sp_node_bodies.specs.Told.{AreAnsweredInTime}
 use Rattle.sp_node_bodies.proofs.Listed.{none_there, mapped_to, mapped_from}
 use Rattle.sp_tree_bodies.specs.Done.{BoundsDone, AllDone}
 use Rattle.sp_tree_bodies.specs.Lanes.{loops_ran}
 use Rattle.sp_tree_bodies.specs.Scoped.{Scoped, placed}
 use Rattle.sp_tree_circuits.specs.Circuits.{Circuit}
-use Rattle.sp_tree_circuits.specs.Answers.{BoundsAnswered}
+use Rattle.sp_tree_circuits.specs.Answers.{EachBound}
 use Rattle.sp_tree_circuits.proofs.Bodies.{taken_first, bound_nets, stands_first, happens_in}
 use Rattle.sp_tree_circuits.proofs.Given.{Laws}
 use Rattle.sp_tree_circuits.proofs.Inside.{inside}
@@ -76,7 +77,7 @@ module _ (core : PlainCore) (plan : PlainPlan) (delays : Delays) (counters : Lis
 
 module _ (core : PlainCore) (plan : PlainPlan) (delays : Delays) (laws : Laws core plan delays) (s : Signals) (events : List Stamped) (last : ℕ) (near : List Near) (env : Nets) (around : Around) (earlier : List ℕ) (k n : ℕ) (counters : List PlainCounter) (style : Style) (owned : List ℕ) (stages : PlainStages)
     (right : IsRight core around earlier (outer counters style owned stages)) (is : IsTimed (outer counters style owned stages)) (c : Child) (w : Circuit core plan s (outer counters style owned stages) near env k c)
-    (answered : BoundsAnswered core plan s events last near env w.draft n counters w.part.counters.items w.bounds) (qs : List Scoped) (t : ℕ) (le : t ≤ last) (ready : Ready core plan delays s events (outer counters style owned stages) near env k n qs t) where
+    (answered : EachBound core plan s (AreAnsweredInTime s events last) near env w.draft n counters w.part.counters.items w.bounds) (qs : List Scoped) (t : ℕ) (le : t ≤ last) (ready : Ready core plan delays s events (outer counters style owned stages) near env k n qs t) where
   abbrev pub whole : PlainNode
   whole = outer counters style owned stages
 

@@ -33,9 +33,10 @@ use Rattle.sp_node_control.proofs.Numbering.{numbered_map}
 use Rattle.sp_node_fits.specs.Laws.{AllFit}
 use Rattle.sp_node_bodies.specs.Given.{Nets}
 use Rattle.sp_node_bodies.specs.Laws.{own_near}
+use Rattle.sp_node_bodies.specs.Told.{AreAnsweredInTime}
 use Rattle.sp_tree_bodies.specs.Scoped.{Scoped, placed, scoped_stages}
 use Rattle.sp_tree_circuits.specs.Circuits.{slot_nets, MemberCircuit, MemberCircuits, Circuit, StageCircuits}
-use Rattle.sp_tree_circuits.specs.Answers.{BoundsAnswered}
+use Rattle.sp_tree_circuits.specs.Answers.{EachBound}
 use Rattle.sp_tree_circuits.specs.Acts.{AreEventsOf, Acts, StagesAct}
 use Rattle.sp_tree_circuits.proofs.Alike.{of_part}
 use Rattle.sp_tree_circuits.proofs.Given.{Laws}
@@ -65,7 +66,7 @@ module _ (core : PlainCore) (plan : PlainPlan) (delays : Delays) (s : Signals) (
 
 module _ (core : PlainCore) (plan : PlainPlan) (delays : Delays) (laws : Laws core plan delays) (s : Signals) (events : List Stamped) (last : ℕ) (near : List Near) (env : Nets) (around : Around) (earlier : List ℕ) (k n : ℕ) (counters : List PlainCounter) (style : Style) (owned : List ℕ) (stages : PlainStages)
     (right : IsRight core around earlier (outer counters style owned stages)) (is : IsTimed (outer counters style owned stages)) (c : Child) (w : Circuit core plan s (outer counters style owned stages) near env k c)
-    (answered : BoundsAnswered core plan s events last near env w.draft n counters w.part.counters.items w.bounds) (qs : List Scoped) (t : ℕ) (le : t ≤ last) (ready : Ready core plan delays s events (outer counters style owned stages) near env k n qs t)
+    (answered : EachBound core plan s (AreAnsweredInTime s events last) near env w.draft n counters w.part.counters.items w.bounds) (qs : List Scoped) (t : ℕ) (le : t ≤ last) (ready : Ready core plan delays s events (outer counters style owned stages) near env k n qs t)
     (goes : EachCircuit core plan s (own_near counters near) (stage_nets core plan delays laws s events last near env around earlier k n counters style owned stages right is c w answered qs t le ready) w.child (StageGoes core plan delays s events last (own_near counters near) (stage_nets core plan delays laws s events last near env around earlier k n counters style owned stages right is c w answered qs t le ready) (stage_scoped core plan delays laws s events last near env around earlier k n counters style owned stages right is c w answered qs t le ready) w.child) stages (suc k) (n + counters_size counters) 0 w.parts) where
   abbrev whole : PlainNode
   whole = outer counters style owned stages

@@ -30,13 +30,14 @@ use Rattle.sp_node_control.specs.Beating.{rows_of}
 use Rattle.sp_node_bodies.specs.Bodies.{group_scope}
 use Rattle.sp_node_bodies.specs.Given.{Nets, with_nets, AreStanding}
 use Rattle.sp_node_bodies.specs.Laws.{own_near}
+use Rattle.sp_node_bodies.specs.Told.{AreAnsweredInTime}
 use Rattle.sp_node_bodies.specs.Rows.{with_row, IsInStage}
 use Rattle.sp_node_bodies.proofs.Listed.{mapped_to, mapped_from}
 use Rattle.sp_tree_bodies.specs.Lanes.{loops_ran}
 use Rattle.sp_tree_bodies.specs.Scoped.{Scoped, placed, scoped_stages}
 use Rattle.sp_tree_bodies.specs.Scopes.{scopes_of}
 use Rattle.sp_tree_circuits.specs.Circuits.{slot_nets, TakesWords, TakeWords, Circuit}
-use Rattle.sp_tree_circuits.specs.Answers.{BoundsAnswered}
+use Rattle.sp_tree_circuits.specs.Answers.{EachBound}
 use Rattle.sp_tree_circuits.specs.Laws.{StandAround}
 use Rattle.sp_tree_circuits.proofs.Given.{Laws}
 use Rattle.sp_tree_circuits.proofs.Inside.{inside, alone}
@@ -53,7 +54,7 @@ no_scope scope h v = refl
 
 module _ (core : PlainCore) (plan : PlainPlan) (delays : Delays) (laws : Laws core plan delays) (s : Signals) (events : List Stamped) (last : ℕ) (near : List Near) (env : Nets) (around : Around) (earlier : List ℕ) (k n : ℕ) (counters : List PlainCounter) (style : Style) (owned : List ℕ) (stages : PlainStages)
     (right : IsRight core around earlier (outer counters style owned stages)) (is : IsTimed (outer counters style owned stages)) (c : Child) (w : Circuit core plan s (outer counters style owned stages) near env k c)
-    (answered : BoundsAnswered core plan s events last near env w.draft n counters w.part.counters.items w.bounds) (qs : List Scoped) (t : ℕ) (le : t ≤ last) (ready : Ready core plan delays s events (outer counters style owned stages) near env k n qs t) where
+    (answered : EachBound core plan s (AreAnsweredInTime s events last) near env w.draft n counters w.part.counters.items w.bounds) (qs : List Scoped) (t : ℕ) (le : t ≤ last) (ready : Ready core plan delays s events (outer counters style owned stages) near env k n qs t) where
   abbrev slots : List Slot
   slots = slots_of (node_plan plan k)
 

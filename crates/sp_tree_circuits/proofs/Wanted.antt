@@ -35,12 +35,13 @@ use Rattle.sp_node_control.specs.Beating.{has_lane, groups_of, values_of, rows_o
 use Rattle.sp_node_control.proofs.BeatRuns.{as_stages, in_time, in_turn}
 use Rattle.sp_node_bodies.specs.Given.{Nets}
 use Rattle.sp_node_bodies.specs.Given as given
+use Rattle.sp_node_bodies.specs.Told.{AreAnsweredInTime}
 use Rattle.sp_node_bodies.specs.Rows.{wires_of}
 use Rattle.sp_node_bodies.proofs.Listed.{mapped_to, mapped_from}
 use Rattle.sp_tree_bodies.specs.Lanes.{loops_ran}
 use Rattle.sp_tree_bodies.specs.Scoped.{Scoped, placed}
 use Rattle.sp_tree_circuits.specs.Circuits.{first_lane, last_lane, row_masks, masks_told, TakesWords, TakeWords, IsToldBy, MemberCircuit, Circuit}
-use Rattle.sp_tree_circuits.specs.Answers.{BoundsAnswered}
+use Rattle.sp_tree_circuits.specs.Answers.{EachBound}
 use Rattle.sp_tree_circuits.proofs.Bounded.{loops_go_on, lanes_right, lanes_some}
 use Rattle.sp_tree_circuits.proofs.Given.{Laws}
 use Rattle.sp_tree_circuits.proofs.Lanes.{stage_live, le_true, lanes_by_rule, first_lane_live, from_first, same_lanes}
@@ -52,7 +53,7 @@ use Rattle.sp_tree_circuits.proofs.Words.{have_words, behind, same_at, row_at}
 
 module _ (core : PlainCore) (plan : PlainPlan) (delays : Delays) (laws : Laws core plan delays) (s : Signals) (events : List Stamped) (last : ℕ) (near : List Near) (env : Nets) (around : Around) (earlier : List ℕ) (k n : ℕ) (counters : List PlainCounter) (style : Style) (owned : List ℕ) (stages : PlainStages)
     (right : IsRight core around earlier (outer counters style owned stages)) (is : IsTimed (outer counters style owned stages)) (c : Child) (w : Circuit core plan s (outer counters style owned stages) near env k c)
-    (answered : BoundsAnswered core plan s events last near env w.draft n counters w.part.counters.items w.bounds) (qs : List Scoped) (t : ℕ) (le : t ≤ last) (ready : Ready core plan delays s events (outer counters style owned stages) near env k n qs t) where
+    (answered : EachBound core plan s (AreAnsweredInTime s events last) near env w.draft n counters w.part.counters.items w.bounds) (qs : List Scoped) (t : ℕ) (le : t ≤ last) (ready : Ready core plan delays s events (outer counters style owned stages) near env k n qs t) where
   abbrev shape : List (List ℕ)
   shape = sizes w.places
 

@@ -1,7 +1,9 @@
 -- Circuits of trees go: one induction over the tree.
-use Rattle.std.proofs.Common.{◌≡◌, ℕ, suc, ◌+◌, ◌≤◌, true, false, List, [], ◌∷◌, length, arith}
+use Rattle.std.proofs.Common.{◌≡◌, ℕ, zero, suc, ◌+◌, ◌≤◌, true, false, List, [], ◌∷◌, length, arith}
 use Rattle.sp_netlist.specs.declared.parts.Child.{Child}
 use Rattle.sp_netlist.specs.Signals.{Signals}
+use Rattle.sp_gates.specs.Tested.{is_on}
+use Rattle.sp_control_runs.specs.Parts.{Begins}
 use Rattle.sp_core.specs.Around.{Around, Near, nothing}
 use Rattle.sp_core.specs.Invariant.{IsRight, AreRight, owned_in}
 use Rattle.sp_core.specs.NodeRules.{with_state}
@@ -16,17 +18,18 @@ use Rattle.sp_node_control.specs.Laws.{IsStarted}
 use Rattle.sp_node_control.specs.Runs.{rans}
 use Rattle.sp_node_bodies.specs.Given.{Nets}
 use Rattle.sp_node_bodies.specs.Laws.{own_near}
+use Rattle.sp_node_bodies.specs.Told.{AreAnsweredInTime}
 use Rattle.sp_tree_bodies.specs.Scoped.{Scoped, placed, scoped_sides, scoped_bodies, scoped_stages}
-use Rattle.sp_tree_circuits.specs.Answers.{Answered, StagesAnswered, TransfersMove, EachInStages, MovesInTime}
+use Rattle.sp_tree_circuits.specs.Answers.{Answered, EachInLists, TransfersMove, EachInStages, MovesInTime}
 use Rattle.sp_tree_circuits.specs.Acts.{Acts}
 use Rattle.sp_tree_circuits.specs.Circuits.{Circuit, StageCircuits}
-use Rattle.sp_tree_circuits.specs.Laws.{CircuitsGo, core_run, core_events, CoresGo}
+use Rattle.sp_tree_circuits.specs.Laws.{CircuitsGo, core_run, core_events, CoresGo, CirclesClose}
 use Rattle.sp_tree_circuits.proofs.Alike.{of_itself}
 use Rattle.sp_tree_circuits.proofs.Bodies.{inner_acts, load_acts, store_acts}
 use Rattle.sp_tree_circuits.proofs.Given.{Laws}
 use Rattle.sp_tree_circuits.proofs.Loops.{StageGoes, loop_acts}
 use Rattle.sp_tree_circuits.proofs.Machines.{body_ready, machine_acts}
-use Rattle.sp_tree_circuits.proofs.Ready.{Ready, ready_earlier}
+use Rattle.sp_tree_circuits.proofs.Ready.{earlier, Ready, ready_earlier}
 use Rattle.sp_tree_circuits.proofs.Sides.{side_ready, branch_acts}
 use Rattle.sp_tree_circuits.proofs.StageLists.{EachCircuit}
 
@@ -53,7 +56,7 @@ module _ (core : PlainCore) (plan : PlainPlan) (delays : Delays) (laws : Laws co
     acts (sparse kind r m places spans count par) near env around earlier k n qs c is right w answered move t le ready started = elim is [ ]
 
     stages_act : (stages : PlainStages) (near : List Near) (around : Around) (earlier : List ℕ) (j n i : ℕ) (nets : (stage : ℕ) → Nets) (qs : (stage : ℕ) → List Scoped) (child : (stage : ℕ) → Child) → AreTimed stages → AreRight core around earlier stages
-        → (w : StageCircuits core plan s stages near j i nets child) → StagesAnswered core plan s events last stages near j n i nets child w → EachInStages core plan delays s (MovesInTime core plan delays s last) stages near j n i nets qs child w
+        → (w : StageCircuits core plan s stages near j i nets child) → EachInLists core plan s (AreAnsweredInTime s events last) stages near j n i nets child w → EachInStages core plan delays s (MovesInTime core plan delays s last) stages near j n i nets qs child w
         → EachCircuit core plan s near nets child (StageGoes core plan delays s events last near nets qs child) stages j n i w
     stages_act no_stage near around earlier j n i nets qs child is right w answered move = tt
     stages_act (more_stage first final comb node rest) near around earlier j n i nets qs child is right w answered move = (
@@ -70,3 +73,11 @@ cores_go core plan delays go s last env h c is_core is done fits w answered move
     go s (core_events core plan delays h) last core.root [] env nothing [] 0 0 0 (over_at core plan delays core.root 0 0 (core_run core plan delays h).run) (core_run core plan delays h ∷ []) c is is_core.nodes
     (record { done = (done, tt); fits = (fits, tt); in_turn = (omega arith, omega arith) }) (of_itself (core_events core plan delays h) 0 (number_count core.root)) w answered move t le
     (λ q u there low high late d lane has. absurd (cc (has))) started
+
+pub circles_close : (core : PlainCore) (plan : PlainPlan) (delays : Delays) → CoresGo core plan delays → CirclesClose core plan delays
+circles_close core plan delays go s last env h c is_core is done fits w started answered move next zero l =
+    go s 0 env h c is_core is done fits w answered move 0 (omega arith) (earlier (is_on s c.start) (Begins (rans core plan delays core.root 0 0 (placed (core_run core plan delays h ∷ [])))) last 0 l started)
+circles_close core plan delays go s last env h c is_core is done fits w started answered move next (suc t) l =
+    let before = circles_close core plan delays go s last env h c is_core is done fits w started answered move next t (omega (arith, l)) in
+    let n = next t (omega (arith, l)) before in
+    go s (suc t) env h c is_core is done fits w n.0 n.1 (suc t) (omega arith) (earlier (is_on s c.start) (Begins (rans core plan delays core.root 0 0 (placed (core_run core plan delays h ∷ [])))) last (suc t) l started)

@@ -29,52 +29,52 @@ use Rattle.sp_tree_bodies.specs.Scoped.{Scoped, placed, scoped_sides, scoped_bod
 use Rattle.sp_tree_circuits.specs.Parts.{BoundCircuits, SpanCircuits, Issued}
 use Rattle.sp_tree_circuits.specs.Circuits.{slot_nets, Circuit, StageCircuits}
 
--- by the events of the whole, up to a cycle, and the number of a part's first operation
-module _ (core : PlainCore) (plan : PlainPlan) (s : Signals) (events : List Stamped) (last : ℕ) where
+-- something holds of each list of operations of a tree, by the number of its first one and the operations of its circuit
+module _ (core : PlainCore) (plan : PlainPlan) (s : Signals) (P : (number : ℕ) → List PlainOp → List PipeOp → Type 0) where
   module _ (near : List Near) (env : Nets) (draft : Draft) where
-    abbrev pub BoundsAnswered : (n : ℕ) (counters : List PlainCounter) (counts : List Count) → BoundCircuits core plan s near env draft counters counts → Type 0
-    BoundsAnswered n [] [] w = Unit {0}
-    BoundsAnswered n (c ∷ counters) (count ∷ counts) w =
-        AreAnsweredInTime s events last n c.from w.0.from.ps × AreAnsweredInTime s events last (n + length c.from) c.until w.0.until.ps × BoundsAnswered (n + (length c.from + length c.until)) counters counts w.1
-    BoundsAnswered n [] (count ∷ counts) w = Unit {0}
-    BoundsAnswered n (c ∷ counters) [] w = Unit {0}
+    abbrev pub EachBound : (n : ℕ) (counters : List PlainCounter) (counts : List Count) → BoundCircuits core plan s near env draft counters counts → Type 0
+    EachBound n [] [] w = Unit {0}
+    EachBound n (c ∷ counters) (count ∷ counts) w = P n c.from w.0.from.ps × P (n + length c.from) c.until w.0.until.ps × EachBound (n + (length c.from + length c.until)) counters counts w.1
+    EachBound n [] (count ∷ counts) w = Unit {0}
+    EachBound n (c ∷ counters) [] w = Unit {0}
 
-    abbrev pub SpansAnswered : (n : ℕ) (spans : List PlainSpan) (nets : List SpanNets) → SpanCircuits core plan s near env draft spans nets → Type 0
-    SpansAnswered n [] [] w = Unit {0}
-    SpansAnswered n (single ops ∷ spans) (one_net net ∷ nets) w = AreAnsweredInTime s events last n ops w.0.ps × SpansAnswered (n + length ops) spans nets w.1
-    SpansAnswered n (range a b ∷ spans) (two_nets from until ∷ nets) w =
-        AreAnsweredInTime s events last n a w.0.ps × AreAnsweredInTime s events last (n + length a) b w.1.ps × SpansAnswered (n + (length a + length b)) spans nets w.2
-    SpansAnswered n [] (net ∷ nets) w = Unit {0}
-    SpansAnswered n (single ops ∷ spans) [] w = Unit {0}
-    SpansAnswered n (single ops ∷ spans) (two_nets from until ∷ nets) w = Unit {0}
-    SpansAnswered n (range a b ∷ spans) [] w = Unit {0}
-    SpansAnswered n (range a b ∷ spans) (one_net net ∷ nets) w = Unit {0}
+    abbrev pub EachSpan : (n : ℕ) (spans : List PlainSpan) (nets : List SpanNets) → SpanCircuits core plan s near env draft spans nets → Type 0
+    EachSpan n [] [] w = Unit {0}
+    EachSpan n (single ops ∷ spans) (one_net net ∷ nets) w = P n ops w.0.ps × EachSpan (n + length ops) spans nets w.1
+    EachSpan n (range a b ∷ spans) (two_nets from until ∷ nets) w = P n a w.0.ps × P (n + length a) b w.1.ps × EachSpan (n + (length a + length b)) spans nets w.2
+    EachSpan n [] (net ∷ nets) w = Unit {0}
+    EachSpan n (single ops ∷ spans) [] w = Unit {0}
+    EachSpan n (single ops ∷ spans) (two_nets from until ∷ nets) w = Unit {0}
+    EachSpan n (range a b ∷ spans) [] w = Unit {0}
+    EachSpan n (range a b ∷ spans) (one_net net ∷ nets) w = Unit {0}
 
   -- a body without counters has no bounds
-  abbrev pub IssueAnswered : (near : List Near) (env : Nets) (k n : ℕ) (counters : List PlainCounter) (ops : List PlainOp) (ps : List PipeOp) (issue : ℕ) (c : Child) → Issued core plan s near env k counters ops ps issue c → Type 0
-  IssueAnswered near env k n [] ops ps issue c w = Unit {0}
-  IssueAnswered near env k n (x ∷ counters) ops ps issue c w = BoundsAnswered near env w.draft n (x ∷ counters) w.part.counters.items w.bounds
+  abbrev pub EachOfIssue : (near : List Near) (env : Nets) (k n : ℕ) (counters : List PlainCounter) (ops : List PlainOp) (ps : List PipeOp) (issue : ℕ) (c : Child) → Issued core plan s near env k counters ops ps issue c → Type 0
+  EachOfIssue near env k n [] ops ps issue c w = Unit {0}
+  EachOfIssue near env k n (x ∷ counters) ops ps issue c w = EachBound near env w.draft n (x ∷ counters) w.part.counters.items w.bounds
 
-  -- each operation of the tree that reads or takes a word
   abbrev mutual
-    pub Answered : (node : PlainNode) (near : List Near) (env : Nets) (k n : ℕ) (c : Child) → Circuit core plan s node near env k c → Type 0
-    Answered (branch ops first second) near env k n c w =
-        AreAnsweredInTime s events last n ops w.tests.ps × Answered first near env (suc k) (n + length ops) w.chosen w.one × Answered second near env (suc k + node_count first) (n + (length ops + number_count first)) w.left w.other
-    Answered (fsm start state ops node after) near env k n c w =
-        AreAnsweredInTime s events last n start w.begins.ps × AreAnsweredInTime s events last (n + length start) ops w.tests.ps
-        × AreAnsweredInTime s events last (n + (length start + (length ops + number_count node))) after w.steps.ps × Answered node near env (suc k) (n + (length start + length ops)) w.body w.goes
-    Answered (outer counters style owned stages) near env k n c w =
-        BoundsAnswered near env w.draft n counters w.part.counters.items w.bounds
-        × StagesAnswered stages (own_near counters near) (suc k) (n + counters_size counters) 0 (λ i. slot_nets w.nets w.rows env counters (slot_at (slots_of (node_plan plan k)) i).slot) w.child w.parts
-    Answered (inner counters owned ops comb) near env k n c w = AreAnsweredInTime s events last (n + counters_size counters) ops w.ps × IssueAnswered near env k n counters ops w.ps w.issue c w.issued
-    Answered (load r m spans) near env k n c w = SpansAnswered near env w.draft n spans w.nets w.ends
-    Answered (store r m spans) near env k n c w = SpansAnswered near env w.draft n spans w.nets w.ends
-    Answered (sparse kind r m places spans count par) near env k n c w = ⊥
+    pub EachList : (node : PlainNode) (near : List Near) (env : Nets) (k n : ℕ) (c : Child) → Circuit core plan s node near env k c → Type 0
+    EachList (branch ops first second) near env k n c w =
+        P n ops w.tests.ps × EachList first near env (suc k) (n + length ops) w.chosen w.one × EachList second near env (suc k + node_count first) (n + (length ops + number_count first)) w.left w.other
+    EachList (fsm start state ops node after) near env k n c w =
+        P n start w.begins.ps × P (n + length start) ops w.tests.ps × P (n + (length start + (length ops + number_count node))) after w.steps.ps × EachList node near env (suc k) (n + (length start + length ops)) w.body w.goes
+    EachList (outer counters style owned stages) near env k n c w =
+        EachBound near env w.draft n counters w.part.counters.items w.bounds
+        × EachInLists stages (own_near counters near) (suc k) (n + counters_size counters) 0 (λ i. slot_nets w.nets w.rows env counters (slot_at (slots_of (node_plan plan k)) i).slot) w.child w.parts
+    EachList (inner counters owned ops comb) near env k n c w = P (n + counters_size counters) ops w.ps × EachOfIssue near env k n counters ops w.ps w.issue c w.issued
+    EachList (load r m spans) near env k n c w = EachSpan near env w.draft n spans w.nets w.ends
+    EachList (store r m spans) near env k n c w = EachSpan near env w.draft n spans w.nets w.ends
+    EachList (sparse kind r m places spans count par) near env k n c w = ⊥
 
-    pub StagesAnswered : (stages : PlainStages) (near : List Near) (j n i : ℕ) (nets : (stage : ℕ) → Nets) (child : (stage : ℕ) → Child) → StageCircuits core plan s stages near j i nets child → Type 0
-    StagesAnswered no_stage near j n i nets child w = Unit {0}
-    StagesAnswered (more_stage first last comb node rest) near j n i nets child w =
-        Answered node near (nets i) j n (child i) w.0 × StagesAnswered rest near (j + node_count node) (n + number_count node) (suc i) nets child w.1
+    pub EachInLists : (stages : PlainStages) (near : List Near) (j n i : ℕ) (nets : (stage : ℕ) → Nets) (child : (stage : ℕ) → Child) → StageCircuits core plan s stages near j i nets child → Type 0
+    EachInLists no_stage near j n i nets child w = Unit {0}
+    EachInLists (more_stage first last comb node rest) near j n i nets child w =
+        EachList node near (nets i) j n (child i) w.0 × EachInLists rest near (j + node_count node) (n + number_count node) (suc i) nets child w.1
+
+-- by the events of the whole, up to a cycle: each operation of a tree that reads or takes a word is answered with it
+abbrev pub Answered : (core : PlainCore) (plan : PlainPlan) (s : Signals) (events : List Stamped) (last : ℕ) (node : PlainNode) (near : List Near) (env : Nets) (k n : ℕ) (c : Child) → Circuit core plan s node near env k c → Type 0
+Answered core plan s events last node near env k n c w = EachList core plan s (AreAnsweredInTime s events last) node near env k n c w
 
 -- the spans of a run of a transfer
 abbrev pub taken_in : History → List Taken

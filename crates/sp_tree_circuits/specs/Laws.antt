@@ -1,5 +1,5 @@
 -- What a circuit of a tree of nodes does, as statements.
-use Rattle.std.specs.Prelude.{ℕ, ◌<◌, ◌≤◌, List, [], ◌∷◌}
+use Rattle.std.specs.Prelude.{ℕ, suc, ◌<◌, ◌≤◌, List, [], ◌∷◌}
 use Rattle.std.specs.List.{Contains}
 use Rattle.sp_netlist.specs.declared.parts.Child.{Child}
 use Rattle.sp_netlist.specs.Signals.{Signals}
@@ -60,3 +60,13 @@ module _ (core : PlainCore) (plan : PlainPlan) (delays : Delays) where
       (s : Signals) (last : ℕ) (env : Nets) (h : History) (c : Child) → IsCore core → IsTimed core.root → AllDone in_lanes core.root no_scope h → HistoryFits core core.root h
       → (w : Circuit core plan s core.root [] env 0 c) → Answered core plan s (core_events h) last core.root [] env 0 0 c w → TransfersMove core plan delays s last core.root [] env 0 0 (core_run h ∷ []) c w
       → (t : ℕ) → t ≤ last → IsStarted s c.start (rans core plan delays core.root 0 0 (placed (core_run h ∷ []))) t → Acts core plan delays s (core_events h) t core.root [] env 0 0 (core_run h ∷ []) c w
+
+  -- and where its answers up to a cycle follow from what was done before that cycle, all of it goes: the one induction on the cycle
+  abbrev pub CirclesClose : Type 0
+  CirclesClose =
+      (s : Signals) (last : ℕ) (env : Nets) (h : History) (c : Child) → IsCore core → IsTimed core.root → AllDone in_lanes core.root no_scope h → HistoryFits core core.root h → (w : Circuit core plan s core.root [] env 0 c)
+      → IsStarted s c.start (rans core plan delays core.root 0 0 (placed (core_run h ∷ []))) last
+      → Answered core plan s (core_events h) 0 core.root [] env 0 0 c w → TransfersMove core plan delays s 0 core.root [] env 0 0 (core_run h ∷ []) c w
+      → ((t : ℕ) → t < last → Acts core plan delays s (core_events h) t core.root [] env 0 0 (core_run h ∷ []) c w
+      → Answered core plan s (core_events h) (suc t) core.root [] env 0 0 c w × TransfersMove core plan delays s (suc t) core.root [] env 0 0 (core_run h ∷ []) c w)
+      → (t : ℕ) → t ≤ last → Acts core plan delays s (core_events h) t core.root [] env 0 0 (core_run h ∷ []) c w

@@ -3,7 +3,7 @@
 ghost use Rattle.sp_core.specs.PlainCore.{PlainCore};
 ghost use Rattle.sp_machine.specs.Transfers.{Delays};
 ghost use Rattle.sp_plan.specs.PlainPlan.{PlainPlan};
-ghost use Rattle.sp_tree_circuits.specs.Laws.{CircuitsGo, CoresGo};
+ghost use Rattle.sp_tree_circuits.specs.Laws.{CirclesClose, CircuitsGo, CoresGo};
 
 use sp_beat_runs::loops_are_in_timeline;
 use sp_group_words::words_go_along;
@@ -61,4 +61,12 @@ pub fn cores_go_as_told()
     ensures { (core : PlainCore) (plan : PlainPlan) (delays : Delays) → CoresGo core plan delays }
 {
     circuits_go_as_told();
+}
+
+/// Where what is answered up to each cycle, and the transfers that move up to it, follow from what was done before that cycle, a
+/// core's circuit goes as long as it is started once.
+pub fn circles_close()
+    ensures { (core : PlainCore) (plan : PlainPlan) (delays : Delays) → CirclesClose core plan delays }
+{
+    cores_go_as_told();
 }

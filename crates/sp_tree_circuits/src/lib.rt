@@ -6,4 +6,4 @@ mod examples;
 mod laws;
 
 pub use examples::worked_masks;
-pub use laws::{circuits_go_as_told, cores_go_as_told};
+pub use laws::{circles_close, circuits_go_as_told, cores_go_as_told};
