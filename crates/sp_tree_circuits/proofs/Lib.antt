@@ -10,6 +10,7 @@ mod Loops
 mod MachineEvents
 mod MachineLists
 mod Machines
+pub mod Mapping
 mod Numbers
 mod Ready
 mod Sides
@@ -21,3 +22,4 @@ mod Stages
 mod Wanted
 mod Whole
 mod Words
+mod WorkedBody

@@ -4,3 +4,4 @@ pub mod Circuits
 pub mod Example
 pub mod Laws
 pub mod Parts
+pub mod Worked
