@@ -1,5 +1,5 @@
 -- The circuits of inner bodies and transfers in their runs.
-use Rattle.std.proofs.Common.{◌≡◌, ℕ, suc, ◌+◌, ◌<◌, ◌≤◌, true, List, [], ◌∷◌, ◌++◌, map, length, Option, refl, sym, ap, subst, ◌∙◌, arith}
+use Rattle.std.proofs.Common.{◌≡◌, ℕ, ◌+◌, ◌≤◌, List, [], ◌∷◌, ◌++◌, length, Option, refl, sym, ap, subst, ◌∙◌, arith}
 use Rattle.std.specs.List.{Contains}
 use Rattle.std.proofs.lemmas.List.Elements.{Contains-append_left}
 use Rattle.sp_netlist.specs.declared.parts.Child.{Child}
@@ -7,21 +7,21 @@ use Rattle.sp_netlist.specs.Draft.{Draft}
 use Rattle.sp_netlist.specs.Signals.{Signals}
 use Rattle.sp_gates.specs.Runs.{RunsOn}
 use Rattle.sp_core.specs.Around.{Around, Near}
-use Rattle.sp_core.specs.Events.{Standing, inside_at, before, Moment, bounds_moments, spans_moments}
-use Rattle.sp_core.specs.History.{Bounds, Taken, History, inner_ran, moved}
+use Rattle.sp_core.specs.Events.{inside_at, before, Moment, bounds_moments, spans_moments}
+use Rattle.sp_core.specs.History.{History, inner_ran, moved}
 use Rattle.sp_core.specs.Invariant.{IsRight}
 use Rattle.sp_core.specs.Numbering.{counters_size, number_count}
 use Rattle.sp_core.specs.PlainCore.{PlainOp, PlainCounter, PlainSpan, single, range, PlainNode, inner, load, store, PlainCore}
-use Rattle.sp_core.specs.Scope.{Scope, in_lanes}
+use Rattle.sp_core.specs.Scope.{in_lanes}
 use Rattle.sp_fitting.specs.Fitting.{HistoryFits}
 use Rattle.sp_counters.specs.declared.part.Count.{Count}
 use Rattle.sp_counters.specs.Laws.{AreLoopsAt}
-use Rattle.sp_plan.specs.PlainPlan.{PlainPlan, node_plan}
-use Rattle.sp_machine.specs.Stamps.{Stamped, Copies, stamp, stamped, later, moved as moved_by}
+use Rattle.sp_plan.specs.PlainPlan.{PlainPlan}
+use Rattle.sp_machine.specs.Stamps.{Stamped, Copies, stamp, stamped, later}
 use Rattle.sp_machine.specs.Timeline.{timed}
 use Rattle.sp_machine.specs.Transfers.{Delays}
 use Rattle.sp_overlap.specs.Whole.{IsTimed}
-use Rattle.sp_node_runs.specs.Runs.{Placed, over_at, events_of}
+use Rattle.sp_node_runs.specs.Runs.{Placed, events_of}
 use Rattle.sp_node_runs.specs.Told.{all_events}
 use Rattle.sp_node_runs.proofs.Weights.{later_both}
 use Rattle.sp_node_control.specs.Laws.{IsStarted}
@@ -37,7 +37,7 @@ use Rattle.sp_node_bodies.proofs.Listed.{mapped_to, mapped_from, joined_to}
 use Rattle.sp_tree_bodies.specs.Done.{AllDone}
 use Rattle.sp_tree_bodies.specs.Scoped.{Scoped, placed}
 use Rattle.sp_tree_bodies.specs.Scopes.{scopes_of}
-use Rattle.sp_tree_circuits.specs.Parts.{DirectNet, BoundCircuits, SpanCircuits, SliceCircuit, InnerCircuit}
+use Rattle.sp_tree_circuits.specs.Parts.{DirectNet, BoundCircuits, SpanCircuits}
 use Rattle.sp_tree_circuits.specs.Circuits.{Circuit}
 use Rattle.sp_tree_circuits.specs.Answers.{EachBound, EachSpan, Answered, TransfersMove, taken_in, SlicesStand}
 use Rattle.sp_tree_circuits.specs.Acts.{AreEventsOf, Acts}

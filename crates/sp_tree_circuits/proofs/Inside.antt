@@ -1,5 +1,5 @@
 -- The runs of a part lie within those of the whole; so what stands around the whole as long as it goes on stands around its parts.
-use Rattle.std.proofs.Common.{◌≡◌, ℕ, zero, suc, ◌+◌, ◌<◌, ◌≤◌, ◌⊎◌, inl, inr, List, [], ◌∷◌, ◌++◌, refl, subst, arith}
+use Rattle.std.proofs.Common.{◌≡◌, ℕ, ◌≤◌, ◌⊎◌, inl, inr, List, [], ◌∷◌, refl, subst, arith}
 use Rattle.std.specs.List.{Contains}
 use Rattle.sp_core.specs.PlainCore.{PlainNode, PlainCore}
 use Rattle.sp_core.specs.Scope.{Scope}

@@ -1,13 +1,12 @@
 -- The lanes of stages: which they are by a core's rules, and that the first one of a group has an iteration.
 use Rattle.std.proofs.Common.{◌≡◌, ℕ, zero, suc, ◌+◌, ◌-◌, ◌*◌, ◌<◌, ◌≤◌, ◌==◌, ◌&&◌, ◌||◌, ◌⊎◌, inl, inr, Bool, true, false, nat_le, nat_lt, ℤ, pos, ◌+ℤ◌, if◌then◌else◌, List, [], ◌∷◌, map, length, slice_index_or, refl, sym, ap, subst, ◌∙◌, arith}
 use Rattle.std.specs.List.{Contains, list_all}
-use Rattle.std.specs.Prelude.{int_lt, flat_map}
+use Rattle.std.specs.Prelude.{int_lt}
 use Rattle.std.proofs.lemmas.Bool.{and_parts, eqb-true}
 use Rattle.std.proofs.lemmas.Int.{ints}
-use Rattle.sp_core.specs.Around.{Around, lanes_of}
 use Rattle.sp_core.specs.Elements.{tuples, values_below}
 use Rattle.sp_core.specs.NodeRules.{single_lanes, after_singles, is_of_all_lanes, are_stages, is_no_lane, are_lane_by_lane, count_zeros, are_lanes_right}
-use Rattle.sp_core.specs.PlainCore.{PlainCounter, PlainStages, no_stage, more_stage}
+use Rattle.sp_core.specs.PlainCore.{PlainStages, no_stage, more_stage}
 use Rattle.sp_core.specs.Scope.{Loop, group_values, is_live, is_some_up_to, is_some_live}
 use Rattle.sp_counters.proofs.Values.{values_go_on}
 use Rattle.sp_plan.specs.Validity.{stage_count}

@@ -1,10 +1,10 @@
 -- The circuit of a list of operations in its runs.
-use Rattle.std.proofs.Common.{◌≡◌, ℕ, suc, ◌+◌, ◌<◌, ◌≤◌, true, List, [], map, length, refl, sym, ap, subst, ◌∙◌, arith}
+use Rattle.std.proofs.Common.{◌≡◌, ℕ, suc, ◌+◌, ◌<◌, ◌≤◌, true, List, map, length, ap, subst, arith}
 use Rattle.std.specs.List.{Contains}
 use Rattle.sp_netlist.specs.declared.parts.Child.{Child}
 use Rattle.sp_netlist.specs.Signals.{Signals}
 use Rattle.sp_core.specs.Around.{Around, Near}
-use Rattle.sp_core.specs.Events.{Event, Moment, touches}
+use Rattle.sp_core.specs.Events.{Event, touches}
 use Rattle.sp_core.specs.History.{Entry}
 use Rattle.sp_core.specs.OperationRules.{is_word_list}
 use Rattle.sp_core.specs.PlainCore.{PlainOp, PlainCore}
@@ -13,8 +13,7 @@ use Rattle.sp_words.specs.declared.types.Ty.{Ty}
 use Rattle.sp_fitting.specs.Fitting.{EntriesFit}
 use Rattle.sp_fitting.proofs.Lists.{masks_are_bits}
 use Rattle.sp_fitting.proofs.Rules.{word_list_right}
-use Rattle.sp_pipe.specs.declared.part.PipeOp.{PipeOp}
-use Rattle.sp_body_acts.specs.Entries.{AreEntries, IsOpAt}
+use Rattle.sp_body_acts.specs.Entries.{AreEntries}
 use Rattle.sp_plan.specs.PlainPlan.{PlainPlan}
 use Rattle.sp_machine.specs.Laws.{told}
 use Rattle.sp_machine.specs.Stamps.{Stamped, moved, list_stamped, in_a_row}

@@ -1,24 +1,22 @@
 -- The loops of the runs of an outer body, and what its counters are in its steps.
-use Rattle.std.proofs.Common.{◌≡◌, ℕ, zero, suc, ◌+◌, ◌*◌, ◌<◌, ◌≤◌, ◌==◌, true, false, List, [], ◌∷◌, map, length, refl, sym, ap, subst, ◌∙◌, arith}
+use Rattle.std.proofs.Common.{◌≡◌, ℕ, zero, suc, ◌≤◌, ◌==◌, true, false, List, [], ◌∷◌, map, length, refl, sym, ap, subst, ◌∙◌, arith}
 use Rattle.std.specs.List.{Contains, AllZip}
 use Rattle.std.proofs.lemmas.Bool.{eq-eqb, ne_eqb}
 use Rattle.sp_words.specs.declared.kind.Style.{Style}
 use Rattle.sp_netlist.specs.declared.parts.Child.{Child}
-use Rattle.sp_netlist.specs.Draft.{Draft}
 use Rattle.sp_netlist.specs.Signals.{Signals}
-use Rattle.sp_gates.specs.Runs.{RunsOn}
 use Rattle.sp_core.specs.Around.{Around, Near}
 use Rattle.sp_core.specs.Events.{inside_at, before, bounds_moments}
-use Rattle.sp_core.specs.History.{Bounds, History, outer_ran}
+use Rattle.sp_core.specs.History.{History, outer_ran}
 use Rattle.sp_core.specs.Invariant.{IsRight}
 use Rattle.sp_core.specs.Numbering.{number_count}
 use Rattle.sp_core.specs.PlainCore.{PlainCounter, PlainNode, PlainStages, outer, PlainCore}
-use Rattle.sp_core.specs.Scope.{Loop, in_lanes, loops_of, group_values}
+use Rattle.sp_core.specs.Scope.{Loop, in_lanes, group_values}
 use Rattle.sp_fitting.specs.Fitting.{HistoryFits}
 use Rattle.sp_counters.specs.declared.part.Count.{Count}
 use Rattle.sp_counters.specs.Laws.{AreLoopsAt}
 use Rattle.sp_beat_runs.specs.Laws.{TellsMore}
-use Rattle.sp_beat_runs.specs.Runs.{BeatsRan, beat_cycle}
+use Rattle.sp_beat_runs.specs.Runs.{BeatsRan}
 use Rattle.sp_sequence_runs.specs.Runs.{shape_of}
 use Rattle.sp_counted_beats.specs.Laws.{AreInSteps}
 use Rattle.sp_plan.specs.PlainPlan.{PlainPlan}

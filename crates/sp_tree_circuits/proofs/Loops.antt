@@ -1,13 +1,12 @@
 -- The circuit of a loop in beats, where its stages go: one induction on the cycle.
-use Rattle.std.proofs.Common.{◌≡◌, ℕ, zero, suc, ◌+◌, ◌<◌, ◌≤◌, List, [], ◌∷◌, map, length, refl, sym, ap, subst, ◌∙◌, arith}
-use Rattle.std.specs.List.{Contains}
+use Rattle.std.proofs.Common.{◌≡◌, ℕ, zero, suc, ◌+◌, ◌<◌, ◌≤◌, List, map, sym, subst, arith}
 use Rattle.sp_words.specs.declared.kind.Style.{Style}
 use Rattle.sp_netlist.specs.declared.parts.Child.{Child}
 use Rattle.sp_netlist.specs.Signals.{Signals}
 use Rattle.sp_gates.specs.Tested.{is_on}
 use Rattle.sp_core.specs.Around.{Around, Near}
 use Rattle.sp_core.specs.Invariant.{IsRight}
-use Rattle.sp_core.specs.Numbering.{counters_size, node_count, number_count, number_count_in}
+use Rattle.sp_core.specs.Numbering.{counters_size, node_count, number_count}
 use Rattle.sp_core.specs.PlainCore.{PlainCounter, PlainNode, PlainStages, outer, no_stage, more_stage, PlainCore}
 use Rattle.sp_control_runs.specs.Parts.{Begins}
 use Rattle.sp_beat_runs.specs.Runs.{slot_cycle, slot_found, groups_in}
@@ -35,7 +34,7 @@ use Rattle.sp_node_bodies.specs.Given.{Nets}
 use Rattle.sp_node_bodies.specs.Laws.{own_near}
 use Rattle.sp_node_bodies.specs.Told.{AreAnsweredInTime}
 use Rattle.sp_tree_bodies.specs.Scoped.{Scoped, placed, scoped_stages}
-use Rattle.sp_tree_circuits.specs.Circuits.{slot_nets, MemberCircuit, MemberCircuits, Circuit, StageCircuits}
+use Rattle.sp_tree_circuits.specs.Circuits.{MemberCircuit, Circuit, StageCircuits}
 use Rattle.sp_tree_circuits.specs.Answers.{EachBound}
 use Rattle.sp_tree_circuits.specs.Acts.{AreEventsOf, Acts, StagesAct}
 use Rattle.sp_tree_circuits.proofs.Alike.{of_part}

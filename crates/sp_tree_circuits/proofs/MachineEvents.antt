@@ -1,5 +1,5 @@
 -- What happens in the runs of an FSM by its own: the events of its lists, by their numbers.
-use Rattle.std.proofs.Common.{◌≡◌, ℕ, suc, ◌+◌, ◌<◌, ◌≤◌, ◌⊎◌, inl, inr, List, [], ◌∷◌, ◌++◌, map, flat_map, sum_by, length, refl, sym, ap, subst, ◌∙◌, arith}
+use Rattle.std.proofs.Common.{◌≡◌, ℕ, suc, ◌+◌, ◌<◌, ◌≤◌, ◌⊎◌, inl, inr, List, [], ◌∷◌, ◌++◌, map, flat_map, sum_by, length, refl, sym, ap, ◌∙◌, arith}
 use Rattle.std.specs.List.{Contains}
 use Rattle.std.proofs.lemmas.Grind.{flat_map-append}
 use Rattle.std.proofs.lemmas.List.Sums.{sum_by-append}
@@ -9,15 +9,14 @@ use Rattle.sp_core.specs.Numbering.{number_count}
 use Rattle.sp_core.specs.PlainCore.{PlainOp, PlainNode, fsm, PlainCore}
 use Rattle.sp_core.specs.Scope.{Scope, in_lanes}
 use Rattle.sp_plan.specs.PlainPlan.{PlainPlan}
-use Rattle.sp_machine.specs.Stamps.{Stamped, Copies, stamp, stamped, later, list_run, kept_run}
+use Rattle.sp_machine.specs.Stamps.{Stamped, Copies, stamp, later, list_run, kept_run}
 use Rattle.sp_machine.specs.Transfers.{Delays}
 use Rattle.sp_overlap.specs.Whole.{IsTimed}
 use Rattle.sp_core.specs.Latency.{latency_of_all}
-use Rattle.sp_node_runs.specs.Runs.{Placed, over_at, list_took, turn_of, body_runs}
+use Rattle.sp_node_runs.specs.Runs.{Placed, list_took, body_runs}
 use Rattle.sp_node_runs.specs.Told.{all_events, turns_alone, fsm_alone}
 use Rattle.sp_node_runs.proofs.Weights.{later_both}
 use Rattle.sp_node_bodies.specs.Lists.{ListRun, list_events, all_listed}
-use Rattle.sp_node_bodies.specs.Told.{Happens}
 use Rattle.sp_node_bodies.proofs.Listed.{none_there, first_or_later}
 use Rattle.sp_tree_bodies.specs.Done.{AllDone}
 use Rattle.sp_tree_bodies.specs.Scoped.{Scoped, placed, AllAreDone}

@@ -1,12 +1,11 @@
 -- The lists of an FSM in its runs: what they did, that they are the parts of its circuit, and what stands around them.
-use Rattle.std.proofs.Common.{◌≡◌, ℕ, suc, ◌+◌, ◌<◌, ◌≤◌, ◌&&◌, ◌⊎◌, inl, inr, true, false, List, [], ◌∷◌, ◌++◌, map, length, refl, sym, ap, subst, ◌∙◌, arith}
+use Rattle.std.proofs.Common.{◌≡◌, ℕ, suc, ◌+◌, ◌<◌, ◌≤◌, ◌&&◌, ◌⊎◌, inl, inr, true, List, [], ◌∷◌, ◌++◌, map, refl, sym, ap, subst, ◌∙◌, arith}
 use Rattle.std.specs.List.{Contains}
 use Rattle.std.proofs.lemmas.Bool.{and_parts}
 use Rattle.std.proofs.lemmas.List.{map-append}
 use Rattle.sp_words.specs.declared.types.Ty.TheVariants.{Bit}
 use Rattle.sp_core.specs.Around.{Around}
 use Rattle.sp_core.specs.Declarations.{mem}
-use Rattle.sp_core.specs.Events.{Standing}
 use Rattle.sp_core.specs.History.{Entry, History, Turns, fsm_ran, no_turn, more_turn}
 use Rattle.sp_core.specs.Invariant.{IsRight}
 use Rattle.sp_core.specs.NodeRules.{with_state, is_reg}

@@ -1,5 +1,5 @@
 -- The circuit of an FSM, where its body goes.
-use Rattle.std.proofs.Common.{◌≡◌, ℕ, suc, ◌+◌, ◌<◌, ◌≤◌, List, [], ◌∷◌, ◌++◌, map, length, refl, sym, ap, subst, ◌∙◌, arith}
+use Rattle.std.proofs.Common.{◌≡◌, ℕ, suc, ◌+◌, ◌≤◌, List, [], ◌∷◌, map, length, sym, subst, arith}
 use Rattle.std.specs.List.{Contains}
 use Rattle.std.proofs.lemmas.List.Elements.{Contains-append_left}
 use Rattle.sp_netlist.specs.declared.parts.Child.{Child}
@@ -8,8 +8,6 @@ use Rattle.sp_core.specs.Around.{Around, Near}
 use Rattle.sp_core.specs.Invariant.{IsRight}
 use Rattle.sp_core.specs.Numbering.{number_count}
 use Rattle.sp_core.specs.PlainCore.{PlainOp, PlainNode, fsm, PlainCore}
-use Rattle.sp_control_runs.specs.Machines.{tests, nexts, first_run}
-use Rattle.sp_control_runs.specs.Parts.{runs_of}
 use Rattle.sp_plan.specs.PlainPlan.{PlainPlan}
 use Rattle.sp_machine.specs.Stamps.{Stamped}
 use Rattle.sp_machine.specs.Transfers.{Delays}
@@ -17,14 +15,14 @@ use Rattle.sp_overlap.specs.Whole.{IsTimed}
 use Rattle.sp_node_runs.specs.Runs.{Placed, AreWithin, over_at, body_in, body_runs}
 use Rattle.sp_node_runs.specs.Told.{all_events}
 use Rattle.sp_node_control.specs.Laws.{Does, IsStarted}
-use Rattle.sp_node_control.specs.Runs.{rans, machine_of}
+use Rattle.sp_node_control.specs.Runs.{rans}
 use Rattle.sp_node_fits.specs.Laws.{AllFit}
 use Rattle.sp_node_bodies.specs.Given.{Nets, AreStanding}
-use Rattle.sp_node_bodies.specs.Lists.{DidList, ListRun, list_ran, all_listed}
+use Rattle.sp_node_bodies.specs.Lists.{DidList, ListRun, all_listed}
 use Rattle.sp_node_bodies.specs.Told.{AreAnsweredInTime}
 use Rattle.sp_node_bodies.proofs.Listed.{mapped_from, joined_from}
-use Rattle.sp_tree_bodies.specs.Scoped.{Scoped, placed, with_scope, AllAreDone, scoped_bodies}
-use Rattle.sp_tree_bodies.specs.Turns.{started_in, start_list, test_lists_in, next_lists_in, test_lists, next_lists}
+use Rattle.sp_tree_bodies.specs.Scoped.{Scoped, placed, with_scope, scoped_bodies}
+use Rattle.sp_tree_bodies.specs.Turns.{start_list, test_lists_in, next_lists_in, test_lists, next_lists}
 use Rattle.sp_tree_circuits.specs.Circuits.{Circuit}
 use Rattle.sp_tree_circuits.specs.Acts.{AreEventsOf, Acts}
 use Rattle.sp_tree_circuits.proofs.Alike.{of_part}

@@ -1,5 +1,5 @@
 -- The events of a run of a node have the numbers of its operations.
-use Rattle.std.proofs.Common.{◌≡◌, ℕ, zero, suc, ◌+◌, ◌<◌, ◌≤◌, ◌⊎◌, inl, inr, Bool, true, false, ℤ, List, [], ◌∷◌, ◌++◌, map, flat_map, length, Option, Some, None, refl, sym, ap, subst, ◌∙◌, arith}
+use Rattle.std.proofs.Common.{◌≡◌, ℕ, suc, ◌+◌, ◌<◌, ◌≤◌, ◌⊎◌, inl, inr, Bool, true, false, ℤ, List, [], ◌∷◌, ◌++◌, map, flat_map, length, Option, Some, None, ap, subst, arith}
 use Rattle.std.specs.List.{Contains}
 use Rattle.std.proofs.lemmas.List.Elements.{Contains-append_cases}
 use Rattle.sp_words.specs.declared.kind.Kind.{Kind}
@@ -14,14 +14,14 @@ use Rattle.sp_core.specs.Sequential.{has_reset}
 use Rattle.sp_core.specs.Transfers.{Part, part_of, lengths, has_none, places_of, all_offsets, loaded_at}
 use Rattle.sp_plan.specs.PlainPlan.{PlainPlan}
 use Rattle.sp_machine.specs.Laws.{told, TellsAll}
-use Rattle.sp_machine.specs.Stamps.{Stamped, later}
+use Rattle.sp_machine.specs.Stamps.{Stamped}
 use Rattle.sp_machine.specs.Timeline.{timed}
 use Rattle.sp_machine.specs.Transfers.{Delays}
 use Rattle.sp_overlap.specs.Whole.{IsTimed, AreTimed}
 use Rattle.sp_node_runs.specs.Runs.{Placed, events_of}
 use Rattle.sp_node_runs.specs.Told.{all_events}
 use Rattle.sp_node_bodies.specs.Told.{Happens}
-use Rattle.sp_node_bodies.proofs.Listed.{here, there, none_there, first_or_later, mapped_to, mapped_from, joined_from}
+use Rattle.sp_node_bodies.proofs.Listed.{none_there, first_or_later, mapped_to, mapped_from, joined_from}
 
 -- events of a list have numbers from one on and below another
 abbrev pub Within : (from until : ℕ) → List Moment → Type 0

@@ -1,26 +1,21 @@
 -- A part of a tree in its runs: what is asked of it up to a cycle, and what it does there.
-use Rattle.std.proofs.Common.{◌≡◌, ℕ, suc, ◌+◌, ◌<◌, ◌≤◌, Bool, List, [], map, Option, Some, refl, sym, ap, subst, ◌∙◌, arith}
-use Rattle.std.specs.List.{Contains}
+use Rattle.std.proofs.Common.{ℕ, ◌+◌, ◌<◌, ◌≤◌, Bool, List, Some, sym, ap, ◌∙◌, arith}
 use Rattle.sp_netlist.specs.declared.parts.Child.{Child}
 use Rattle.sp_netlist.specs.Signals.{Signals}
-use Rattle.sp_gates.specs.Tested.{is_on}
 use Rattle.sp_core.specs.declared.operation.OpKind.{OpKind}
 use Rattle.sp_core.specs.Around.{Near}
-use Rattle.sp_core.specs.Events.{Event}
 use Rattle.sp_core.specs.Numbering.{number_count}
 use Rattle.sp_core.specs.PlainCore.{PlainOp, PlainNode, inner, outer, fsm, branch, load, store, sparse, PlainCore}
 use Rattle.sp_pipe.specs.declared.part.PipeOp.{PipeOp}
-use Rattle.sp_body_acts.specs.Circuits.{answer_of}
 use Rattle.sp_body_runs.specs.Runs.{IsOnAt}
-use Rattle.sp_control_runs.specs.Parts.{Ran, Begins, Ends}
 use Rattle.sp_plan.specs.PlainPlan.{PlainPlan}
 use Rattle.sp_machine.specs.Stamps.{Stamped}
 use Rattle.sp_machine.specs.Transfers.{Delays}
 use Rattle.sp_node_runs.specs.Told.{all_events}
 use Rattle.sp_node_control.specs.Laws.{Does, IsStarted}
 use Rattle.sp_node_control.specs.Runs.{rans}
-use Rattle.sp_node_bodies.specs.Given.{Nets, AreStanding}
-use Rattle.sp_node_bodies.specs.Told.{Happens, ActsInTime, AreAnsweredInTime}
+use Rattle.sp_node_bodies.specs.Given.{Nets}
+use Rattle.sp_node_bodies.specs.Told.{ActsInTime, AreAnsweredInTime}
 use Rattle.sp_tree_bodies.specs.Scoped.{Scoped, placed}
 use Rattle.sp_tree_circuits.specs.Circuits.{Circuit}
 use Rattle.sp_tree_circuits.specs.Acts.{AreEventsOf, PartGoes, Acts}

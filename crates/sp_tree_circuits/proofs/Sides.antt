@@ -28,22 +28,19 @@ use Rattle.sp_node_control.specs.Runs.{rans, branch_of}
 use Rattle.sp_node_fits.specs.Laws.{AllFit}
 use Rattle.sp_node_bodies.specs.Given.{Nets, AreStanding}
 use Rattle.sp_node_bodies.specs.Lists.{DidList, ListRun, list_ran, list_events, all_listed}
-use Rattle.sp_node_bodies.specs.Told.{Happens, AreAnsweredInTime}
+use Rattle.sp_node_bodies.specs.Told.{AreAnsweredInTime}
 use Rattle.sp_node_bodies.proofs.Listed.{none_there, mapped_from, joined_from}
 use Rattle.sp_tree_bodies.specs.Done.{AllDone}
 use Rattle.sp_tree_bodies.specs.Scoped.{Scoped, placed, with_scope, AllAreDone, scoped_sides}
 use Rattle.sp_tree_bodies.specs.Scopes.{tested_in, test_list}
-use Rattle.sp_tree_circuits.specs.Parts.{ListCircuit}
 use Rattle.sp_tree_circuits.specs.Circuits.{Circuit}
-use Rattle.sp_tree_circuits.specs.Answers.{Answered, TransfersMove}
 use Rattle.sp_tree_circuits.specs.Acts.{AreEventsOf, Acts}
-use Rattle.sp_tree_circuits.specs.Laws.{DidRuns}
 use Rattle.sp_tree_circuits.proofs.Alike.{weigh, none_like, by_weights, of_part}
 use Rattle.sp_tree_circuits.proofs.Given.{Laws}
 use Rattle.sp_tree_circuits.proofs.Inside.{inside, alone, scoped_from}
 use Rattle.sp_tree_circuits.proofs.Listing.{listed_within, one_did, test_part, list_acts}
 use Rattle.sp_tree_circuits.proofs.Numbers.{numbers_within}
-use Rattle.sp_tree_circuits.proofs.Ready.{earlier, Ready, Goes, does_of}
+use Rattle.sp_tree_circuits.proofs.Ready.{Ready, Goes, does_of}
 
 pub done_of : (node : PlainNode) (qs : List Scoped) → AllAreDone node qs → (q : Scoped) → Contains qs q → AllDone in_lanes node q.scope q.run.history
 done_of node [] h q c = absurd (none_there q c)

@@ -1,11 +1,11 @@
 -- What happens in the runs of a loop in beats: its bounds, and in each stage the events of the stage's numbers.
-use Rattle.std.proofs.Common.{◌≡◌, ℕ, zero, suc, ◌+◌, ◌<◌, ◌≤◌, ◌⊎◌, inl, inr, List, [], ◌∷◌, ◌++◌, map, flat_map, sum_by, length, refl, sym, ap, subst, ◌∙◌, arith}
+use Rattle.std.proofs.Common.{◌≡◌, ℕ, zero, suc, ◌+◌, ◌<◌, ◌≤◌, ◌⊎◌, inl, inr, List, [], ◌∷◌, flat_map, sum_by, refl, sym, ap, subst, ◌∙◌, arith}
 use Rattle.std.specs.List.{Contains}
 use Rattle.std.proofs.lemmas.List.Elements.{Contains-append_cases}
 use Rattle.sp_words.specs.declared.kind.Style.{Style}
-use Rattle.sp_core.specs.Events.{Standing, inside_at, before, Event, Moment, touches, renews, bounds_moments}
+use Rattle.sp_core.specs.Events.{Standing, inside_at, before, Event, touches, renews, bounds_moments}
 use Rattle.sp_core.specs.History.{Bounds, History, outer_ran}
-use Rattle.sp_core.specs.Numbering.{counters_size, node_count, number_count, number_count_in}
+use Rattle.sp_core.specs.Numbering.{counters_size, number_count, number_count_in}
 use Rattle.sp_core.specs.PlainCore.{PlainCounter, PlainNode, PlainStages, outer, no_stage, more_stage, PlainCore}
 use Rattle.sp_core.specs.Scope.{in_lanes, loops_of, group_values}
 use Rattle.sp_plan.specs.PlainPlan.{PlainPlan, node_plan}

@@ -1,10 +1,10 @@
 -- The runs of a stage of a loop: each is that of a group, in the cycles and the scope of the group.
-use Rattle.std.proofs.Common.{◌≡◌, ℕ, zero, suc, ◌+◌, ◌<◌, ◌≤◌, ◌⊎◌, inl, inr, ℤ, List, [], ◌∷◌, ◌++◌, length, slice_index_or, Option, Some, None, refl, sym, ap, subst, ◌∙◌, arith}
+use Rattle.std.proofs.Common.{◌≡◌, ℕ, suc, ◌+◌, ◌<◌, ◌⊎◌, inl, inr, ℤ, List, [], ◌∷◌, ◌++◌, length, slice_index_or, Option, Some, None, refl, sym, ap, subst, ◌∙◌, arith}
 use Rattle.std.specs.List.{Contains}
 use Rattle.std.proofs.lemmas.List.Elements.{Contains-append_left, Contains-append_cases}
 use Rattle.std.proofs.lemmas.List.{map-append}
 use Rattle.sp_core.specs.Events.{inside_at, in_group_of}
-use Rattle.sp_core.specs.History.{History, Groups, Runs, outer_ran, no_group, more_group}
+use Rattle.sp_core.specs.History.{History, Groups, outer_ran, no_group, more_group}
 use Rattle.sp_core.specs.Numbering.{counters_size}
 use Rattle.sp_core.specs.PlainCore.{PlainCounter, PlainStages, PlainCore}
 use Rattle.sp_core.specs.Scope.{Loop, Scope, in_lanes, loops_of, group_values, in_group}

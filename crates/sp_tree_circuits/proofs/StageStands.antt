@@ -1,5 +1,5 @@
 -- What stands around the stages of a loop in beats, up to the cycle after those in which its steps are right.
-use Rattle.std.proofs.Common.{◌≡◌, ℕ, zero, suc, ◌+◌, ◌<◌, ◌≤◌, ℤ, List, [], ◌∷◌, ◌++◌, map, length, take, drop, slice_index_or, refl, sym, ap, subst, ◌∙◌, arith}
+use Rattle.std.proofs.Common.{◌≡◌, ℕ, suc, ◌+◌, ◌<◌, ◌≤◌, ℤ, List, [], ◌∷◌, map, length, take, drop, slice_index_or, refl, sym, ap, subst, ◌∙◌, arith}
 use Rattle.std.specs.List.{Contains}
 use Rattle.sp_words.specs.declared.kind.Style.{Style}
 use Rattle.sp_netlist.specs.declared.parts.Child.{Child}
@@ -12,15 +12,13 @@ use Rattle.sp_core.specs.Numbering.{counters_size}
 use Rattle.sp_core.specs.PlainCore.{PlainCounter, PlainStages, outer, PlainCore}
 use Rattle.sp_core.specs.Scope.{Scope, group_values, in_group}
 use Rattle.sp_body_runs.specs.Runs.{IsOnAt}
-use Rattle.sp_beat_words.specs.declared.part.Row.{Row}
-use Rattle.sp_beat_runs.specs.Runs.{BeatsRan, steps_in, step_cycle}
+use Rattle.sp_beat_runs.specs.Runs.{steps_in, step_cycle}
 use Rattle.sp_counted_beats.specs.Laws.{AreInSteps}
 use Rattle.sp_sequence_runs.specs.Chains.{At}
-use Rattle.sp_sequence_runs.specs.Places.{stage_at as stage_in, sizes, IsPlace}
-use Rattle.sp_sequence_runs.specs.Runs.{shape_of}
+use Rattle.sp_sequence_runs.specs.Places.{stage_at as stage_in, IsPlace}
 use Rattle.sp_plan.specs.PlainPlan.{PlainPlan, node_plan}
 use Rattle.sp_plan.specs.Validity.{stage_count}
-use Rattle.sp_time.specs.Beats.{Slot, slot_at, took_at, starts}
+use Rattle.sp_time.specs.Beats.{Slot, slot_at, took_at}
 use Rattle.sp_machine.specs.Stamps.{Stamped}
 use Rattle.sp_machine.specs.Timeline.{slots_of}
 use Rattle.sp_machine.specs.Transfers.{Delays}
@@ -43,9 +41,9 @@ use Rattle.sp_tree_circuits.proofs.Given.{Laws}
 use Rattle.sp_tree_circuits.proofs.Inside.{inside, alone}
 use Rattle.sp_tree_circuits.proofs.Looping.{ran, outers, takes, found, took, Stepping, Looping, loops_at}
 use Rattle.sp_tree_circuits.proofs.Ready.{Ready}
-use Rattle.sp_tree_circuits.proofs.StageRuns.{InGroupRun, OfRun, of_run}
-use Rattle.sp_tree_circuits.proofs.Stages.{HasPlace, has_place}
-use Rattle.sp_tree_circuits.proofs.Words.{RowAt, row_at}
+use Rattle.sp_tree_circuits.proofs.StageRuns.{OfRun, of_run}
+use Rattle.sp_tree_circuits.proofs.Stages.{has_place}
+use Rattle.sp_tree_circuits.proofs.Words.{row_at}
 
 -- without counters nothing else stands inside of a loop than around it
 no_scope : (scope : Scope) (h : History) (v : List ℤ) → in_group scope (loops_ran [] h) v ≡ scope

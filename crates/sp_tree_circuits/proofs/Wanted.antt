@@ -1,5 +1,5 @@
 -- Members of a loop in beats are told whether they are wanted, in the cycle in which their turn is told.
-use Rattle.std.proofs.Common.{◌≡◌, ℕ, zero, suc, ◌+◌, ◌-◌, ◌<◌, ◌≤◌, ◌==◌, ◌&&◌, Bool, true, false, List, [], ◌∷◌, ◌++◌, map, length, drop, slice_index, slice_index_or, Option, Some, None, refl, sym, ap, subst, ◌∙◌, arith}
+use Rattle.std.proofs.Common.{◌≡◌, ℕ, zero, suc, ◌+◌, ◌-◌, ◌<◌, ◌≤◌, ◌==◌, ◌&&◌, Bool, true, List, [], ◌∷◌, map, length, drop, slice_index, slice_index_or, Option, Some, None, refl, sym, ap, subst, ◌∙◌, arith}
 use Rattle.std.specs.List.{Contains}
 use Rattle.sp_words.specs.declared.kind.Style.{Style}
 use Rattle.sp_netlist.specs.declared.parts.Child.{Child}
@@ -10,10 +10,8 @@ use Rattle.sp_core.specs.Invariant.{IsRight}
 use Rattle.sp_core.specs.PlainCore.{PlainCounter, PlainStages, outer, PlainCore}
 use Rattle.sp_core.specs.Scope.{Loop, group_values, is_live, is_some_up_to}
 use Rattle.sp_counters.specs.declared.part.Counter.{Counter}
-use Rattle.sp_counters.specs.Counting as counting
 use Rattle.sp_counters.specs.Laws.{AreAtGroup}
 use Rattle.sp_body_runs.specs.Runs.{IsOnAt}
-use Rattle.sp_beat_words.specs.declared.part.Row.{Row}
 use Rattle.sp_beat_runs.specs.Runs.{BeatsRan, Turn, beats, beat_cycle, slot_cycle, slot_found, groups_in, steps_in, step_cycle}
 use Rattle.sp_beat_runs.proofs.Counting.{turns_of_in, group_in_beats}
 use Rattle.sp_counted_beats.specs.Laws.{AreInSteps}
@@ -21,7 +19,7 @@ use Rattle.sp_group_words.specs.Laws.{IsAtWork, HaveWords}
 use Rattle.sp_sequence.specs.declared.part.Member.{Member}
 use Rattle.sp_sequence_runs.specs.Chains.{At, SaysWanted, turn}
 use Rattle.sp_sequence_runs.specs.Places.{stage_at as stage_in, sizes, IsPlace}
-use Rattle.sp_sequence_runs.specs.Runs.{MemberRan, chain_took}
+use Rattle.sp_sequence_runs.specs.Runs.{chain_took}
 use Rattle.sp_sequence_runs.proofs.Placing.{map_length}
 use Rattle.sp_plan.specs.PlainPlan.{PlainPlan, node_plan}
 use Rattle.sp_plan.specs.Validity.{stage_count}

@@ -1,12 +1,11 @@
 -- Circuits of trees go: one induction over the tree.
-use Rattle.std.proofs.Common.{◌≡◌, ℕ, zero, suc, ◌+◌, ◌≤◌, true, false, List, [], ◌∷◌, length, arith}
+use Rattle.std.proofs.Common.{ℕ, zero, suc, ◌+◌, ◌≤◌, true, false, List, [], ◌∷◌, length, arith}
 use Rattle.sp_netlist.specs.declared.parts.Child.{Child}
 use Rattle.sp_netlist.specs.Signals.{Signals}
 use Rattle.sp_gates.specs.Tested.{is_on}
 use Rattle.sp_control_runs.specs.Parts.{Begins}
 use Rattle.sp_core.specs.Around.{Around, Near, nothing}
-use Rattle.sp_core.specs.Invariant.{IsRight, AreRight, owned_in}
-use Rattle.sp_core.specs.NodeRules.{with_state}
+use Rattle.sp_core.specs.Invariant.{IsRight, AreRight}
 use Rattle.sp_core.specs.Numbering.{counters_size, node_count, number_count}
 use Rattle.sp_core.specs.PlainCore.{PlainNode, PlainStages, inner, outer, fsm, branch, load, store, sparse, no_stage, more_stage, PlainCore}
 use Rattle.sp_plan.specs.PlainPlan.{PlainPlan}

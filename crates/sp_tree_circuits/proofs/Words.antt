@@ -1,5 +1,5 @@
 -- The masks of rows tell which lanes have an iteration, while a slot is at work on a group.
-use Rattle.std.proofs.Common.{◌≡◌, ℕ, zero, suc, ◌+◌, ◌<◌, ◌≤◌, List, [], ◌∷◌, ◌++◌, map, length, take, drop, slice_index, refl, sym, ap, subst, ◌∙◌, arith}
+use Rattle.std.proofs.Common.{◌≡◌, ℕ, zero, suc, ◌+◌, ◌<◌, List, [], ◌∷◌, ◌++◌, map, length, drop, slice_index, refl, ap, subst, ◌∙◌, arith}
 use Rattle.sp_netlist.specs.declared.parts.Wire.{Wire}
 use Rattle.sp_netlist.specs.Signals.{Signals}
 use Rattle.sp_sequence_runs.specs.Chains.{Numbered}

@@ -1,6 +1,6 @@
 -- The worked body can be emitted, and is the circuit of its node.
-use Rattle.std.proofs.Common.{◌≡◌, ℕ, zero, suc, ◌<◌, ◌^◌, true, false, IsTrue, IfSome, List, [], ◌∷◌, length, slice_index, slice_index_or, Some, refl, sym, ap, ap₂, subst, ◌∙◌, arith, lit<}
-use Rattle.sp_words.specs.Types.{int_type, width_of}
+use Rattle.std.proofs.Common.{◌≡◌, ℕ, zero, suc, ◌<◌, ◌^◌, true, IsTrue, IfSome, [], ◌∷◌, length, slice_index, slice_index_or, Some, refl, sym, ap, ap₂, subst, ◌∙◌, arith, lit<}
+use Rattle.sp_words.specs.Types.{int_type}
 use Rattle.sp_netlist.specs.Draft.{Draft}
 use Rattle.sp_netlist.specs.Signals.{Signals}
 use Rattle.sp_gates.specs.Runs.{RunsOn}

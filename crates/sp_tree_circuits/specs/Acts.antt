@@ -1,7 +1,6 @@
 -- What the circuit of a tree does up to a cycle: each part is started in the cycles of its runs and done where these are over, and each
 -- access acts at the events of the whole that have its operation's number.
-use Rattle.std.specs.Prelude.{◌≡◌, ℕ, suc, ◌+◌, ◌<◌, ◌≤◌, true, false, List, [], ◌∷◌, map, length}
-use Rattle.std.specs.List.{Contains}
+use Rattle.std.specs.Prelude.{◌≡◌, ℕ, suc, ◌+◌, ◌<◌, ◌≤◌, true, false, List, map, length}
 use Rattle.sp_netlist.specs.declared.parts.Child.{Child}
 use Rattle.sp_netlist.specs.Draft.{Draft}
 use Rattle.sp_netlist.specs.Signals.{Signals}
@@ -27,7 +26,6 @@ use Rattle.sp_node_control.specs.Runs.{rans}
 use Rattle.sp_node_bodies.specs.Given.{Nets}
 use Rattle.sp_node_bodies.specs.Laws.{own_near}
 use Rattle.sp_node_bodies.specs.Lists.{ListRun, ListGoes}
-use Rattle.sp_node_bodies.specs.Spans.{SpanNets}
 use Rattle.sp_node_bodies.specs.Told.{Happens, ActsInTime}
 use Rattle.sp_tree_bodies.specs.Scoped.{Scoped, placed, scoped_sides, scoped_bodies, scoped_stages}
 use Rattle.sp_tree_bodies.specs.Scopes.{test_list}

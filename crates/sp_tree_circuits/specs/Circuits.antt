@@ -1,5 +1,5 @@
 -- The circuit of a tree of nodes, as equations over all cycles: each node's part put together of those of its parts.
-use Rattle.std.specs.Prelude.{◌≡◌, ℕ, zero, suc, ◌+◌, ◌-◌, ◌<◌, ◌≤◌, List, [], ◌∷◌, ◌++◌, length, take, drop, slice_index, Option, Some, None}
+use Rattle.std.specs.Prelude.{◌≡◌, ℕ, zero, suc, ◌+◌, ◌-◌, ◌≤◌, List, [], ◌∷◌, ◌++◌, length, take, drop, slice_index, Option, Some, None}
 use Rattle.sp_netlist.specs.declared.parts.Child.{Child}
 use Rattle.sp_netlist.specs.declared.parts.Wire.{Wire}
 use Rattle.sp_netlist.specs.Draft.{Draft}

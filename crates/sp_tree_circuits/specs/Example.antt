@@ -1,5 +1,5 @@
 -- Two slots of a loop under one counter in two lanes, whose values and masks go along in two rows.
-use Rattle.std.specs.Prelude.{◌≡◌, ℕ, true, List, [], ◌∷◌, drop, length, None}
+use Rattle.std.specs.Prelude.{◌≡◌, true, [], ◌∷◌, drop, length, None}
 use Rattle.sp_beat_words.specs.declared.part.Row.{Row}
 use Rattle.sp_counters.specs.declared.part.Counted.{Counted}
 use Rattle.sp_core.specs.PlainCore.{PlainStages, inner, no_stage, more_stage}

@@ -1,6 +1,6 @@
 -- Circuits of parts that have no parts of their own, as equations over all cycles: what emitters promise, whatever runs there are and
 -- whatever is read.
-use Rattle.std.specs.Prelude.{◌≡◌, ℕ, suc, ◌*◌, ◌≤◌, IsTrue, List, [], ◌∷◌, length, slice_index, Option}
+use Rattle.std.specs.Prelude.{◌≡◌, ℕ, suc, ◌*◌, ◌≤◌, IsTrue, List, [], ◌∷◌, length, slice_index}
 use Rattle.sp_netlist.specs.declared.parts.Child.{Child}
 use Rattle.sp_netlist.specs.Draft.{Draft}
 use Rattle.sp_netlist.specs.Signals.{Signals}

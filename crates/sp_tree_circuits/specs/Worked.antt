@@ -1,6 +1,6 @@
 -- A worked body: it writes the word 1 to an output, on the side of the branch that is taken of the core `chosen` of the timeline's
 -- examples.
-use Rattle.std.specs.Prelude.{◌≡◌, ℕ, List, [], ◌∷◌, None}
+use Rattle.std.specs.Prelude.{◌≡◌, List, [], ◌∷◌, None}
 use Rattle.sp_words.specs.Types.{int_type}
 use Rattle.sp_netlist.specs.declared.parts.Child.{Child}
 use Rattle.sp_netlist.specs.Draft.{Draft}
