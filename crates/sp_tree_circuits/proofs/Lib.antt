@@ -1,0 +1,25 @@
+mod Alike
+mod Bodies
+mod Bounded
+mod Given
+mod Inside
+mod Lanes
+mod Listing
+mod Looping
+mod Loops
+mod MachineEvents
+mod MachineLists
+mod Machines
+pub mod Mapping
+mod Numbers
+mod Ready
+mod Sides
+mod StageEvents
+mod StageLists
+mod StageRuns
+mod StageStands
+mod Stages
+mod Wanted
+mod Whole
+mod Words
+mod WorkedBody
