@@ -28,7 +28,7 @@ use Rattle.sp_part_events.specs.Agreeing.{Agree, AgreeIn, SidesAgree, MachinesAg
 use Rattle.sp_part_events.proofs.Tests.{weight, some_weigh, weigh_some, none_weigh}
 
 -- lists in which each event weighs as much agree
-agree_by : (whole part : List Stamped) (n : ℕ) → ((t c : ℕ) (e : Event) → e.number ≡ n → sum_by (weight t c e) whole ≡ sum_by (weight t c e) part) → Agree whole part n
+pub agree_by : (whole part : List Stamped) (n : ℕ) → ((t c : ℕ) (e : Event) → e.number ≡ n → sum_by (weight t c e) whole ≡ sum_by (weight t c e) part) → Agree whole part n
 agree_by whole part n same = record {
   into = λ t e h. (let w = some_weigh t h.copy e whole h.there in let q = same t h.copy e h.numbered in weigh_some t h.copy e n h.numbered part (omega (arith, w, q)));
   back = λ t e h. (let w = some_weigh t h.copy e part h.there in let q = same t h.copy e h.numbered in weigh_some t h.copy e n h.numbered whole (omega (arith, w, q)));
@@ -46,7 +46,7 @@ each_told : (low high : ℕ) (es : List Stamped) → Each (IsWithin low high) (t
 each_told low high [] h = tt
 each_told low high (e ∷ es) h = (h.0, each_told low high es h.1)
 
-later_within : (low high n : ℕ) (es : List Stamped) → AreWithin low high es → AreWithin low high (later n es)
+pub later_within : (low high n : ℕ) (es : List Stamped) → AreWithin low high es → AreWithin low high (later n es)
 later_within low high n [] h = tt
 later_within low high n (e ∷ es) h = (h.0, later_within low high n es h.1)
 
@@ -67,16 +67,16 @@ told_list copies f i n st (op ∷ ops) (e ∷ es) =
     ∙ ap (λ z. entry_moments n st op.kind op.mem e ++ z) (told_list copies f (suc i) (suc n) st ops es)
 
 module _ (core : PlainCore) where
-  row_within : (copies : Copies) (n : ℕ) (st : Standing) (ops : List PlainOp) (es : List Entry) → AreWithin n (n + length ops) (list_run core copies n st ops es).events
+  pub row_within : (copies : Copies) (n : ℕ) (st : Standing) (ops : List PlainOp) (es : List Entry) → AreWithin n (n + length ops) (list_run core copies n st ops es).events
   row_within copies n st ops es =
       each_told n (n + length ops) _ (subst (Each (IsWithin n (n + length ops))) (sym (told_list copies (in_a_row core ops) 0 n st ops es))
       (within core (ListHas ops n) n (n + length ops) (list_range ops n) (list_moments n st ops es) (list_has core (ListHas ops n) ops es n st (λ x i q. q))))
 
-  kept_within : (copies : Copies) (n : ℕ) (st : Standing) (ops : List PlainOp) (es : List Entry) (state word : ℕ) → AreWithin n (n + length ops) (kept_run core copies n st ops es state word).events
+  pub kept_within : (copies : Copies) (n : ℕ) (st : Standing) (ops : List PlainOp) (es : List Entry) (state word : ℕ) → AreWithin n (n + length ops) (kept_run core copies n st ops es state word).events
   kept_within copies n st ops es state word = each_append (λ x. IsWithin n (n + length ops) x.moment) (list_run core copies n st ops es).events _ (row_within copies n st ops es) (tt, tt)
 
   module _ (plan : PlainPlan) (delays : Delays) (tells : (node : PlainNode) → TellsAll core plan delays node) (numbers : (node : PlainNode) → NumbersAreWithin core node) where
-    runs_within : (node : PlainNode) (k n : ℕ) → IsTimed node → (runs : List Placed) → AreWithin n (n + number_count node) (all_events core plan delays node k n runs)
+    pub runs_within : (node : PlainNode) (k n : ℕ) → IsTimed node → (runs : List Placed) → AreWithin n (n + number_count node) (all_events core plan delays node k n runs)
     runs_within node k n timed_node [] = tt
     runs_within node k n timed_node (r ∷ runs) =
         each_append (λ x. IsWithin n (n + number_count node) x.moment) (events_of core plan delays node k n r) (all_events core plan delays node k n runs)

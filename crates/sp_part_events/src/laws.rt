@@ -3,6 +3,8 @@
 ghost use Rattle.sp_core.specs.PlainCore.{PlainCore};
 ghost use Rattle.sp_machine.specs.Transfers.{Delays};
 ghost use Rattle.sp_part_events.specs.Agreeing.{AgreeLaws, MachinesAgree, SidesAgree, StagesAgree};
+ghost use Rattle.sp_part_events.specs.Example.{WorkedAgreement};
+ghost use Rattle.sp_part_events.specs.Lists.{BranchTestsAgree, MachineListsAgree};
 ghost use Rattle.sp_plan.specs.PlainPlan.{PlainPlan};
 
 use sp_machine::timelines_tell_all;
@@ -41,3 +43,26 @@ pub fn stages_agree()
     stages_are_told();
     timelines_tell_all();
 }
+
+/// At the numbers of its test, what happens in runs of a branch is what the test's operations did in the runs of the list.
+pub fn branch_tests_agree()
+    ensures { (core : PlainCore) (plan : PlainPlan) (delays : Delays) → BranchTestsAgree core plan delays }
+{
+    numbers_are_within();
+    sides_are_told();
+    timelines_tell_all();
+}
+
+/// So at the numbers of the start, the test and the next state of an FSM.
+pub fn machine_lists_agree()
+    ensures { (core : PlainCore) (plan : PlainPlan) (delays : Delays) → MachineListsAgree core plan delays }
+{
+    bodies_are_told();
+    numbers_are_within();
+    timelines_tell_all();
+}
+
+/// A worked whole and its part. It does nothing: what it ensures is the example.
+pub fn worked_agreement()
+    ensures { WorkedAgreement }
+{}

@@ -3,4 +3,7 @@
 
 mod laws;
 
-pub use laws::{agreement, machines_agree, sides_agree, stages_agree};
+pub use laws::{
+    agreement, branch_tests_agree, machine_lists_agree, machines_agree, sides_agree, stages_agree,
+    worked_agreement,
+};
