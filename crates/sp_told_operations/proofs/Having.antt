@@ -19,7 +19,8 @@ use Rattle.sp_machine.specs.Timeline.{core_timed}
 use Rattle.sp_machine.specs.Transfers.{Delays}
 use Rattle.sp_overlap.specs.Whole.{IsTimed, AreTimed}
 use Rattle.sp_told_operations.specs.Items.{Item, operation, transfer, ListHas, TransferHas, CountersHave, SpansHave, NodeHas, StagesHave}
-use Rattle.sp_told_operations.specs.Laws.{Does, IsOfItem, EventsAreOfItems, TimelinesAreOfItems}
+use Rattle.sp_told_operations.specs.Laws.{Does, IsOfItem, EventsAreOfItems, TimelinesAreOfItems, IsWithin, NumbersAreWithin}
+use Rattle.sp_told_operations.proofs.Ranges.{IsRange, node_range}
 
 each_append : {A : Type 0} (Q : A → Type 0) (xs ys : List A) → Each Q xs → Each Q ys → Each Q (xs ++ ys)
 each_append Q [] ys h k = k
@@ -27,14 +28,14 @@ each_append Q (x ∷ xs) ys h k = (h.0, each_append Q xs ys h.1 k)
 
 module _ (core : PlainCore) where
   -- what is said of a moment by the items at numbers
-  abbrev IsOf : (ℕ → Item → Type 0) → Moment → Type 0
+  abbrev pub IsOf : (ℕ → Item → Type 0) → Moment → Type 0
   IsOf Has (touches e) = (i : Item) × Has e.number i × Does core i e
   IsOf Has _ = Unit {0}
 
-  abbrev AreOf : (ℕ → Item → Type 0) → List Moment → Type 0
+  abbrev pub AreOf : (ℕ → Item → Type 0) → List Moment → Type 0
   AreOf Has ms = Each (IsOf Has) ms
 
-  abbrev Holds : (Has More : ℕ → Item → Type 0) → Type 0
+  abbrev pub Holds : (Has More : ℕ → Item → Type 0) → Type 0
   Holds Has More = (x : ℕ) (i : Item) → Has x i → More x i
 
   join : (More : ℕ → Item → Type 0) (a b : List Moment) → AreOf More a → AreOf More b → AreOf More (a ++ b)
@@ -57,14 +58,14 @@ module _ (core : PlainCore) where
   list_first : (op : PlainOp) (ops : List PlainOp) (n : ℕ) → ListHas (op ∷ ops) n n (operation op)
   list_first op ops n = record { place = 0; within = omega arith; is = refl; numbered = omega arith }
 
-  list_has : (More : ℕ → Item → Type 0) (ops : List PlainOp) (es : List Entry) (n : ℕ) (st : Standing) → Holds (ListHas ops n) More → AreOf More (list_moments n st ops es)
+  pub list_has : (More : ℕ → Item → Type 0) (ops : List PlainOp) (es : List Entry) (n : ℕ) (st : Standing) → Holds (ListHas ops n) More → AreOf More (list_moments n st ops es)
   list_has More [] es n st into = tt
   list_has More (op ∷ ops) [] n st into = tt
   list_has More (op ∷ ops) (e ∷ es) n st into =
       join More (entry_moments n st op.kind op.mem e) (list_moments (suc n) st ops es) (entry_has More n st op e (into n (operation op) (list_first op ops n)))
       (list_has More ops es (suc n) st (λ x i h. into x i (list_later op ops n x i h)))
 
-  bounds_has : (More : ℕ → Item → Type 0) (counters : List PlainCounter) (bs : List Bounds) (n : ℕ) (st : Standing) → Holds (CountersHave counters n) More → AreOf More (bounds_moments n st counters bs)
+  pub bounds_has : (More : ℕ → Item → Type 0) (counters : List PlainCounter) (bs : List Bounds) (n : ℕ) (st : Standing) → Holds (CountersHave counters n) More → AreOf More (bounds_moments n st counters bs)
   bounds_has More [] bs n st into = tt
   bounds_has More (c ∷ counters) [] n st into = tt
   bounds_has More (c ∷ counters) (b ∷ bs) n st into =
@@ -150,7 +151,7 @@ module _ (core : PlainCore) where
   mutual
     unfolding moments group_moments stage_moments turn_moments
 
-    node_has : (node : PlainNode) (k n : ℕ) (st : Standing) (h : History) → IsTimed node → (More : ℕ → Item → Type 0) → Holds (NodeHas node n) More → AreOf More (moments core in_lanes node k n st h)
+    pub node_has : (node : PlainNode) (k n : ℕ) (st : Standing) (h : History) → IsTimed node → (More : ℕ → Item → Type 0) → Holds (NodeHas node n) More → AreOf More (moments core in_lanes node k n st h)
     node_has (inner counters owned ops comb) k n st (inner_ran bs counts groups) timed More into =
         join More (bounds_moments n (inside_at st k before []) counters bs) (body_moments core in_lanes k (n + counters_size counters) 0 st owned ops (group_values (loops_of in_lanes counters bs)) groups)
         (bounds_has More counters bs n (inside_at st k before []) (λ x i h. into x i (inl h))) (body_has More ops k (n + counters_size counters) (λ x i h. into x i (inr h)) 0 st owned (group_values (loops_of in_lanes counters bs)) groups)
@@ -214,6 +215,18 @@ module _ (core : PlainCore) where
   of_items (slices x ∷ ms) h = (tt, of_items ms h.1)
   of_items (renews m ∷ ms) h = (tt, of_items ms h.1)
   of_items (keeps m w ∷ ms) h = (tt, of_items ms h.1)
+
+-- items in a range make events in it
+module _ (core : PlainCore) (Has : ℕ → Item → Type 0) (low high : ℕ) (range : IsRange Has low high) where
+  pub within : (ms : List Moment) → AreOf core Has ms → Each (IsWithin low high) ms
+  within [] h = tt
+  within (touches e ∷ ms) h = ((range.above e.number h.0.0 h.0.1, range.below e.number h.0.0 h.0.1), within ms h.1)
+  within (slices x ∷ ms) h = (tt, within ms h.1)
+  within (renews m ∷ ms) h = (tt, within ms h.1)
+  within (keeps m w ∷ ms) h = (tt, within ms h.1)
+
+pub numbers_are_within : (core : PlainCore) (node : PlainNode) → NumbersAreWithin core node
+numbers_are_within core node timed k n st h = within core (NodeHas node n) n (n + number_count node) (node_range node n) _ (node_has core node k n st h timed (NodeHas node n) (λ x i q. q))
 
 pub events_are_of_items : (core : PlainCore) → EventsAreOfItems core
 events_are_of_items core timed h = of_items core _ (node_has core core.root 0 0 (record { path = []; counters = [] }) h timed (NodeHas core.root 0) (λ x i q. q))

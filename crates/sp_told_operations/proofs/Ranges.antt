@@ -53,7 +53,7 @@ list_one ops n x (operation o) (operation p) h k = ap operation (same_place ops 
 list_one ops n x (operation o) (transfer r m) h k = absurd k
 list_one ops n x (transfer r m) j h k = absurd h
 
-list_range : (ops : List PlainOp) (n : ℕ) → IsRange (ListHas ops n) n (n + length ops)
+pub list_range : (ops : List PlainOp) (n : ℕ) → IsRange (ListHas ops n) n (n + length ops)
 list_range ops n = record { above = list_above ops n; below = list_below ops n; one = list_one ops n }
 
 move_number : (n r m x : ℕ) (i : Item) → TransferHas n r m x i → x ≡ n
@@ -79,7 +79,7 @@ wide Has low high more h l = record { above = h.above; below = λ x i g. (let b 
 two_range : (a b : List PlainOp) (n : ℕ) → IsRange (λ x i. ListHas a n x i ⊎ ListHas b (n + length a) x i) n (n + (length a + length b))
 two_range a b n = joined (ListHas a n) (ListHas b (n + length a)) n (n + length a) (n + length a) (n + (length a + length b)) (list_range a n) (wide (ListHas b (n + length a)) _ _ _ (list_range b (n + length a)) (omega arith)) (omega arith) (omega arith) (omega arith)
 
-counters_range : (counters : List PlainCounter) (n : ℕ) → IsRange (CountersHave counters n) n (n + counters_size counters)
+pub counters_range : (counters : List PlainCounter) (n : ℕ) → IsRange (CountersHave counters n) n (n + counters_size counters)
 counters_range [] n = none_in n (n + 0)
 counters_range (c ∷ counters) n =
     joined (λ x i. ListHas c.from n x i ⊎ ListHas c.until (n + length c.from) x i) (CountersHave counters (n + (length c.from + length c.until))) n (n + (length c.from + length c.until)) (n + (length c.from + length c.until)) (n + ((length c.from + length c.until) + counters_size counters))

@@ -1,11 +1,12 @@
 -- Which operation or transfer each event of a run is of, by its number, as statements.
-use Rattle.std.specs.Prelude.{◌≡◌, ℕ, ◌⊎◌, Some}
+use Rattle.std.specs.Prelude.{◌≡◌, ℕ, ◌≤◌, ◌<◌, ◌+◌, ◌⊎◌, Some}
 use Rattle.sp_words.specs.declared.kind.Kind.{Kind}
 use Rattle.sp_words.specs.declared.kind.Kind.TheVariants.{Sram, LineBuf}
 use Rattle.sp_core.specs.Declarations.{kind_of, dram_number}
-use Rattle.sp_core.specs.Events.{Event, act_of, Moment, touches, core_moments}
+use Rattle.sp_core.specs.Events.{Standing, Event, act_of, Moment, touches, moments, core_moments}
 use Rattle.sp_core.specs.History.{History}
 use Rattle.sp_core.specs.Invariant.{IsCore}
+use Rattle.sp_core.specs.Numbering.{number_count}
 use Rattle.sp_core.specs.PlainCore.{PlainNode, PlainCore}
 use Rattle.sp_core.specs.Scope.{in_lanes}
 use Rattle.sp_plan.specs.PlainPlan.{PlainPlan}
@@ -31,6 +32,15 @@ EventsAreOfItems core = IsTimed core.root → (h : History) → Each (IsOfItem c
 
 abbrev pub TimelinesAreOfItems : PlainCore → PlainPlan → Delays → Type 0
 TimelinesAreOfItems core plan delays = IsTimed core.root → (h : History) → Each (λ s. IsOfItem core s.moment) (core_timed core plan delays h).events
+
+-- events of numbers from one on and below another one
+abbrev pub IsWithin : (low high : ℕ) → Moment → Type 0
+IsWithin low high (touches e) = (low ≤ e.number) × (e.number < high)
+IsWithin low high _ = Unit {0}
+
+-- what happens in a part has the numbers of the part's items
+abbrev pub NumbersAreWithin : PlainCore → PlainNode → Type 0
+NumbersAreWithin core node = IsTimed node → (k n : ℕ) (st : Standing) (h : History) → Each (IsWithin n (n + number_count node)) (moments core in_lanes node k n st h)
 
 -- no number stands for two
 abbrev pub NumbersStandForOne : PlainNode → Type 0

@@ -4,7 +4,7 @@ ghost use Rattle.sp_core.specs.PlainCore.{PlainCore, PlainNode};
 ghost use Rattle.sp_machine.specs.Transfers.{Delays};
 ghost use Rattle.sp_plan.specs.PlainPlan.{PlainPlan};
 ghost use Rattle.sp_told_operations.specs.Example.{WorkedItems};
-ghost use Rattle.sp_told_operations.specs.Laws.{EventsAreOfItems, NumbersStandForOne, TimelinesAreOfItems, TransfersMove};
+ghost use Rattle.sp_told_operations.specs.Laws.{EventsAreOfItems, NumbersAreWithin, NumbersStandForOne, TimelinesAreOfItems, TransfersMove};
 
 use sp_machine::timelines_tell_all;
 
@@ -25,6 +25,11 @@ pub fn timelines_are_of_items()
 {
     timelines_tell_all();
 }
+
+/// What happens in a run of a part has the numbers of the part's items.
+pub fn numbers_are_within()
+    ensures { (core : PlainCore) (node : PlainNode) → NumbersAreWithin core node }
+{}
 
 /// The memory of a transfer is an SRAM or a line buffer.
 pub fn transfers_move()

@@ -4,6 +4,6 @@
 mod laws;
 
 pub use laws::{
-    events_are_of_items, numbers_stand_for_one, timelines_are_of_items, transfers_move,
-    worked_items,
+    events_are_of_items, numbers_are_within, numbers_stand_for_one, timelines_are_of_items,
+    transfers_move, worked_items,
 };

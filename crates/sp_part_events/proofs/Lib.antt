@@ -1,0 +1,5 @@
+pub mod Tests
+pub mod Following
+pub mod Stepping
+pub mod Listing
+pub mod Working
