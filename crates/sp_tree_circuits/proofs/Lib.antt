@@ -1,4 +1,5 @@
 mod Alike
+mod BeingTold
 mod Bodies
 mod Bounded
 mod Given

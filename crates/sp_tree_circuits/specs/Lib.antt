@@ -4,4 +4,5 @@ pub mod Circuits
 pub mod Example
 pub mod Laws
 pub mod Parts
+pub mod Told
 pub mod Worked

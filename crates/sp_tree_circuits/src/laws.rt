@@ -4,6 +4,7 @@ ghost use Rattle.sp_core.specs.PlainCore.{PlainCore};
 ghost use Rattle.sp_machine.specs.Transfers.{Delays};
 ghost use Rattle.sp_plan.specs.PlainPlan.{PlainPlan};
 ghost use Rattle.sp_tree_circuits.specs.Laws.{CirclesClose, CircuitsGo, CoresGo};
+ghost use Rattle.sp_tree_circuits.specs.Told.{LoopsAreTold};
 
 use sp_beat_runs::loops_are_in_timeline;
 use sp_group_words::words_go_along;
@@ -20,6 +21,40 @@ use sp_node_runs::{
 };
 use sp_time::beats_in_order;
 use sp_tree_bodies::{inners_run_so, loops_have_groups, parts_are_done, tests_tell, turns_tell};
+
+/// Where the circuit of a loop in beats goes as the timeline says up to a cycle, it is told one cycle further whether groups come, and of
+/// its members, in the cycles in which their turns are told, whether they are wanted.
+pub fn loops_are_told()
+    ensures { (core : PlainCore) (plan : PlainPlan) (delays : Delays) → LoopsAreTold core plan delays }
+{
+    timelines_tell_all();
+    sides_come_in_turn();
+    bodies_come_in_turn();
+    stages_come_in_turn();
+    sides_are_told();
+    bodies_are_told();
+    stages_are_told();
+    branches_of_nodes_work();
+    machines_of_nodes_work();
+    loops_of_nodes_work();
+    parts_fit();
+    stages_take_time();
+    parts_are_done();
+    inners_run_so();
+    tests_tell();
+    turns_tell();
+    loops_have_groups();
+    counted_inners_work();
+    single_inners_work();
+    lists_work();
+    bounds_stand();
+    spans_stand();
+    rows_stand();
+    loops_tell();
+    beats_in_order();
+    loops_are_in_timeline();
+    words_go_along();
+}
 
 /// Where the circuit of a tree is started in the cycles of the runs of its root, up to a cycle, the counters around it stand, what it
 /// reads is answered with what the timeline found, and its transfers move in time, each part of it is started in the cycles of its own
