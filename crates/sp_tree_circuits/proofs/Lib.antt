@@ -2,6 +2,7 @@ mod Alike
 mod BeingTold
 mod Bodies
 mod Bounded
+mod Building
 mod Given
 mod Inside
 mod Lanes

@@ -3,7 +3,7 @@
 ghost use Rattle.sp_core.specs.PlainCore.{PlainCore};
 ghost use Rattle.sp_machine.specs.Transfers.{Delays};
 ghost use Rattle.sp_plan.specs.PlainPlan.{PlainPlan};
-ghost use Rattle.sp_tree_circuits.specs.Laws.{CirclesClose, CircuitsGo, CoresGo};
+ghost use Rattle.sp_tree_circuits.specs.Laws.{CirclesClose, CircuitsAreBuilt, CircuitsGo, CoresGo};
 ghost use Rattle.sp_tree_circuits.specs.Told.{LoopsAreTold};
 
 use sp_beat_runs::loops_are_in_timeline;
@@ -61,6 +61,40 @@ pub fn loops_are_told()
 /// runs and done where they are over, and each access acts at the events of its operation and at no other, up to that cycle.
 pub fn circuits_go_as_told()
     ensures { (core : PlainCore) (plan : PlainPlan) (delays : Delays) → CircuitsGo core plan delays }
+{
+    timelines_tell_all();
+    sides_come_in_turn();
+    bodies_come_in_turn();
+    stages_come_in_turn();
+    sides_are_told();
+    bodies_are_told();
+    stages_are_told();
+    branches_of_nodes_work();
+    machines_of_nodes_work();
+    loops_of_nodes_work();
+    parts_fit();
+    stages_take_time();
+    parts_are_done();
+    inners_run_so();
+    tests_tell();
+    turns_tell();
+    loops_have_groups();
+    counted_inners_work();
+    single_inners_work();
+    lists_work();
+    bounds_stand();
+    spans_stand();
+    rows_stand();
+    loops_tell();
+    beats_in_order();
+    loops_are_in_timeline();
+    words_go_along();
+}
+
+/// Such a circuit is built as the laws of trees ask for it (`bodies_go_as_told` of `sp_tree_bodies`), up to a cycle, where it is started
+/// in time up to the cycle before.
+pub fn circuits_are_built()
+    ensures { (core : PlainCore) (plan : PlainPlan) (delays : Delays) → CircuitsAreBuilt core plan delays }
 {
     timelines_tell_all();
     sides_come_in_turn();
