@@ -10,7 +10,7 @@ use Rattle.sp_node_control.proofs.Numbering.{numbered_map}
 use Rattle.sp_tree_bodies.specs.Scoped.{placed}
 use Rattle.sp_tree_circuits.specs.Circuits.{MemberCircuit}
 use Rattle.sp_tree_circuits.specs.Told.{LoopsAreTold}
-use Rattle.sp_tree_circuits.proofs.Given.{Laws}
+use Rattle.sp_tree_circuits.specs.Given.{Laws}
 use Rattle.sp_tree_circuits.proofs.Looping.{next_stepped}
 use Rattle.sp_tree_circuits.proofs.Ready.{Ready}
 use Rattle.sp_tree_circuits.proofs.Wanted.{says_wanted}

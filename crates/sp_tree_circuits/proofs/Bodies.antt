@@ -41,7 +41,7 @@ use Rattle.sp_tree_circuits.specs.Parts.{DirectNet, BoundCircuits, SpanCircuits}
 use Rattle.sp_tree_circuits.specs.Circuits.{Circuit}
 use Rattle.sp_tree_circuits.specs.Answers.{EachBound, EachSpan, Answered, TransfersMove, taken_in, SlicesStand}
 use Rattle.sp_tree_circuits.specs.Acts.{AreEventsOf, Acts}
-use Rattle.sp_tree_circuits.proofs.Given.{Laws}
+use Rattle.sp_tree_circuits.specs.Given.{Laws}
 use Rattle.sp_tree_circuits.proofs.Ready.{Ready, answered_in, acts_in}
 use Rattle.sp_tree_circuits.proofs.Sides.{done_of, fit_of}
 

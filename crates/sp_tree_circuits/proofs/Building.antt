@@ -26,7 +26,7 @@ use Rattle.sp_tree_circuits.specs.Acts.{Acts}
 use Rattle.sp_tree_circuits.specs.Circuits.{Circuit, StageCircuits}
 use Rattle.sp_tree_circuits.specs.Laws.{CircuitsAreBuilt}
 use Rattle.sp_tree_circuits.proofs.Bodies.{bound_nets, inner_loops, inner_runs, load_acts, store_acts}
-use Rattle.sp_tree_circuits.proofs.Given.{Laws}
+use Rattle.sp_tree_circuits.specs.Given.{Laws}
 use Rattle.sp_tree_circuits.proofs.Listing.{test_part}
 use Rattle.sp_tree_circuits.proofs.Loops.{stage_ready, told_to}
 use Rattle.sp_tree_circuits.proofs.StageStands.{stage_nets}

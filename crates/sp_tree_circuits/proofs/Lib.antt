@@ -3,7 +3,6 @@ mod BeingTold
 mod Bodies
 mod Bounded
 mod Building
-mod Given
 mod Inside
 mod Lanes
 mod Listing

@@ -40,7 +40,7 @@ use Rattle.sp_tree_circuits.specs.Circuits.{MemberCircuit, Circuit, StageCircuit
 use Rattle.sp_tree_circuits.specs.Answers.{EachBound}
 use Rattle.sp_tree_circuits.specs.Acts.{AreEventsOf, Acts, StagesAct}
 use Rattle.sp_tree_circuits.proofs.Alike.{of_part}
-use Rattle.sp_tree_circuits.proofs.Given.{Laws}
+use Rattle.sp_tree_circuits.specs.Given.{Laws}
 use Rattle.sp_tree_circuits.proofs.Looping.{ran, outers, takes, Stepping, Looping, none_stepped, next_stepped}
 use Rattle.sp_tree_circuits.proofs.Ready.{earlier as until_then, Ready, ready_earlier, part_of}
 use Rattle.sp_tree_circuits.proofs.StageEvents.{all, in_stage, stage_of, from_first, up_to_last}

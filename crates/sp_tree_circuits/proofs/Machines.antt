@@ -26,7 +26,7 @@ use Rattle.sp_tree_bodies.specs.Turns.{start_list, test_lists_in, next_lists_in,
 use Rattle.sp_tree_circuits.specs.Circuits.{Circuit}
 use Rattle.sp_tree_circuits.specs.Acts.{AreEventsOf, Acts}
 use Rattle.sp_tree_circuits.proofs.Alike.{of_part}
-use Rattle.sp_tree_circuits.proofs.Given.{Laws}
+use Rattle.sp_tree_circuits.specs.Given.{Laws}
 use Rattle.sp_tree_circuits.proofs.Inside.{inside, alone, scoped_from}
 use Rattle.sp_tree_circuits.proofs.Listing.{test_part, list_acts}
 use Rattle.sp_tree_circuits.proofs.MachineEvents.{all, starts, tests as all_tests_events, nexts as all_nexts_events, bodies, starts_of, tests_of, nexts_of, bodies_of}

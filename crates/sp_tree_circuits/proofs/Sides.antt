@@ -36,7 +36,7 @@ use Rattle.sp_tree_bodies.specs.Scopes.{tested_in, test_list}
 use Rattle.sp_tree_circuits.specs.Circuits.{Circuit}
 use Rattle.sp_tree_circuits.specs.Acts.{AreEventsOf, Acts}
 use Rattle.sp_tree_circuits.proofs.Alike.{weigh, none_like, by_weights, of_part}
-use Rattle.sp_tree_circuits.proofs.Given.{Laws}
+use Rattle.sp_tree_circuits.specs.Given.{Laws}
 use Rattle.sp_tree_circuits.proofs.Inside.{inside, alone, scoped_from}
 use Rattle.sp_tree_circuits.proofs.Listing.{listed_within, one_did, test_part, list_acts}
 use Rattle.sp_tree_circuits.proofs.Numbers.{numbers_within}

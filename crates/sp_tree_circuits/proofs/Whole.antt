@@ -25,7 +25,7 @@ use Rattle.sp_tree_circuits.specs.Circuits.{Circuit, StageCircuits}
 use Rattle.sp_tree_circuits.specs.Laws.{CircuitsGo, core_run, core_events, CoresGo, CirclesClose}
 use Rattle.sp_tree_circuits.proofs.Alike.{of_itself}
 use Rattle.sp_tree_circuits.proofs.Bodies.{inner_acts, load_acts, store_acts}
-use Rattle.sp_tree_circuits.proofs.Given.{Laws}
+use Rattle.sp_tree_circuits.specs.Given.{Laws}
 use Rattle.sp_tree_circuits.proofs.Loops.{StageGoes, loop_acts}
 use Rattle.sp_tree_circuits.proofs.Machines.{body_ready, machine_acts}
 use Rattle.sp_tree_circuits.proofs.Ready.{earlier, Ready, ready_earlier}

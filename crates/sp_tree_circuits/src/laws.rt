@@ -3,6 +3,7 @@
 ghost use Rattle.sp_core.specs.PlainCore.{PlainCore};
 ghost use Rattle.sp_machine.specs.Transfers.{Delays};
 ghost use Rattle.sp_plan.specs.PlainPlan.{PlainPlan};
+ghost use Rattle.sp_tree_circuits.specs.Given.{Laws};
 ghost use Rattle.sp_tree_circuits.specs.Laws.{CirclesClose, CircuitsAreBuilt, CircuitsGo, CoresGo};
 ghost use Rattle.sp_tree_circuits.specs.Told.{LoopsAreTold};
 
@@ -22,10 +23,9 @@ use sp_node_runs::{
 use sp_time::beats_in_order;
 use sp_tree_bodies::{inners_run_so, loops_have_groups, parts_are_done, tests_tell, turns_tell};
 
-/// Where the circuit of a loop in beats goes as the timeline says up to a cycle, it is told one cycle further whether groups come, and of
-/// its members, in the cycles in which their turns are told, whether they are wanted.
-pub fn loops_are_told()
-    ensures { (core : PlainCore) (plan : PlainPlan) (delays : Delays) → LoopsAreTold core plan delays }
+/// The laws of the crates below, together.
+fn laws_below()
+    ensures { (core : PlainCore) (plan : PlainPlan) (delays : Delays) → Laws core plan delays }
 {
     timelines_tell_all();
     sides_come_in_turn();
@@ -54,6 +54,14 @@ pub fn loops_are_told()
     beats_in_order();
     loops_are_in_timeline();
     words_go_along();
+}
+
+/// Where the circuit of a loop in beats goes as the timeline says up to a cycle, it is told one cycle further whether groups come, and of
+/// its members, in the cycles in which their turns are told, whether they are wanted.
+pub fn loops_are_told()
+    ensures { (core : PlainCore) (plan : PlainPlan) (delays : Delays) → LoopsAreTold core plan delays }
+{
+    laws_below();
 }
 
 /// Where the circuit of a tree is started in the cycles of the runs of its root, up to a cycle, the counters around it stand, what it
@@ -62,33 +70,7 @@ pub fn loops_are_told()
 pub fn circuits_go_as_told()
     ensures { (core : PlainCore) (plan : PlainPlan) (delays : Delays) → CircuitsGo core plan delays }
 {
-    timelines_tell_all();
-    sides_come_in_turn();
-    bodies_come_in_turn();
-    stages_come_in_turn();
-    sides_are_told();
-    bodies_are_told();
-    stages_are_told();
-    branches_of_nodes_work();
-    machines_of_nodes_work();
-    loops_of_nodes_work();
-    parts_fit();
-    stages_take_time();
-    parts_are_done();
-    inners_run_so();
-    tests_tell();
-    turns_tell();
-    loops_have_groups();
-    counted_inners_work();
-    single_inners_work();
-    lists_work();
-    bounds_stand();
-    spans_stand();
-    rows_stand();
-    loops_tell();
-    beats_in_order();
-    loops_are_in_timeline();
-    words_go_along();
+    laws_below();
 }
 
 /// Such a circuit is built as the laws of trees ask for it (`bodies_go_as_told` of `sp_tree_bodies`), up to a cycle, where it is started
@@ -96,36 +78,10 @@ pub fn circuits_go_as_told()
 pub fn circuits_are_built()
     ensures { (core : PlainCore) (plan : PlainPlan) (delays : Delays) → CircuitsAreBuilt core plan delays }
 {
-    timelines_tell_all();
-    sides_come_in_turn();
-    bodies_come_in_turn();
-    stages_come_in_turn();
-    sides_are_told();
-    bodies_are_told();
-    stages_are_told();
-    branches_of_nodes_work();
-    machines_of_nodes_work();
-    loops_of_nodes_work();
-    parts_fit();
-    stages_take_time();
-    parts_are_done();
-    inners_run_so();
-    tests_tell();
-    turns_tell();
-    loops_have_groups();
-    counted_inners_work();
-    single_inners_work();
-    lists_work();
-    bounds_stand();
-    spans_stand();
-    rows_stand();
-    loops_tell();
-    beats_in_order();
-    loops_are_in_timeline();
-    words_go_along();
+    laws_below();
 }
 
-/// So it is of the circuit of a core, started once.
+/// The circuit of a core's root, around which nothing stands, goes so where it is started once.
 pub fn cores_go_as_told()
     ensures { (core : PlainCore) (plan : PlainPlan) (delays : Delays) → CoresGo core plan delays }
 {
