@@ -41,7 +41,7 @@ use Rattle.sp_tree_circuits.specs.Parts.{DirectNet, BoundCircuits, SpanCircuits}
 use Rattle.sp_tree_circuits.specs.Circuits.{Circuit}
 use Rattle.sp_tree_circuits.specs.Answers.{EachBound, EachSpan, Answered, TransfersMove, taken_in, SlicesStand}
 use Rattle.sp_tree_circuits.specs.Acts.{AreEventsOf, Acts}
-use Rattle.sp_tree_circuits.proofs.Given.{Laws}
+use Rattle.sp_tree_circuits.specs.Given.{Laws}
 use Rattle.sp_tree_circuits.proofs.Ready.{Ready, answered_in, acts_in}
 use Rattle.sp_tree_circuits.proofs.Sides.{done_of, fit_of}
 
@@ -114,13 +114,13 @@ module _ (core : PlainCore) (plan : PlainPlan) (delays : Delays) (laws : Laws co
         (λ x h. sub x (taken_first q.run.cycle q.run.copies (bounds_moments n (inside_at q.run.standing k before []) counters bs) _ x h))
     one_loops draft runs_on counts nets q h done fits sub stand l = elim done [ ]
 
-    inner_loops : (draft : Draft) → RunsOn s draft.cells → (counts : List Count) → AreBoundNets s draft own t near env n counters counts → (r : Placed) → Contains (placed qs) r → r.cycle ≤ t → AreLoopsAt s r.cycle counts (loops_in counters r.history)
+    pub inner_loops : (draft : Draft) → RunsOn s draft.cells → (counts : List Count) → AreBoundNets s draft own t near env n counters counts → (r : Placed) → Contains (placed qs) r → r.cycle ≤ t → AreLoopsAt s r.cycle counts (loops_in counters r.history)
     inner_loops draft runs_on counts nets r c l =
         let x = mapped_from (λ (q : Scoped). q.run) qs r c in
         subst (λ (r : Placed). r.cycle ≤ t → AreLoopsAt s r.cycle counts (loops_in counters r.history)) x.2
         (λ l. one_loops draft runs_on counts nets x.0 x.0.run.history (done_of whole qs ready.did.done x.0 x.1) (fit_of core plan delays whole qs ready.did.fits x.0 x.1) (λ y h. happens_in whole k n qs x.0 x.1 y h) (stands_first whole k n qs tt ready x.0 x.1 l) l) l
 
-    inner_runs : InnerRuns core plan delays s t k n counters owned ops comb near env (scopes_of qs) (placed qs)
+    pub inner_runs : InnerRuns core plan delays s t k n counters owned ops comb near env (scopes_of qs) (placed qs)
     inner_runs = laws.inners s t k n counters owned ops comb near env around earlier ready.from ready.until qs right ready.did.done ready.did.fits ready.did.in_turn (λ q u c a b l. ready.stand q u c (omega (arith, a)) b l)
 
   -- an inner body

@@ -1,7 +1,8 @@
 mod Alike
+mod BeingTold
 mod Bodies
 mod Bounded
-mod Given
+mod Building
 mod Inside
 mod Lanes
 mod Listing

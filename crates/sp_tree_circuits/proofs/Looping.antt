@@ -42,7 +42,7 @@ use Rattle.sp_tree_bodies.specs.Scoped.{Scoped, placed}
 use Rattle.sp_tree_circuits.specs.Circuits.{Circuit}
 use Rattle.sp_tree_circuits.specs.Answers.{EachBound}
 use Rattle.sp_tree_circuits.proofs.Bodies.{taken_first, bound_nets, stands_first, happens_in}
-use Rattle.sp_tree_circuits.proofs.Given.{Laws}
+use Rattle.sp_tree_circuits.specs.Given.{Laws}
 use Rattle.sp_tree_circuits.proofs.Inside.{inside}
 use Rattle.sp_tree_circuits.proofs.Ready.{Ready}
 use Rattle.sp_tree_circuits.proofs.Sides.{done_of, fit_of}

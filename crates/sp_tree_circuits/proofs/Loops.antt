@@ -9,6 +9,7 @@ use Rattle.sp_core.specs.Invariant.{IsRight}
 use Rattle.sp_core.specs.Numbering.{counters_size, node_count, number_count}
 use Rattle.sp_core.specs.PlainCore.{PlainCounter, PlainNode, PlainStages, outer, no_stage, more_stage, PlainCore}
 use Rattle.sp_control_runs.specs.Parts.{Begins}
+use Rattle.sp_beat_runs.specs.Laws.{TellsMore}
 use Rattle.sp_beat_runs.specs.Runs.{slot_cycle, slot_found, groups_in}
 use Rattle.sp_sequence.specs.declared.part.Chain.{Chain}
 use Rattle.sp_sequence.specs.declared.part.Member.{Member}
@@ -34,11 +35,12 @@ use Rattle.sp_node_bodies.specs.Given.{Nets}
 use Rattle.sp_node_bodies.specs.Laws.{own_near}
 use Rattle.sp_node_bodies.specs.Told.{AreAnsweredInTime}
 use Rattle.sp_tree_bodies.specs.Scoped.{Scoped, placed, scoped_stages}
+use Rattle.sp_tree_control.specs.Trees.{IsMember, AreMembers}
 use Rattle.sp_tree_circuits.specs.Circuits.{MemberCircuit, Circuit, StageCircuits}
 use Rattle.sp_tree_circuits.specs.Answers.{EachBound}
 use Rattle.sp_tree_circuits.specs.Acts.{AreEventsOf, Acts, StagesAct}
 use Rattle.sp_tree_circuits.proofs.Alike.{of_part}
-use Rattle.sp_tree_circuits.proofs.Given.{Laws}
+use Rattle.sp_tree_circuits.specs.Given.{Laws}
 use Rattle.sp_tree_circuits.proofs.Looping.{ran, outers, takes, Stepping, Looping, none_stepped, next_stepped}
 use Rattle.sp_tree_circuits.proofs.Ready.{earlier as until_then, Ready, ready_earlier, part_of}
 use Rattle.sp_tree_circuits.proofs.StageEvents.{all, in_stage, stage_of, from_first, up_to_last}
@@ -76,14 +78,14 @@ module _ (core : PlainCore) (plan : PlainPlan) (delays : Delays) (laws : Laws co
   abbrev scoped : (stage : ℕ) → List Scoped
   scoped i = stage_scoped core plan delays laws s events last near env around earlier k n counters style owned stages right is c w answered qs t le ready i
 
-  same : (i : ℕ) → placed (scoped_stages core plan delays counters owned stages k n i qs) ≡ stage_runs core plan delays counters owned stages k n i (placed qs)
+  pub same : (i : ℕ) → placed (scoped_stages core plan delays counters owned stages k n i qs) ≡ stage_runs core plan delays counters owned stages k n i (placed qs)
   same i = laws.parts.stages k n counters owned stages i qs
 
   abbrev ReadyAt : (u : ℕ) → PlainNode → (j m i : ℕ) → Type 0
   ReadyAt u node j m i = IsReady core plan delays s events last (own_near counters near) (stage_nets core plan delays laws s events last near env around earlier k n counters style owned stages right is c w answered qs t le ready) (stage_scoped core plan delays laws s events last near env around earlier k n counters style owned stages right is c w answered qs t le ready) w.child u node j m i
 
   -- what is asked of a stage
-  stage_ready : (m : ℕ) → ((i : ℕ) → i < stage_count stages → StageStands core plan delays laws s events last near env around earlier k n counters style owned stages right is c w answered qs t le ready i m) → (i : ℕ) → i < stage_count stages → ReadyAt m (stage_at stages i) (node_at stages (suc k) i) (number i) i
+  pub stage_ready : (m : ℕ) → ((i : ℕ) → i < stage_count stages → StageStands core plan delays laws s events last near env around earlier k n counters style owned stages right is c w answered qs t le ready i m) → (i : ℕ) → i < stage_count stages → ReadyAt m (stage_at stages i) (node_at stages (suc k) i) (number i) i
   stage_ready m stands i few = record {
     from = ready.from;
     until = ready.until;
@@ -159,19 +161,55 @@ module _ (core : PlainCore) (plan : PlainPlan) (delays : Delays) (laws : Laws co
       }
 
   -- each stage is started in the cycles of its runs
-  stage_started : Looping core plan delays laws s events last near env around earlier k n counters style owned stages right is c w answered qs t le ready t → (i : ℕ) → i < stage_count stages → IsStarted s (w.child i).start (stage_rans core plan delays k n counters owned stages w.places i (placed qs)) t
-  stage_started g i few =
-      let Started : ℕ → ℕ → ℕ → Type 0 = λ x j i. IsStarted s (w.child (stage_in w.places x j i)).start (stage_rans core plan delays k n counters owned stages w.places (stage_in w.places x j i) (placed qs)) t in
-      let each = numbered_step _ (λ x (slot : Slot). Numbered (λ j (c : Chain). Numbered (λ i m. Started x j i) 0 c.members.items) 0 slot.chains.items) 0 w.slots
-      (λ x slot h. numbered_step _ (λ j (c : Chain). Numbered (λ i m. Started x j i) 0 c.members.items) 0 slot.chains.items
-      (λ j c h. numbered_step _ (λ i m. Started x j i) 0 c.members.items
-      (λ i m h. subst (λ (c : Child). IsStarted s c.start (stage_rans core plan delays k n counters owned stages w.places (stage_in w.places x j i) (placed qs)) t) h.1.part h.0)
-      (numbered_both (λ i (m : Member). IsStarted s m.child.start (stage_rans core plan delays k n counters owned stages w.places (stage_in w.places x j i) (placed qs)) t) (λ i m. MemberCircuit s w.child counters stages w.nets w.rows w.places x j i m) 0 c.members.items h.0 h.1))
+  stage_started : (m : ℕ) → Looping core plan delays laws s events last near env around earlier k n counters style owned stages right is c w answered qs t le ready m → (i : ℕ) → i < stage_count stages → IsStarted s (w.child i).start (stage_rans core plan delays k n counters owned stages w.places i (placed qs)) m
+  stage_started m g i few =
+      let Started : ℕ → ℕ → ℕ → Type 0 = λ x j i. IsStarted s (w.child (stage_in w.places x j i)).start (stage_rans core plan delays k n counters owned stages w.places (stage_in w.places x j i) (placed qs)) m in
+      let each = numbered_step _ (λ x (slot : Slot). Numbered (λ j (c : Chain). Numbered (λ i mem. Started x j i) 0 c.members.items) 0 slot.chains.items) 0 w.slots
+      (λ x slot h. numbered_step _ (λ j (c : Chain). Numbered (λ i mem. Started x j i) 0 c.members.items) 0 slot.chains.items
+      (λ j c h. numbered_step _ (λ i mem. Started x j i) 0 c.members.items
+      (λ i mem h. subst (λ (c : Child). IsStarted s c.start (stage_rans core plan delays k n counters owned stages w.places (stage_in w.places x j i) (placed qs)) m) h.1.part h.0)
+      (numbered_both (λ i (mem : Member). IsStarted s mem.child.start (stage_rans core plan delays k n counters owned stages w.places (stage_in w.places x j i) (placed qs)) m) (λ i mem. MemberCircuit s w.child counters stages w.nets w.rows w.places x j i mem) 0 c.members.items h.0 h.1))
       (numbered_both _ _ 0 slot.chains.items h.0 h.1))
       (numbered_both _ _ 0 w.slots g.starts w.members) in
       let h = has_place w.places (slots_of (node_plan plan k)) w.arranged i (let z = w.size in omega (arith, z, few)) in
-      subst (λ m. IsStarted s (w.child m).start (stage_rans core plan delays k n counters owned stages w.places m (placed qs)) t) h.is
+      subst (λ o. IsStarted s (w.child o).start (stage_rans core plan delays k n counters owned stages w.places o (placed qs)) m) h.is
       (at_place Started w.slots w.places w.shaped each (slot_at (slots_of (node_plan plan k)) i).slot h.chain h.member h.place)
+
+  -- what it is told up to a cycle, where it is started in time up to the cycle before
+  pub record ToldTo (m : ℕ) : Type 0 where
+    pub tells : TellsMore s w.nets.more w.slots m (map (ran core plan delays laws s events last near env around earlier k n counters style owned stages right is c w answered qs t le ready) (placed qs))
+    pub stands : (i : ℕ) → i < stage_count stages → StageStands core plan delays laws s events last near env around earlier k n counters style owned stages right is c w answered qs t le ready i m
+    pub members : AreMembers core plan delays s m w.child k n counters owned stages w.places (placed qs) w.slots
+    pub begun : (u : ℕ) → suc u ≤ m → (i : ℕ) → i < stage_count stages → IsStarted s (w.child i).start (stage_rans core plan delays k n counters owned stages w.places i (placed qs)) u
+
+  as_members : (m : ℕ) → ((x j i : ℕ) (mem : Member) → MemberCircuit s w.child counters stages w.nets w.rows w.places x j i mem → SaysWanted s mem.wanted (turn (slot_cycle (sizes w.places) x) (λ q. slot_found x q j) i) (λ q. slot_found x q j i) (groups_in (map (ran core plan delays laws s events last near env around earlier k n counters style owned stages right is c w answered qs t le ready) (placed qs))) m)
+      → AreMembers core plan delays s m w.child k n counters owned stages w.places (placed qs) w.slots
+  as_members m says =
+      numbered_map _ _ 0 w.slots (λ x slot b f. numbered_map _ _ 0 slot.chains.items (λ j chain d g. numbered_map (λ i mem. MemberCircuit s w.child counters stages w.nets w.rows w.places x j i mem) _ 0 chain.members.items (λ i mem q h. one x j i mem h) g) f) w.members
+    where
+      one : (x j i : ℕ) (mem : Member) → MemberCircuit s w.child counters stages w.nets w.rows w.places x j i mem → IsMember core plan delays s m w.child k n counters owned stages w.places (shape_of w.slots) (placed qs) x j i mem
+      one x j i mem h = record {
+        stage = (let a = (in_slot w.places (slots_of (node_plan plan k)) w.arranged x j i h.place).0 in let z = w.size in omega (arith, a, z));
+        part = h.part;
+        wanted = subst (λ shape. SaysWanted s mem.wanted (turn (slot_cycle shape x) (λ q. slot_found x q j) i) (λ q. slot_found x q j i) (groups_in (map (ran core plan delays laws s events last near env around earlier k n counters style owned stages right is c w answered qs t le ready) (placed qs))) m) (sym w.shaped) (says x j i mem h);
+      }
+
+  pub told_to : (m : ℕ) → m ≤ t → ((u : ℕ) → suc u ≤ m → IsStarted s c.start (rans core plan delays whole k n (placed qs)) u) → ToldTo m
+  told_to zero l started = record {
+    tells = (none_stepped core plan delays laws s events last near env around earlier k n counters style owned stages right is c w answered qs t le ready).1;
+    stands = none_stand core plan delays laws s events last near env around earlier k n counters style owned stages right is c w answered qs t le ready;
+    members = as_members zero (λ x j i mem h. none_told core plan delays laws s events last near env around earlier k n counters style owned stages right is c w answered qs t le ready x j i mem);
+    begun = λ u few i low. absurd (omega (arith, few));
+  }
+  told_to (suc m) l started =
+      let g = goes_to m (omega (arith, l)) (started m (omega arith)) in
+      let stepping = next_stepped core plan delays laws s events last near env around earlier k n counters style owned stages right is c w answered qs t le ready m (omega (arith, l)) (started m (omega arith)) g.looping in
+      record {
+        tells = stepping.1;
+        stands = next_stand core plan delays laws s events last near env around earlier k n counters style owned stages right is c w answered qs t le ready m l g.stepping g.looping;
+        members = as_members (suc m) (λ x j i mem h. says_wanted core plan delays laws s events last near env around earlier k n counters style owned stages right is c w answered qs t le ready x j i mem h m stepping g.looping);
+        begun = λ u few i low. stage_started u (goes_to u (omega (arith, few, l)) (started u few)).looping i low;
+      }
 
   pub loop_acts : IsStarted s c.start (rans core plan delays whole k n (placed qs)) t → Acts core plan delays s events t whole near env k n qs c w
   loop_acts started =
@@ -181,5 +219,5 @@ module _ (core : PlainCore) (plan : PlainPlan) (delays : Delays) (laws : Laws co
         g.looping,
         stages_act core plan delays s events last (own_near counters near) (stage_nets core plan delays laws s events last near env around earlier k n counters style owned stages right is c w answered qs t le ready) (stage_scoped core plan delays laws s events last near env around earlier k n counters style owned stages right is c w answered qs t le ready) w.child t le stages (suc k) (n + counters_size counters) 0 w.parts goes
             (each_from BegunSo stages (suc k) (n + counters_size counters) 0 (λ i few. subst (BegunSo (stage_at stages i) (node_at stages (suc k) i) (number i)) {x = i} {y = 0 + i} (omega arith)
-            (stage_ready t g.stands i few, subst (λ rs. IsStarted s (w.child i).start (rans core plan delays (stage_at stages i) (node_at stages (suc k) i) (number i) rs) t) (sym (same i)) (stage_started g.looping i few)))),
+            (stage_ready t g.stands i few, subst (λ rs. IsStarted s (w.child i).start (rans core plan delays (stage_at stages i) (node_at stages (suc k) i) (number i) rs) t) (sym (same i)) (stage_started t g.looping i few)))),
       )

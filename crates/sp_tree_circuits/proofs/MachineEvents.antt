@@ -23,7 +23,7 @@ use Rattle.sp_tree_bodies.specs.Scoped.{Scoped, placed, AllAreDone}
 use Rattle.sp_tree_bodies.specs.Turns.{start_list, body_took, list_in_turn, tests_in, nexts_in, test_lists_in, next_lists_in, test_lists, next_lists}
 use Rattle.sp_tree_circuits.specs.Acts.{AreEventsOf}
 use Rattle.sp_tree_circuits.proofs.Alike.{weigh, none_like, by_weights}
-use Rattle.sp_tree_circuits.proofs.Given.{Laws}
+use Rattle.sp_tree_circuits.specs.Given.{Laws}
 use Rattle.sp_tree_circuits.proofs.Listing.{listed_within}
 use Rattle.sp_tree_circuits.proofs.Numbers.{numbers_within}
 

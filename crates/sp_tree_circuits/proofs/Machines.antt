@@ -26,7 +26,7 @@ use Rattle.sp_tree_bodies.specs.Turns.{start_list, test_lists_in, next_lists_in,
 use Rattle.sp_tree_circuits.specs.Circuits.{Circuit}
 use Rattle.sp_tree_circuits.specs.Acts.{AreEventsOf, Acts}
 use Rattle.sp_tree_circuits.proofs.Alike.{of_part}
-use Rattle.sp_tree_circuits.proofs.Given.{Laws}
+use Rattle.sp_tree_circuits.specs.Given.{Laws}
 use Rattle.sp_tree_circuits.proofs.Inside.{inside, alone, scoped_from}
 use Rattle.sp_tree_circuits.proofs.Listing.{test_part, list_acts}
 use Rattle.sp_tree_circuits.proofs.MachineEvents.{all, starts, tests as all_tests_events, nexts as all_nexts_events, bodies, starts_of, tests_of, nexts_of, bodies_of}
@@ -54,7 +54,7 @@ module _ (core : PlainCore) (plan : PlainPlan) (delays : Delays) (laws : Laws co
       inside core plan delays node (suc k) at_body r.cycle (over_at core plan delays whole k n r) (body_runs core plan delays start ops after node k n (r ∷ [])) turns b (Contains-append_left (body_in core plan delays start ops after node k n r r.history) [] b c)
 
   module _ (s : Signals) (events : List Stamped) (near : List Near) (env : Nets) (qs : List Scoped) (is : IsTimed whole) (t : ℕ) (ready : Ready core plan delays s events whole near env k n qs t) where
-    same_bodies : placed (scoped_bodies core plan delays start ops after node k n qs) ≡ body_runs core plan delays start ops after node k n (placed qs)
+    pub same_bodies : placed (scoped_bodies core plan delays start ops after node k n qs) ≡ body_runs core plan delays start ops after node k n (placed qs)
     same_bodies = laws.parts.bodies k n start ops node after qs
 
     -- what is asked of the body
@@ -91,43 +91,43 @@ module _ (core : PlainCore) (plan : PlainPlan) (delays : Delays) (laws : Laws co
     abbrev nexts_lists : List ListRun
     nexts_lists = next_lists core plan delays k n start ops node after qs
 
-    starts_stand : (l : ListRun) → Contains starts_lists l → suc l.cycle ≤ t → AreStanding s (suc l.cycle) near env l.scope
+    pub starts_stand : (l : ListRun) → Contains starts_lists l → suc l.cycle ≤ t → AreStanding s (suc l.cycle) near env l.scope
     starts_stand l c le = list_stands l (starts_in core plan delays k n start state ops node after qs (done_of whole qs ready.did.done) l c) le
 
-    tests_stand : (l : ListRun) → Contains tests_lists l → suc l.cycle ≤ t → AreStanding s (suc l.cycle) near env l.scope
+    pub tests_stand : (l : ListRun) → Contains tests_lists l → suc l.cycle ≤ t → AreStanding s (suc l.cycle) near env l.scope
     tests_stand l c le = list_stands l (tests_there core plan delays k n start state ops node after qs (done_of whole qs ready.did.done) l c) le
 
-    nexts_stand : (l : ListRun) → Contains nexts_lists l → suc l.cycle ≤ t → AreStanding s (suc l.cycle) near env l.scope
+    pub nexts_stand : (l : ListRun) → Contains nexts_lists l → suc l.cycle ≤ t → AreStanding s (suc l.cycle) near env l.scope
     nexts_stand l c le = list_stands l (nexts_there core plan delays k n start state ops node after qs (done_of whole qs ready.did.done) l c) le
 
-    told_starts : AreEventsOf events (all_listed core n start starts_lists) n (length start)
+    pub told_starts : AreEventsOf events (all_listed core n start starts_lists) n (length start)
     told_starts =
         of_part events (all core plan delays laws k n start state ops node after qs ready.did.done is) (starts core plan delays laws k n start state ops node after qs ready.did.done is) n (number_count whole) n (length start) ready.told
         (starts_of core plan delays laws k n start state ops node after qs ready.did.done is) (omega arith) (omega arith)
 
-    told_tests : AreEventsOf events (all_listed core at_test ops tests_lists) at_test (length ops)
+    pub told_tests : AreEventsOf events (all_listed core at_test ops tests_lists) at_test (length ops)
     told_tests =
         of_part events (all core plan delays laws k n start state ops node after qs ready.did.done is) (all_tests_events core plan delays laws k n start state ops node after qs ready.did.done is) n (number_count whole) at_test (length ops) ready.told
         (tests_of core plan delays laws k n start state ops node after qs ready.did.done is) (omega arith) (omega arith)
 
-    told_nexts : AreEventsOf events (all_listed core at_next after nexts_lists) at_next (length after)
+    pub told_nexts : AreEventsOf events (all_listed core at_next after nexts_lists) at_next (length after)
     told_nexts =
         of_part events (all core plan delays laws k n start state ops node after qs ready.did.done is) (all_nexts_events core plan delays laws k n start state ops node after qs ready.did.done is) n (number_count whole) at_next (length after) ready.told
         (nexts_of core plan delays laws k n start state ops node after qs ready.did.done is) (omega arith) (omega arith)
 
     module _ (around : Around) (before : List ℕ) (right : IsRight core around before whole) where
-      starts_did : (l : ListRun) → Contains starts_lists l → DidList l.scope start l.entries
+      pub starts_did : (l : ListRun) → Contains starts_lists l → DidList l.scope start l.entries
       starts_did l c =
           let y = mapped_from (start_list core plan delays k n start ops node after) qs l c in
           subst (λ (l : ListRun). DidList l.scope start l.entries) y.2
           (start_did core plan delays k n start state ops node after around before right y.0.scope y.0.run.history (done_of whole qs ready.did.done y.0 y.1) (fit_of core plan delays whole qs ready.did.fits y.0 y.1))
 
-      tests_did : (l : ListRun) → Contains tests_lists l → DidList l.scope ops l.entries
+      pub tests_did : (l : ListRun) → Contains tests_lists l → DidList l.scope ops l.entries
       tests_did l c =
           let y = joined_from (λ (q : Scoped). test_lists_in core plan delays k n start ops node after q q.run.history) qs l c in
           tests_in_run core plan delays k n start state ops node after around before right y.0 y.0.run.history (done_of whole qs ready.did.done y.0 y.1) (fit_of core plan delays whole qs ready.did.fits y.0 y.1) l y.2
 
-      nexts_did : (l : ListRun) → Contains nexts_lists l → DidList l.scope after l.entries
+      pub nexts_did : (l : ListRun) → Contains nexts_lists l → DidList l.scope after l.entries
       nexts_did l c =
           let y = joined_from (λ (q : Scoped). next_lists_in core plan delays k n start ops node after q q.run.history) qs l c in
           nexts_in_run core plan delays k n start state ops node after around before right y.0 y.0.run.history (done_of whole qs ready.did.done y.0 y.1) (fit_of core plan delays whole qs ready.did.fits y.0 y.1) l y.2

@@ -14,7 +14,7 @@ use Rattle.sp_core.specs.Sequential.{has_reset}
 use Rattle.sp_core.specs.Transfers.{Part, part_of, lengths, has_none, places_of, all_offsets, loaded_at}
 use Rattle.sp_plan.specs.PlainPlan.{PlainPlan}
 use Rattle.sp_machine.specs.Laws.{told, TellsAll}
-use Rattle.sp_machine.specs.Stamps.{Stamped}
+use Rattle.sp_machine.specs.Stamps.{Stamped, moved as moved_by}
 use Rattle.sp_machine.specs.Timeline.{timed}
 use Rattle.sp_machine.specs.Transfers.{Delays}
 use Rattle.sp_overlap.specs.Whole.{IsTimed, AreTimed}
@@ -244,8 +244,8 @@ pub numbers_within : (core : PlainCore) (plan : PlainPlan) (delays : Delays) (no
 numbers_within core plan delays node tells is k n runs number t e h =
     let x = joined_from (events_of core plan delays node k n) runs (record { cycle = t; copy = h.copy; moment = touches e }) h.there in
     let r : Placed = x.0 in
-    let y = mapped_from (λ (z : Stamped). record z { cycle = r.cycle + z.cycle }) (timed core plan delays node k n r.standing r.copies r.history).events (record { cycle = t; copy = h.copy; moment = touches e }) x.2 in
-    let same : y.0.moment ≡ touches e = ap (λ (z : Stamped). z.moment) y.2 in
+    let y = mapped_from (moved_by r.cycle) (timed core plan delays node k n r.standing r.copies r.history).events (record { cycle = t; copy = h.copy; moment = touches e }) x.2 in
+    let same : y.0.moment ≡ touches e = ap (λ (z : Stamped). z.moment) {x = moved_by r.cycle y.0} y.2 in
     let there = mapped_to (λ (z : Stamped). z.moment) (timed core plan delays node k n r.standing r.copies r.history).events y.0 y.1 in
     let w = within_node core node k n r.standing r.history is e (subst (λ ms. Contains ms (touches e)) (tells k n r.standing r.copies r.history) (subst (λ m. Contains (told (timed core plan delays node k n r.standing r.copies r.history).events) m) same there)) in
     let z = h.numbered in

@@ -36,7 +36,7 @@ use Rattle.sp_tree_bodies.specs.Scopes.{tested_in, test_list}
 use Rattle.sp_tree_circuits.specs.Circuits.{Circuit}
 use Rattle.sp_tree_circuits.specs.Acts.{AreEventsOf, Acts}
 use Rattle.sp_tree_circuits.proofs.Alike.{weigh, none_like, by_weights, of_part}
-use Rattle.sp_tree_circuits.proofs.Given.{Laws}
+use Rattle.sp_tree_circuits.specs.Given.{Laws}
 use Rattle.sp_tree_circuits.proofs.Inside.{inside, alone, scoped_from}
 use Rattle.sp_tree_circuits.proofs.Listing.{listed_within, one_did, test_part, list_acts}
 use Rattle.sp_tree_circuits.proofs.Numbers.{numbers_within}
@@ -137,7 +137,7 @@ module _ (core : PlainCore) (plan : PlainPlan) (delays : Delays) (laws : Laws co
   test_did around before scope (branch_ran es false h) right done fits = one_did core around ops Bit scope es (here_right core around before whole right.0).0 done.0 fits.0
   test_did around before scope h right done fits = elim done [ ]
 
-  same_rans : (qs : List Scoped) → map (list_ran core ops) (map (test_list k) qs) ≡ runs_of (map (λ r. test_run (branch_of core plan delays k n ops first second r)) (placed qs))
+  pub same_rans : (qs : List Scoped) → map (list_ran core ops) (map (test_list k) qs) ≡ runs_of (map (λ r. test_run (branch_of core plan delays k n ops first second r)) (placed qs))
   same_rans [] = refl
   same_rans (q ∷ qs) = ap (λ rest. list_ran core ops (test_list k q) ∷ rest) (same_rans qs)
 
@@ -187,19 +187,19 @@ module _ (core : PlainCore) (plan : PlainPlan) (delays : Delays) (laws : Laws co
         high false = omega arith
 
     module _ (last : ℕ) (le : t ≤ last) (around : Around) (before : List ℕ) (right : IsRight core around before whole) (c : Child) (w : Circuit core plan s whole near env k c) (answered : AreAnsweredInTime s events last n ops w.tests.ps) where
-      stands : (r : ListRun) → Contains (map (test_list k) qs) r → suc r.cycle ≤ t → AreStanding s (suc r.cycle) near env r.scope
+      pub stands : (r : ListRun) → Contains (map (test_list k) qs) r → suc r.cycle ≤ t → AreStanding s (suc r.cycle) near env r.scope
       stands r there l =
           let x = mapped_from (test_list k) qs r there in
           let m = lasts_one x.0.run x.0.run.history x.0.scope (done_of whole qs ready.did.done x.0 x.1) in
           subst (λ (y : ListRun). suc y.cycle ≤ t → AreStanding s (suc y.cycle) near env y.scope) x.2 (λ l. ready.stand x.0 (suc (suc x.0.run.cycle)) x.1 (omega arith) (omega (arith, m)) l) l
 
-      did : (r : ListRun) → Contains (map (test_list k) qs) r → DidList r.scope ops r.entries
+      pub did : (r : ListRun) → Contains (map (test_list k) qs) r → DidList r.scope ops r.entries
       did r there =
           let x = mapped_from (test_list k) qs r there in
           subst (λ (y : ListRun). DidList y.scope ops y.entries) x.2
           (test_did around before x.0.scope x.0.run.history right (done_of whole qs ready.did.done x.0 x.1) (fit_of core plan delays whole qs ready.did.fits x.0 x.1))
 
-      told_tests : AreEventsOf events (all_listed core n ops (map (test_list k) qs)) n (length ops)
+      pub told_tests : AreEventsOf events (all_listed core n ops (map (test_list k) qs)) n (length ops)
       told_tests = of_part events (all qs ready.did.done is) (listed qs ready.did.done is) n (number_count whole) n (length ops) ready.told (tests_of qs ready.did.done is) (omega arith) (omega arith)
 
       pub branch_acts : Goes core plan delays s events first near env (suc k) (n + length ops) (scoped_sides core plan delays ops k true qs) w.chosen w.one t

@@ -26,7 +26,7 @@ use Rattle.sp_tree_bodies.specs.Done.{AllDone}
 use Rattle.sp_tree_bodies.specs.Scoped.{Scoped, placed, AllAreDone}
 use Rattle.sp_tree_circuits.specs.Acts.{AreEventsOf}
 use Rattle.sp_tree_circuits.proofs.Alike.{weigh, none_like, by_weights}
-use Rattle.sp_tree_circuits.proofs.Given.{Laws}
+use Rattle.sp_tree_circuits.specs.Given.{Laws}
 use Rattle.sp_tree_circuits.proofs.Numbers.{within_bounds, numbers_within}
 use Rattle.sp_tree_circuits.proofs.Sides.{done_of}
 

@@ -37,7 +37,7 @@ use Rattle.sp_tree_bodies.specs.Scopes.{scopes_of}
 use Rattle.sp_tree_circuits.specs.Circuits.{slot_nets, TakesWords, TakeWords, Circuit}
 use Rattle.sp_tree_circuits.specs.Answers.{EachBound}
 use Rattle.sp_tree_circuits.specs.Laws.{StandAround}
-use Rattle.sp_tree_circuits.proofs.Given.{Laws}
+use Rattle.sp_tree_circuits.specs.Given.{Laws}
 use Rattle.sp_tree_circuits.proofs.Inside.{inside, alone}
 use Rattle.sp_tree_circuits.proofs.Looping.{ran, outers, takes, found, took, Stepping, Looping, loops_at}
 use Rattle.sp_tree_circuits.proofs.Ready.{Ready}

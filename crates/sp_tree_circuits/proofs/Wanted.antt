@@ -41,7 +41,7 @@ use Rattle.sp_tree_bodies.specs.Scoped.{Scoped, placed}
 use Rattle.sp_tree_circuits.specs.Circuits.{first_lane, last_lane, row_masks, masks_told, TakesWords, TakeWords, IsToldBy, MemberCircuit, Circuit}
 use Rattle.sp_tree_circuits.specs.Answers.{EachBound}
 use Rattle.sp_tree_circuits.proofs.Bounded.{loops_go_on, lanes_right, lanes_some}
-use Rattle.sp_tree_circuits.proofs.Given.{Laws}
+use Rattle.sp_tree_circuits.specs.Given.{Laws}
 use Rattle.sp_tree_circuits.proofs.Lanes.{stage_live, le_true, lanes_by_rule, first_lane_live, from_first, same_lanes}
 use Rattle.sp_tree_circuits.proofs.Looping.{ran, outers, takes, found, lengths, Stepping, Looping, loops_at}
 use Rattle.sp_tree_circuits.proofs.Ready.{Ready}

@@ -25,7 +25,7 @@ use Rattle.sp_tree_circuits.specs.Circuits.{Circuit, StageCircuits}
 use Rattle.sp_tree_circuits.specs.Laws.{CircuitsGo, core_run, core_events, CoresGo, CirclesClose}
 use Rattle.sp_tree_circuits.proofs.Alike.{of_itself}
 use Rattle.sp_tree_circuits.proofs.Bodies.{inner_acts, load_acts, store_acts}
-use Rattle.sp_tree_circuits.proofs.Given.{Laws}
+use Rattle.sp_tree_circuits.specs.Given.{Laws}
 use Rattle.sp_tree_circuits.proofs.Loops.{StageGoes, loop_acts}
 use Rattle.sp_tree_circuits.proofs.Machines.{body_ready, machine_acts}
 use Rattle.sp_tree_circuits.proofs.Ready.{earlier, Ready, ready_earlier}
@@ -34,7 +34,7 @@ use Rattle.sp_tree_circuits.proofs.StageLists.{EachCircuit}
 
 module _ (core : PlainCore) (plan : PlainPlan) (delays : Delays) (laws : Laws core plan delays) (s : Signals) (events : List Stamped) (last : ℕ) where
   mutual
-    acts : (node : PlainNode) (near : List Near) (env : Nets) (around : Around) (earlier : List ℕ) (k n : ℕ) (qs : List Scoped) (c : Child) → IsTimed node → IsRight core around earlier node → (w : Circuit core plan s node near env k c) → Answered core plan s events last node near env k n c w
+    pub acts : (node : PlainNode) (near : List Near) (env : Nets) (around : Around) (earlier : List ℕ) (k n : ℕ) (qs : List Scoped) (c : Child) → IsTimed node → IsRight core around earlier node → (w : Circuit core plan s node near env k c) → Answered core plan s events last node near env k n c w
         → TransfersMove core plan delays s last node near env k n qs c w → (t : ℕ) → t ≤ last → Ready core plan delays s events node near env k n qs t → IsStarted s c.start (rans core plan delays node k n (placed qs)) t → Acts core plan delays s events t node near env k n qs c w
     acts (branch ops first second) near env around earlier k n qs c is right w answered move t le ready started =
         branch_acts core plan delays laws k n ops first second s events near env qs is t ready last le around earlier right c w answered.0
@@ -54,7 +54,7 @@ module _ (core : PlainCore) (plan : PlainPlan) (delays : Delays) (laws : Laws co
     acts (store r m spans) near env around earlier k n qs c is right w answered move t le ready started = store_acts core plan delays laws s events last t le near env k n r m spans around earlier qs right ready c w answered move started
     acts (sparse kind r m places spans count par) near env around earlier k n qs c is right w answered move t le ready started = elim is [ ]
 
-    stages_act : (stages : PlainStages) (near : List Near) (around : Around) (earlier : List ℕ) (j n i : ℕ) (nets : (stage : ℕ) → Nets) (qs : (stage : ℕ) → List Scoped) (child : (stage : ℕ) → Child) → AreTimed stages → AreRight core around earlier stages
+    pub stages_act : (stages : PlainStages) (near : List Near) (around : Around) (earlier : List ℕ) (j n i : ℕ) (nets : (stage : ℕ) → Nets) (qs : (stage : ℕ) → List Scoped) (child : (stage : ℕ) → Child) → AreTimed stages → AreRight core around earlier stages
         → (w : StageCircuits core plan s stages near j i nets child) → EachInLists core plan s (AreAnsweredInTime s events last) stages near j n i nets child w → EachInStages core plan delays s (MovesInTime core plan delays s last) stages near j n i nets qs child w
         → EachCircuit core plan s near nets child (StageGoes core plan delays s events last near nets qs child) stages j n i w
     stages_act no_stage near around earlier j n i nets qs child is right w answered move = tt

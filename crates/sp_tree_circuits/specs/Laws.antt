@@ -20,6 +20,7 @@ use Rattle.sp_node_control.specs.Laws.{IsStarted}
 use Rattle.sp_node_control.specs.Runs.{rans}
 use Rattle.sp_node_fits.specs.Laws.{AllFit}
 use Rattle.sp_node_bodies.specs.Given.{Nets, AreStanding}
+use Rattle.sp_tree_bodies.specs.Built.{Built}
 use Rattle.sp_tree_bodies.specs.Done.{AllDone}
 use Rattle.sp_tree_bodies.specs.Scoped.{Scoped, placed, AllAreDone}
 use Rattle.sp_tree_circuits.specs.Circuits.{Circuit}
@@ -46,6 +47,14 @@ module _ (core : PlainCore) (plan : PlainPlan) (delays : Delays) where
       → IsTimed node → IsRight core around earlier node → DidRuns node k n from until qs → AreEventsOf events (all_events core plan delays node k n (placed qs)) n (number_count node)
       → (w : Circuit core plan s node near env k c) → Answered core plan s events last node near env k n c w → TransfersMove core plan delays s last node near env k n qs c w
       → (t : ℕ) → t ≤ last → StandAround s node near env k n qs t → IsStarted s c.start (rans core plan delays node k n (placed qs)) t → Acts core plan delays s events t node near env k n qs c w
+
+  -- and it is built as the laws of trees ask for it, where it is started in time up to the cycle before
+  abbrev pub CircuitsAreBuilt : Type 0
+  CircuitsAreBuilt =
+      (s : Signals) (events : List Stamped) (last : ℕ) (node : PlainNode) (near : List Near) (env : Nets) (around : Around) (earlier : List ℕ) (k n from until : ℕ) (qs : List Scoped) (c : Child)
+      → IsTimed node → IsRight core around earlier node → DidRuns node k n from until qs → AreEventsOf events (all_events core plan delays node k n (placed qs)) n (number_count node)
+      → (w : Circuit core plan s node near env k c) → Answered core plan s events last node near env k n c w → TransfersMove core plan delays s last node near env k n qs c w
+      → (t : ℕ) → t ≤ last → StandAround s node near env k n qs t → ((u : ℕ) → suc u ≤ t → IsStarted s c.start (rans core plan delays node k n (placed qs)) u) → Built core plan delays s t node k n (placed qs) c
 
   -- the run of the whole core, from cycle 0 on, and what happens in it
   abbrev pub core_run : History → Scoped

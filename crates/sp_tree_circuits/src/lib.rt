@@ -6,5 +6,7 @@ mod laws;
 mod worked;
 
 pub use examples::worked_masks;
-pub use laws::{circles_close, circuits_go_as_told, cores_go_as_told};
+pub use laws::{
+    circles_close, circuits_are_built, circuits_go_as_told, cores_go_as_told, loops_are_told,
+};
 pub use worked::worked_circuit;

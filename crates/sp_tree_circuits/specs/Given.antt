@@ -1,4 +1,4 @@
--- The laws by which a circuit of a tree is shown to go, together.
+-- The laws of the crates below by which a circuit of a tree is shown to go, together.
 use Rattle.sp_core.specs.PlainCore.{PlainNode, PlainCore}
 use Rattle.sp_beat_runs.specs.Laws.{LoopsAreInTimeline}
 use Rattle.sp_group_words.specs.Laws.{WordsGoAlong}
