@@ -38,11 +38,11 @@ each_told : (os : List ℕ) (es : List Stamped) → Each (IsOwned os) (told es) 
 each_told os [] h = tt
 each_told os (e ∷ es) h = (h.0, each_told os es h.1)
 
-later_owned : (os : List ℕ) (n : ℕ) (es : List Stamped) → AreOwned os es → AreOwned os (later n es)
+pub later_owned : (os : List ℕ) (n : ℕ) (es : List Stamped) → AreOwned os es → AreOwned os (later n es)
 later_owned os n [] h = tt
 later_owned os n (e ∷ es) h = (h.0, later_owned os n es h.1)
 
-stamped_owned : (os : List ℕ) (copies : Copies) (t : ℕ) (ms : List Moment) → Each (IsOwned os) ms → AreOwned os (stamped copies t ms)
+pub stamped_owned : (os : List ℕ) (copies : Copies) (t : ℕ) (ms : List Moment) → Each (IsOwned os) ms → AreOwned os (stamped copies t ms)
 stamped_owned os copies t [] h = tt
 stamped_owned os copies t (m ∷ ms) h = (h.0, stamped_owned os copies t ms h.1)
 
@@ -119,7 +119,7 @@ module _ (core : PlainCore) where
     each_run os f (r ∷ runs) h = each_append (λ x. IsOwned os x.moment) (f r) (flat_map f runs) (h r) (each_run os f runs h)
 
     module _ (tells : (node : PlainNode) → TellsAll core plan delays node) (own : (node : PlainNode) → RunsOwn core node) where
-      runs_owned : (node : PlainNode) (k n : ℕ) → IsTimed node → (runs : List Placed) → AreOwned (owned_in node) (all_events core plan delays node k n runs)
+      pub runs_owned : (node : PlainNode) (k n : ℕ) → IsTimed node → (runs : List Placed) → AreOwned (owned_in node) (all_events core plan delays node k n runs)
       runs_owned node k n timed_node runs =
           each_run (owned_in node) (events_of core plan delays node k n) runs
           (λ r. later_owned (owned_in node) r.cycle _ (each_told (owned_in node) _ (subst (Each (IsOwned (owned_in node))) (sym (tells node k n r.standing r.copies r.history)) (own node timed_node k n r.standing r.history))))
@@ -147,12 +147,12 @@ module _ (core : PlainCore) where
           let all = bodies (weight t c d) k n start state test body next runs in
           omega (arith, alone, all))
 
-      stage_timed : (stages : PlainStages) → AreTimed stages → (s : ℕ) → IsTimed (stage_at stages s)
+      pub stage_timed : (stages : PlainStages) → AreTimed stages → (s : ℕ) → IsTimed (stage_at stages s)
       stage_timed no_stage h s = tt
       stage_timed (more_stage first last comb node rest) h zero = h.0
       stage_timed (more_stage first last comb node rest) h (suc s) = stage_timed rest h.1 s
 
-      total_none : (f : ℕ → ℕ) (count : ℕ) → ((s : ℕ) → s < count → f s ≡ 0) → total f count ≡ 0
+      pub total_none : (f : ℕ → ℕ) (count : ℕ) → ((s : ℕ) → s < count → f s ≡ 0) → total f count ≡ 0
       total_none f zero h = refl
       total_none f (suc n) h = let a = total_none f n (λ s l. h s (omega (arith, l))) in let b = h n (omega arith) in omega (arith, a, b)
 
