@@ -42,7 +42,7 @@ use Rattle.sp_owner_events.proofs.Parting.{later_owned, stamped_owned, runs_owne
 use Rattle.sp_owner_events.proofs.Weighing.{weight, some_weigh, weigh_some, none_weigh}
 use Rattle.sp_owner_acts.specs.Renewing.{Renews, LoopsRenew}
 
-joined_from : {A B : Type 0} (f : A → List B) (xs : List A) (y : B) → Contains (flat_map f xs) y → (x : A) × Contains xs x × Contains (f x) y
+pub joined_from : {A B : Type 0} (f : A → List B) (xs : List A) (y : B) → Contains (flat_map f xs) y → (x : A) × Contains xs x × Contains (f x) y
 joined_from f [] y (k, l, e) = absurd (omega (arith, l))
 joined_from f (z ∷ xs) y c = by (Contains-append_cases (f z) (flat_map f xs) y c) (joined_from f xs y)
   where
@@ -50,7 +50,7 @@ joined_from f (z ∷ xs) y c = by (Contains-append_cases (f z) (flat_map f xs) y
     by (inl d) rest = (z, here z xs, d)
     by (inr d) rest = let r = rest d in (r.0, there z r.0 xs r.1, r.2)
 
-joined_to : {A B : Type 0} (f : A → List B) (xs : List A) (x : A) (y : B) → Contains xs x → Contains (f x) y → Contains (flat_map f xs) y
+pub joined_to : {A B : Type 0} (f : A → List B) (xs : List A) (x : A) (y : B) → Contains xs x → Contains (f x) y → Contains (flat_map f xs) y
 joined_to f [] x y (k, l, e) d = absurd (omega (arith, l))
 joined_to f (z ∷ xs) x y (zero, l, e) d = Contains-append_left (f z) (flat_map f xs) y (subst (λ w. Contains (f w) y) (sym e) d)
 joined_to f (z ∷ xs) x y (suc k, l, e) d = Contains-append_right (f z) (flat_map f xs) y (joined_to f xs x y (k, omega (arith, l), e) d)
@@ -173,7 +173,7 @@ module _ (core : PlainCore) (plan : PlainPlan) (delays : Delays) (k n : ℕ) (co
     whole_shows : (t c : ℕ) → Shows (flat_map (λ r. alone r r.history) runs) t c (renewed m) → Shows (all_events core plan delays (outer counters style owned stages) k n runs) t c (renewed m)
     whole_shows t c h = let w = some_weigh t c (renewed m) _ h in let q = same_weight t c in weigh_some t c (renewed m) _ (omega (arith, w, q))
 
-mapped_to : {A B : Type 0} (f : A → B) (xs : List A) (x : A) → Contains xs x → Contains (map f xs) (f x)
+pub mapped_to : {A B : Type 0} (f : A → B) (xs : List A) (x : A) → Contains xs x → Contains (map f xs) (f x)
 mapped_to f [] x (i, l, e) = absurd (omega (arith, l))
 mapped_to f (y ∷ xs) x (zero, l, e) = (zero, omega arith, ap f e)
 mapped_to f (y ∷ xs) x (suc i, l, e) = there (f y) (f x) (map f xs) (mapped_to f xs x (i, omega (arith, l), e))

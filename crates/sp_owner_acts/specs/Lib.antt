@@ -1,1 +1,3 @@
 pub mod Renewing
+pub mod Keeping
+pub mod Example

@@ -3,4 +3,4 @@
 
 mod laws;
 
-pub use laws::loops_renew;
+pub use laws::{loops_renew, machines_keep, worked_owners};

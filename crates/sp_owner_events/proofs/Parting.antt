@@ -54,7 +54,7 @@ module _ (core : PlainCore) where
       each_append (λ x. IsOwned os x.moment) (stamped copies (f i) (entry_moments n st op.kind op.mem e)) (list_stamped copies f (suc i) (suc n) st ops es)
       (stamped_owned os copies (f i) (entry_moments n st op.kind op.mem e) (entry_owned core os n st op e)) (row_owned os copies f (suc i) (suc n) st ops es)
 
-  list_owned : (os : List ℕ) (cycle : ℕ) (copies : Copies) (n : ℕ) (st : Standing) (ops : List PlainOp) (es : List Entry) → AreOwned os (later cycle (list_run core copies n st ops es).events)
+  pub list_owned : (os : List ℕ) (cycle : ℕ) (copies : Copies) (n : ℕ) (st : Standing) (ops : List PlainOp) (es : List Entry) → AreOwned os (later cycle (list_run core copies n st ops es).events)
   list_owned os cycle copies n st ops es = later_owned os cycle _ (row_owned os copies (in_a_row core ops) 0 n st ops es)
 
   kept_owned : (cycle : ℕ) (copies : Copies) (n : ℕ) (st : Standing) (ops : List PlainOp) (es : List Entry) (state word : ℕ) → AreOwned (state ∷ []) (later cycle (kept_run core copies n st ops es state word).events)
