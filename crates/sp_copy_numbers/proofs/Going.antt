@@ -81,7 +81,7 @@ module _ (core : PlainCore) (plan : PlainPlan) (delays : Delays) (order : BeatsI
       (subst (λ m. m < length slots) (sym is) q.below, ap (λ m. (slot_at slots m).slot) is ∙ ap (λ (y : Slot). y.slot) same)
 
   -- the first cycle of a beat in which a slot has a group
-  beat_at : (r : Placed) (g x : ℕ) → Contains runs r → g < length (rows_in r) → x < length places → beat_cycle (sizes places) (g + x) (ran r) ≡ r.cycle + first_cycle slots (took_at (rows_in r)) (g + x)
+  pub beat_at : (r : Placed) (g x : ℕ) → Contains runs r → g < length (rows_in r) → x < length places → beat_cycle (sizes places) (g + x) (ran r) ≡ r.cycle + first_cycle slots (took_at (rows_in r)) (g + x)
   beat_at r g x c below few =
       let in_all = in_beats (length (rows_in r)) (length (sizes places)) g x below (omega (arith, few, size)) in
       (in_time core plan delays k n counters owned stages places timeline arranged runs takes r c).beats (g + x) (omega (arith, in_all))

@@ -1,0 +1,4 @@
+pub mod Owners
+pub mod Weighing
+pub mod Parting
+pub mod Working
