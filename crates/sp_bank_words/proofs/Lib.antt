@@ -1,0 +1,12 @@
+pub mod Acts
+pub mod Events
+pub mod Elements
+pub mod Filtered
+pub mod Serving
+pub mod Words
+pub mod Lying
+pub mod Operations
+pub mod Loading
+pub mod Rows
+pub mod Numbers
+pub mod Worked
