@@ -3,12 +3,12 @@ use Rattle.std.proofs.Common.{◌≡◌, ℕ, zero, suc, ◌-◌, ◌<◌, ◌�
 use Rattle.std.specs.List.{Contains}
 use Rattle.std.proofs.lemmas.Bool.{eqb-true, eq-eqb, and_parts, and_from}
 use Rattle.std.proofs.lemmas.List.{length-map}
-use Rattle.sp_netlist.specs.Signals.{Signals}
-use Rattle.sp_gates.specs.Tested.{is_on}
-use Rattle.sp_core.specs.declared.operation.OpKind.{OpKind}
 use Rattle.sp_words.specs.declared.kind.Kind.{Kind}
 use Rattle.sp_words.specs.declared.kind.Kind.TheVariants.{Reg, Sram, Fifo, LineBuf, Dram, ArgIn, ArgOut}
 use Rattle.sp_words.specs.Memory.{Contents}
+use Rattle.sp_netlist.specs.Signals.{Signals}
+use Rattle.sp_gates.specs.Tested.{is_on}
+use Rattle.sp_core.specs.declared.operation.OpKind.{OpKind}
 use Rattle.sp_core.specs.declared.operation.OpKind.TheVariants.{Word, Count, Live, Read, Write, Enq, Deq, Reset, One, Two, Shift, Mux, Cast}
 use Rattle.sp_core.specs.Declarations.{mem, kind_of, dram_number}
 use Rattle.sp_core.specs.Events.{writes, puts, takes, resets, Event, Moment, touches, slices, renews, keeps, act_of}

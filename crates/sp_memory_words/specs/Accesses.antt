@@ -1,11 +1,11 @@
 -- Accesses of a circuit as those of a core's operations, by their numbers.
 use Rattle.std.specs.Prelude.{◌≡◌, ℕ, ◌<◌, ◌≤◌, true, List, length, Option, Some}
 use Rattle.std.specs.List.{Contains}
-use Rattle.sp_netlist.specs.Signals.{Signals}
-use Rattle.sp_gates.specs.Tested.{is_on}
 use Rattle.sp_words.specs.declared.kind.Kind.{Kind}
 use Rattle.sp_words.specs.declared.kind.Kind.TheVariants.{Reg, Fifo, ArgIn, ArgOut}
 use Rattle.sp_words.specs.Memory.{Contents}
+use Rattle.sp_netlist.specs.Signals.{Signals}
+use Rattle.sp_gates.specs.Tested.{is_on}
 use Rattle.sp_core.specs.declared.operation.OpKind.{OpKind}
 use Rattle.sp_core.specs.declared.operation.OpKind.TheVariants.{Write, Enq, Deq, Reset}
 use Rattle.sp_core.specs.Events.{renews, keeps}

@@ -7,8 +7,8 @@ use Rattle.sp_core.specs.History.{Entry, History, Turns, last_word, inner_ran, o
 use Rattle.sp_core.specs.Numbering.{node_count, number_count}
 use Rattle.sp_core.specs.PlainCore.{PlainOp, PlainNode, fsm, PlainCore}
 use Rattle.sp_core.specs.Scope.{Scope}
-use Rattle.sp_plan.specs.PlainPlan.{PlainPlan}
 use Rattle.sp_core.specs.Latency.{latency_of_all}
+use Rattle.sp_plan.specs.PlainPlan.{PlainPlan}
 use Rattle.sp_machine.specs.Laws.{TellsAll}
 use Rattle.sp_machine.specs.Stamps.{Stamped, Copies, stamped, moved as moved_on, later, list_run, kept_run}
 use Rattle.sp_machine.specs.Timeline.{timed}

@@ -11,9 +11,9 @@ use Rattle.sp_plan.specs.Validity.{stage_count}
 use Rattle.sp_machine.specs.Stamps.{Stamped}
 use Rattle.sp_machine.specs.Transfers.{Delays}
 use Rattle.sp_overlap.specs.Whole.{IsTimed, AreTimed}
+use Rattle.sp_pipe.specs.declared.part.PipeOp.{PipeOp}
 use Rattle.sp_node_runs.specs.Runs.{Placed, side_runs, body_runs, stage_at, node_at, number_at, stage_runs}
 use Rattle.sp_node_runs.specs.Told.{all_events}
-use Rattle.sp_pipe.specs.declared.part.PipeOp.{PipeOp}
 use Rattle.sp_node_bodies.specs.Told.{Happens, ActsInTime, AreAnsweredInTime}
 
 -- an event does what another one does, to the same memory at the same indices
