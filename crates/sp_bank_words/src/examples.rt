@@ -4,14 +4,15 @@ ghost use Rattle.sp_bank_words.specs.Examples.{WorkedAccesses, read_in, written_
 ghost use Rattle.sp_bank_words.specs.Layouts.{banking_for, one_bank};
 ghost use Rattle.sp_bank_words.specs.Numbers.{accesses_of, changes_of};
 ghost use Rattle.sp_bank.specs.Places.{bank as bank_number, offset};
-ghost use Rattle.sp_core.specs.Elements.{numbers_below};
+ghost use Rattle.sp_body_acts.specs.Entries.{index_of};
+ghost use Rattle.sp_core.specs.Elements.{are_inside, index_value, numbers_below};
 ghost use Rattle.sp_core.specs.ExampleForms.{input};
 ghost use Rattle.sp_core.specs.Meaning.{meaning};
 ghost use Rattle.sp_core.specs.Scope.{in_lanes};
 ghost use Rattle.sp_machine.specs.Examples.{always};
 ghost use Rattle.sp_plan.specs.ExamplePlans.{banked};
 ghost use Rattle.sp_used_ports.specs.Examples.{two_readers, two_readers_plan};
-ghost use Rattle.std.specs.Prelude.{[], ◌≡◌, ◌∷◌, None, Some};
+ghost use Rattle.std.specs.Prelude.{[], ◌≡◌, ◌∷◌, None, Some, false, map};
 
 /// In one bank an element of two by three words stands at its row-major place.
 pub fn worked_layout()
@@ -32,6 +33,13 @@ pub fn worked_numbers()
     ensures accesses { accesses_of two_readers 0 ≡ 2 ∷ 6 ∷ 9 ∷ [] }
     ensures changes { changes_of two_readers 0 ≡ 2 ∷ [] }
     ensures words { changes_of two_readers 1 ≡ 7 ∷ [] }
+{}
+
+/// A word with a sign, which is no index of an element, tells the index 0, as the word 0 does.
+pub fn worked_index()
+    ensures signed { index_of 4294967295 ≡ 0 }
+    ensures zero { index_of 0 ≡ 0 }
+    ensures none { are_inside (4 ∷ []) (map index_value (4294967295 ∷ [])) ≡ false }
 {}
 
 /// A write and a read whose circuits act in time, and the word that the one leaves and the other finds.

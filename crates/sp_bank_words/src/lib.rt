@@ -6,7 +6,7 @@ mod examples;
 mod laws;
 mod layout;
 
-pub use examples::{worked_accesses, worked_layout, worked_numbers, worked_run};
+pub use examples::{worked_accesses, worked_index, worked_layout, worked_numbers, worked_run};
 pub use laws::{
     accesses_are_served, lines_hold_words, memories_hold_words, operations_go, plans_have_layouts,
     timelines_are_by_accesses,
