@@ -1,0 +1,9 @@
+pub mod Took
+pub mod Words
+pub mod Runs
+pub mod Told
+pub mod Loads
+pub mod Stores
+pub mod Taken
+pub mod Channels
+pub mod Worked
