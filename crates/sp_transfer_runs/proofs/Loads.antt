@@ -20,7 +20,7 @@ use Rattle.sp_xfer.specs.declared.part.Load.{Load}
 use Rattle.sp_xfer.specs.declared.part.Loaded.{Loaded}
 use Rattle.sp_xfer.specs.Moving.{MovesSlice, RunsLoad, wires_of, words_at}
 use Rattle.sp_node_bodies.specs.Spans.{SpanNets}
-use Rattle.sp_transfer_runs.specs.Loads.{LoadAnswered, LoadGoes, LoadsWork}
+use Rattle.sp_transfer_runs.specs.Loads.{LoadAnswered, LoadGoes, LoadsWork, LoadsDo}
 use Rattle.sp_transfer_runs.specs.Runs.{taken_in, words_in, total_of, word_of, place_of, delay_in, moves_in, Moves, transfer_rans, TransferRuns}
 use Rattle.sp_transfer_runs.specs.Told.{DoesAt, Writes}
 use Rattle.sp_transfer_runs.specs.Words.{moves_of, parts_of, count_of, offset_of, MovesWord, SlicesAreWords}
@@ -182,4 +182,10 @@ module _ (law : SlicesAreWords) (core : PlainCore) (plan : PlainPlan) (delays : 
   }
 
 pub loads_work : SlicesAreWords → (core : PlainCore) (plan : PlainPlan) (delays : Delays) → LoadsWork core plan delays
-loads_work law core plan delays s part nets spanned last k n r m dram spans runs h moves_are dims_are rs answered t l starts = goes law core plan delays s part nets spanned last k n r m dram spans runs h moves_are dims_are rs answered t l starts
+loads_work law core plan delays s part nets spanned last k n r m dram spans runs h moves_are dims_are rs answered t l starts =
+    goes law core plan delays s part nets spanned last k n r m dram spans runs h moves_are dims_are rs answered t l (runs_of.started_in core plan delays (load r m spans) k n runs (is_on s part.start) t starts)
+
+pub loads_do : SlicesAreWords → (core : PlainCore) (plan : PlainPlan) (delays : Delays) → LoadsDo core plan delays
+loads_do law core plan delays s part nets spanned last k n r m dram spans runs h moves_are dims_are rs answered each t l starts =
+    runs_of.over_in core plan delays (load r m spans) k n runs (λ q c. runs_of.load_took core plan delays k n r m spans q (rs.did q c).is) each (is_on s nets.moving.done) t
+    (loads_work law core plan delays s part nets spanned last k n r m dram spans runs h moves_are dims_are rs answered t l starts).ends

@@ -23,7 +23,7 @@ use Rattle.sp_xfer.specs.Ahead.{RunsStore, look_offsets, store_wires_of}
 use Rattle.sp_xfer.specs.Moving.{MovesSlice, words_at}
 use Rattle.sp_node_bodies.specs.Spans.{SpanNets}
 use Rattle.sp_transfer_runs.specs.Runs.{taken_in, words_in, total_of, word_of, place_of, delay_in, moves_in, transfer_rans, TellsWords, TransferRuns}
-use Rattle.sp_transfer_runs.specs.Stores.{StoreAnswered, Idles, ReadsInTime, StoresInTime, StoreGoes, StoresWork}
+use Rattle.sp_transfer_runs.specs.Stores.{StoreAnswered, Idles, ReadsInTime, StoresInTime, StoreGoes, StoresWork, StoresDo}
 use Rattle.sp_transfer_runs.specs.Told.{DoesAt, Reads}
 use Rattle.sp_transfer_runs.specs.Words.{moves_of, parts_of, count_of, offset_of, SlicesAreWords}
 use Rattle.sp_transfer_runs.proofs.Both as both
@@ -205,4 +205,10 @@ module _ (law : SlicesAreWords) (core : PlainCore) (plan : PlainPlan) (delays : 
   }
 
 pub stores_work : SlicesAreWords → (core : PlainCore) (plan : PlainPlan) (delays : Delays) → StoresWork core plan delays
-stores_work law core plan delays s part nets spanned last k n r m spans runs h moves_are dims_are rs answered t l starts = goes law core plan delays s part nets spanned last k n r m spans runs h moves_are dims_are rs answered t l starts
+stores_work law core plan delays s part nets spanned last k n r m spans runs h moves_are dims_are rs answered t l starts =
+    goes law core plan delays s part nets spanned last k n r m spans runs h moves_are dims_are rs answered t l (runs_of.started_in core plan delays (store r m spans) k n runs (is_on s part.start) t starts)
+
+pub stores_do : SlicesAreWords → (core : PlainCore) (plan : PlainPlan) (delays : Delays) → StoresDo core plan delays
+stores_do law core plan delays s part nets spanned last k n r m spans runs h moves_are dims_are rs answered each t l starts =
+    runs_of.over_in core plan delays (store r m spans) k n runs (λ q c. runs_of.store_took core plan delays k n r m spans q (rs.did q c).is) each (is_on s nets.moving.done) t
+    (stores_work law core plan delays s part nets spanned last k n r m spans runs h moves_are dims_are rs answered t l starts).ends

@@ -31,10 +31,14 @@ pub record DidSlice (dims : List ℕ) (h : History) : Type 0 where
   pub slice : IsSlice dims (taken_in h)
   pub each : length (words_in h) ≡ count_of (taken_in h)
 
--- how many words a run moves; each of them with its place in the DRAM, and how far into each range it is
+-- how many words a run moves; and that each run moves one
 abbrev pub total_of : Placed → ℕ
 total_of r = length (words_in r.history)
 
+abbrev pub EachMoves : List Placed → Type 0
+EachMoves runs = (r : Placed) → Contains runs r → 0 < total_of r
+
+-- a word of a run, and its place in the DRAM
 abbrev pub word_of : Placed → (word : ℕ) → ℕ
 word_of r j = slice_index (words_in r.history) j
 

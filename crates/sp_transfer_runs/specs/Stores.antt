@@ -12,15 +12,17 @@ use Rattle.sp_plan.specs.PlainPlan.{PlainPlan}
 use Rattle.sp_machine.specs.Stamps.{Stamped}
 use Rattle.sp_machine.specs.Transfers.{Delays}
 use Rattle.sp_body_runs.specs.Runs.{IsOnAt}
-use Rattle.sp_control_runs.specs.Parts.{Begins, Ends}
+use Rattle.sp_control_runs.specs.Parts.{Ends}
 use Rattle.sp_node_runs.specs.Runs.{Placed}
 use Rattle.sp_node_runs.specs.Told.{all_events}
+use Rattle.sp_node_control.specs.Laws.{Does, IsStarted}
+use Rattle.sp_node_control.specs.Runs.{rans}
 use Rattle.sp_xfer.specs.declared.part.Store.{Store}
 use Rattle.sp_xfer.specs.declared.part.Stored.{Stored}
 use Rattle.sp_xfer.specs.Ahead.{RunsStore, store_wires_of}
 use Rattle.sp_xfer.specs.Moving.{words_at}
 use Rattle.sp_node_bodies.specs.Spans.{SpanNets}
-use Rattle.sp_transfer_runs.specs.Runs.{total_of, Moves, Asks, transfer_rans, TellsWords, TransferRuns}
+use Rattle.sp_transfer_runs.specs.Runs.{total_of, EachMoves, Moves, Asks, transfer_rans, TellsWords, TransferRuns}
 use Rattle.sp_transfer_runs.specs.Told.{DoesAt, Reads, Writes}
 use Rattle.sp_transfer_runs.specs.Words.{moves_of}
 
@@ -76,4 +78,13 @@ module _ (core : PlainCore) (plan : PlainPlan) (delays : Delays) where
       → RunsStore s part nets → part.moves.items ≡ moves_of spanned → part.dims.items ≡ dims core (dram_number core r)
       → TransferRuns core plan delays s last (store r m spans) k n (dims core (dram_number core r)) spanned runs
       → StoreAnswered delays s part nets (all_events core plan delays (store r m spans) k n runs) last k (n + spans_size spans) runs
-      → (t : ℕ) → t ≤ last → IsOnAt (is_on s part.start) (Begins (transfer_rans delays k runs)) t → StoreGoes s part nets t k n r m spans runs
+      → (t : ℕ) → t ≤ last → IsStarted s part.start (rans core plan delays (store r m spans) k n runs) t → StoreGoes s part nets t k n r m spans runs
+
+  -- so where each of its runs has a word, it does the runs of its node, as control asks
+  abbrev pub StoresDo : Type 0
+  StoresDo =
+      (s : Signals) (part : Store) (nets : Stored) (spanned : List SpanNets) (last k n r m : ℕ) (spans : List PlainSpan) (runs : List Placed)
+      → RunsStore s part nets → part.moves.items ≡ moves_of spanned → part.dims.items ≡ dims core (dram_number core r)
+      → TransferRuns core plan delays s last (store r m spans) k n (dims core (dram_number core r)) spanned runs
+      → StoreAnswered delays s part nets (all_events core plan delays (store r m spans) k n runs) last k (n + spans_size spans) runs
+      → EachMoves runs → Does s (record { start = part.start; done = nets.moving.done }) (rans core plan delays (store r m spans) k n runs) last
