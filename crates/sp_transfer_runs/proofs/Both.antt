@@ -14,12 +14,13 @@ use Rattle.sp_xfer.specs.declared.part.Moving.{Moving}
 use Rattle.sp_xfer.specs.declared.part.Wires.{Wires}
 use Rattle.sp_xfer.specs.Moving.{MovesSlice}
 use Rattle.sp_node_bodies.specs.Spans.{SpanNets}
-use Rattle.sp_transfer_runs.specs.Runs.{taken_in, DidSlice, total_of, delay_in, moves_in, Moves, Asks, transfer_rans, TellsWords, TransferRuns}
+use Rattle.sp_transfer_runs.specs.Runs.{taken_in, DidSlice, total_of, delay_in, moves_in, Moves, Asks, TellsWords, TransferRuns}
 use Rattle.sp_transfer_runs.specs.Words.{moves_of, parts_of, count_of, MovesWord, SlicesAreWords}
 use Rattle.sp_transfer_runs.proofs.Moved as slices
 use Rattle.sp_transfer_runs.proofs.Passing.{Apart, StartsAt}
 use Rattle.sp_transfer_runs.proofs.Places.{none_offsets}
 use Rattle.sp_transfer_runs.proofs.Runs as runs_of
+use Rattle.sp_transfer_runs.proofs.Runs.{transfer_rans}
 
 -- a slice that has a word has no empty range
 pub some_range : (dims : List ℕ) (q : Placed) → DidSlice dims q.history → (j : ℕ) → j < total_of q → has_none (lengths (parts_of (taken_in q.history))) ≡ false

@@ -21,13 +21,14 @@ use Rattle.sp_xfer.specs.declared.part.Loaded.{Loaded}
 use Rattle.sp_xfer.specs.Moving.{MovesSlice, RunsLoad, wires_of, words_at}
 use Rattle.sp_node_bodies.specs.Spans.{SpanNets}
 use Rattle.sp_transfer_runs.specs.Loads.{LoadAnswered, LoadGoes, LoadsWork, LoadsDo}
-use Rattle.sp_transfer_runs.specs.Runs.{taken_in, words_in, total_of, word_of, place_of, delay_in, moves_in, Moves, transfer_rans, TransferRuns}
+use Rattle.sp_transfer_runs.specs.Runs.{taken_in, words_in, total_of, word_of, place_of, delay_in, moves_in, Moves, TransferRuns}
 use Rattle.sp_transfer_runs.specs.Told.{DoesAt, Writes}
 use Rattle.sp_transfer_runs.specs.Words.{moves_of, parts_of, count_of, offset_of, MovesWord, SlicesAreWords}
 use Rattle.sp_transfer_runs.proofs.Events.{dram_read, chip_write, load_happens, load_writes, same_event}
 use Rattle.sp_transfer_runs.proofs.Both as both
 use Rattle.sp_transfer_runs.proofs.Both.{some_range, in_count}
 use Rattle.sp_transfer_runs.proofs.Runs as runs_of
+use Rattle.sp_transfer_runs.proofs.Runs.{transfer_rans}
 
 -- the word of a write
 abbrev word_in : Act → ℕ
@@ -174,7 +175,7 @@ module _ (law : SlicesAreWords) (core : PlainCore) (plan : PlainPlan) (delays : 
 
   pub goes : LoadGoes core plan delays s part nets upto k n r m spans runs
   goes = record {
-    ends = both.ends law core plan delays s (wires_of part) (dims core (dram_number core r)) spanned nets.moving last (load r m spans) k n runs moving rs took answered.ready upto in_time starts;
+    ends = runs_of.over_in core plan delays (load r m spans) k n runs took (is_on s nets.moving.done) upto (both.ends law core plan delays s (wires_of part) (dims core (dram_number core r)) spanned nets.moving last (load r m spans) k n runs moving rs took answered.ready upto in_time starts);
     asks = both.asks law core plan delays s (wires_of part) (dims core (dram_number core r)) spanned nets.moving last (load r m spans) k n runs moving rs took answered.ready upto in_time starts;
     makes_room = both.makes_room law core plan delays s (wires_of part) (dims core (dram_number core r)) spanned nets.moving last (load r m spans) k n runs moving rs took answered.ready upto in_time starts;
     tells = both.tells law core plan delays s (wires_of part) (dims core (dram_number core r)) spanned nets.moving last (load r m spans) k n runs moving rs took answered.ready upto in_time starts;
@@ -186,6 +187,5 @@ loads_work law core plan delays s part nets spanned last k n r m dram spans runs
     goes law core plan delays s part nets spanned last k n r m dram spans runs h moves_are dims_are rs answered t l (runs_of.started_in core plan delays (load r m spans) k n runs (is_on s part.start) t starts)
 
 pub loads_do : SlicesAreWords → (core : PlainCore) (plan : PlainPlan) (delays : Delays) → LoadsDo core plan delays
-loads_do law core plan delays s part nets spanned last k n r m dram spans runs h moves_are dims_are rs answered each t l starts =
-    runs_of.over_in core plan delays (load r m spans) k n runs (λ q c. runs_of.load_took core plan delays k n r m spans q (rs.did q c).is) each (is_on s nets.moving.done) t
+loads_do law core plan delays s part nets spanned last k n r m dram spans runs h moves_are dims_are rs answered t l starts =
     (loads_work law core plan delays s part nets spanned last k n r m dram spans runs h moves_are dims_are rs answered t l starts).ends

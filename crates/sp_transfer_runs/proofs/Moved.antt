@@ -5,13 +5,12 @@ use Rattle.std.proofs.lemmas.Bool.{ltb-true, lt-ltb}
 use Rattle.sp_netlist.specs.Signals.{Signals}
 use Rattle.sp_gates.specs.Tested.{is_on}
 use Rattle.sp_core.specs.History.{Taken}
-use Rattle.sp_machine.specs.Transfers.{word_cycle}
+use Rattle.sp_machine.specs.Transfers.{word_cycle, transfer_took}
 use Rattle.sp_body_runs.specs.Runs.{IsOnAt}
 use Rattle.sp_xfer.specs.declared.part.Moving.{Moving}
 use Rattle.sp_xfer.specs.declared.part.Wires.{Wires}
 use Rattle.sp_xfer.specs.Moving.{MovesSlice, moves_at, ends_at}
 use Rattle.sp_node_bodies.specs.Spans.{SpanNets, HaveSpans}
-use Rattle.sp_transfer_runs.specs.Took.{spent}
 use Rattle.sp_transfer_runs.specs.Words.{moves_of, IsSlice, count_of, MovesWord, StartedAt, SlicesAreWords}
 use Rattle.sp_transfer_runs.proofs.Cycles.{two_on, took_is, word_within}
 use Rattle.sp_transfer_runs.proofs.Numbers.{and_parts}
@@ -39,7 +38,7 @@ or_left_off a b e = ap (λ x. x || b) e
 
 module _ {R : Type 0} (cycle num : R → ℕ) (delay : R → ℕ → ℕ) (taken : R → List Taken) (runs : List R) (apart : Apart cycle num delay runs) where
   abbrev pub EndsAt : (t : ℕ) → Type 0
-  EndsAt t = (r : R) × Contains runs r × (suc t ≡ cycle r + spent (delay r) (num r))
+  EndsAt t = (r : R) × Contains runs r × (suc t ≡ cycle r + transfer_took (delay r) (num r))
 
   -- a run with a word is asked for in the cycle after its start
   abbrev pub AsksAt : (t : ℕ) → Type 0
@@ -99,12 +98,12 @@ module _ {R : Type 0} (cycle num : R → ℕ) (delay : R → ℕ → ℕ) (taken
             (r, c, ltb-true 0 (num r) (sym (asks_in r c (omega (arith, l, is))) ∙ ap (λ u. is_on s wires.request (suc u)) (sym is) ∙ e), ap (λ u. suc u) is)
 
     -- it is done
-    empty_in : (r : R) → Contains runs r → cycle r ≤ upto → is_on s m.done (suc (cycle r)) ≡ (ends_at s wires.ready m.walk (cycle r) || not (nat_lt 0 (num r)))
-    empty_in r c l = law.empty s wires dims nets m (taken r) (cycle r) h (nets_stand r c l) (slices r c) (started r c l) ∙ ap (λ n. ends_at s wires.ready m.walk (cycle r) || not (nat_lt 0 n)) (sym (same r c))
+    empty_in : (r : R) → Contains runs r → cycle r ≤ upto → is_on s m.done (suc (suc (cycle r))) ≡ (ends_at s wires.ready m.walk (suc (cycle r)) || not (nat_lt 0 (num r)))
+    empty_in r c l = law.empty s wires dims nets m (taken r) (cycle r) h (nets_stand r c l) (slices r c) (started r c l) ∙ ap (λ n. ends_at s wires.ready m.walk (suc (cycle r)) || not (nat_lt 0 n)) (sym (same r c))
 
     done_in : (r : R) → Contains runs r → (j : ℕ) → j < num r → (l : cycle r + word_cycle (delay r) j ≤ upto) → is_on s m.done (suc (cycle r + word_cycle (delay r) j)) ≡ not (nat_lt (suc j) (num r))
     done_in r c j k l =
-        (at_word r c j k l).done
+        (at_word r c j k l).done (subst (λ n. 0 < n) (same r c) (omega (arith, k)))
         ∙ ap (λ b. b && (nat_lt j (count_of (taken r)) && not (nat_lt (suc j) (count_of (taken r))))) (ready.on (cycle r + word_cycle (delay r) j) (omega (arith, l, in_time)) (r, j, c, k, refl))
         ∙ ap (λ b. b && not (nat_lt (suc j) (count_of (taken r)))) (is_less j (count_of (taken r)) (counted r c j k))
         ∙ ap (λ n. not (nat_lt (suc j) n)) (sym (same r c))
@@ -114,32 +113,33 @@ module _ {R : Type 0} (cycle num : R → ℕ) (delay : R → ℕ → ℕ) (taken
       where
         by : (w : ℕ) → num r ≡ w → is_on s m.done t ≡ true
         by zero f =
-            let is : t ≡ suc (cycle r) = (let g : spent (delay r) (num r) ≡ 2 = ap (spent (delay r)) f in omega (arith, e, g)) in
-            ap (is_on s m.done) is ∙ empty_in r c (omega (arith, l, is)) ∙ or_right (ends_at s wires.ready m.walk (cycle r)) (not (nat_lt 0 (num r))) (ap (λ n. not (nat_lt 0 n)) f)
+            let is : t ≡ suc (suc (cycle r)) = (let g : transfer_took (delay r) (num r) ≡ 3 = ap (transfer_took (delay r)) f in omega (arith, e, g)) in
+            ap (is_on s m.done) is ∙ empty_in r c (omega (arith, l, is)) ∙ or_right (ends_at s wires.ready m.walk (suc (cycle r))) (not (nat_lt 0 (num r))) (ap (λ n. not (nat_lt 0 n)) f)
         by (suc w) f =
-            let is : t ≡ suc (cycle r + word_cycle (delay r) w) = (let g : spent (delay r) (num r) ≡ word_cycle (delay r) w + 2 = ap (spent (delay r)) f ∙ took_is (delay r) w in omega (arith, e, g)) in
+            let is : t ≡ suc (cycle r + word_cycle (delay r) w) = (let g : transfer_took (delay r) (num r) ≡ word_cycle (delay r) w + 2 = ap (transfer_took (delay r)) f ∙ took_is (delay r) w in omega (arith, e, g)) in
             ap (is_on s m.done) is ∙ done_in r c w (omega (arith, f)) (omega (arith, l, is)) ∙ ap not (not_less (suc w) (num r) (omega (arith, f)))
+
+    over_at : (u : ℕ) → suc u ≤ upto → is_on s m.done (suc u) ≡ true → ends_at s wires.ready m.walk u ≡ true → EndsAt (suc u)
+    over_at u l e f =
+        let on = (and_parts (is_on s wires.ready u) (is_on s m.walk.counted.more u) (and_parts (moves_at s wires.ready m.walk u) _ f).0).0 in
+        let (r, j, c, k, is) = ready.only u (omega (arith, l, in_time)) on in
+        let n : num r ≡ suc j = last_one j (num r) k (sym (done_in r c j k (omega (arith, l, is))) ∙ ap (λ t. is_on s m.done (suc t)) (sym is) ∙ e) in
+        let g : transfer_took (delay r) (num r) ≡ word_cycle (delay r) j + 2 = ap (transfer_took (delay r)) n ∙ took_is (delay r) j in
+        (r, c, omega (arith, is, g))
+
+    none_at : (v : ℕ) → suc (suc v) ≤ upto → is_on s m.done (suc (suc v)) ≡ true → ends_at s wires.ready m.walk (suc v) ≡ false → EndsAt (suc (suc v))
+    none_at v l e f =
+        let on = (and_parts (is_on s wires.start v) (not (is_on s m.walk.counted.more (suc v))) (sym (or_left_off (ends_at s wires.ready m.walk (suc v)) (is_on s wires.start v && not (is_on s m.walk.counted.more (suc v))) f) ∙ sym (h.done (suc (suc v))) ∙ e)).0 in
+        let (r, c, is) = starts.only v (omega (arith, l)) on in
+        let none : not (nat_lt 0 (num r)) ≡ true =
+        sym (or_left_off (ends_at s wires.ready m.walk (suc (cycle r))) (not (nat_lt 0 (num r))) (ap (λ t. ends_at s wires.ready m.walk (suc t)) (sym is) ∙ f)) ∙ sym (empty_in r c (omega (arith, l, is))) ∙ ap (λ t. is_on s m.done (suc (suc t))) (sym is) ∙ e in
+        let g : transfer_took (delay r) (num r) ≡ 3 = ap (transfer_took (delay r)) (no_word (num r) none) in
+        (r, c, omega (arith, is, g))
 
     ends_only : (t : ℕ) → t ≤ upto → is_on s m.done t ≡ true → EndsAt t
     ends_only zero l e = absurd (let f = sym (h.done zero) ∙ e in cc)
-    ends_only (suc u) l e = by_bit (ends_at s wires.ready m.walk u) (λ f. over_at f) (λ f. none_at f)
-      where
-        over_at : ends_at s wires.ready m.walk u ≡ true → EndsAt (suc u)
-        over_at f =
-            let on = (and_parts (is_on s wires.ready u) (is_on s m.walk.counted.more u) (and_parts (moves_at s wires.ready m.walk u) _ f).0).0 in
-            let (r, j, c, k, is) = ready.only u (omega (arith, l, in_time)) on in
-            let n : num r ≡ suc j = last_one j (num r) k (sym (done_in r c j k (omega (arith, l, is))) ∙ ap (λ t. is_on s m.done (suc t)) (sym is) ∙ e) in
-            let g : spent (delay r) (num r) ≡ word_cycle (delay r) j + 2 = ap (spent (delay r)) n ∙ took_is (delay r) j in
-            (r, c, omega (arith, is, g))
-
-        none_at : ends_at s wires.ready m.walk u ≡ false → EndsAt (suc u)
-        none_at f =
-            let on = (and_parts (is_on s wires.start u) (not (is_on s m.walk.counted.more (suc u))) (sym (or_left_off (ends_at s wires.ready m.walk u) (is_on s wires.start u && not (is_on s m.walk.counted.more (suc u))) f) ∙ sym (h.done (suc u)) ∙ e)).0 in
-            let (r, c, is) = starts.only u (omega (arith, l)) on in
-            let none : not (nat_lt 0 (num r)) ≡ true =
-            sym (or_left_off (ends_at s wires.ready m.walk (cycle r)) (not (nat_lt 0 (num r))) (ap (ends_at s wires.ready m.walk) (sym is) ∙ f)) ∙ sym (empty_in r c (omega (arith, l, is))) ∙ ap (λ t. is_on s m.done (suc t)) (sym is) ∙ e in
-            let g : spent (delay r) (num r) ≡ 2 = ap (spent (delay r)) (no_word (num r) none) in
-            (r, c, omega (arith, is, g))
+    ends_only (suc zero) l e = by_bit (ends_at s wires.ready m.walk 0) (λ f. over_at 0 l e f) (λ f. absurd (let g = sym (or_left_off (ends_at s wires.ready m.walk 0) (false && not (is_on s m.walk.counted.more 0)) f) ∙ sym (h.done 1) ∙ e in cc))
+    ends_only (suc (suc v)) l e = by_bit (ends_at s wires.ready m.walk (suc v)) (λ f. over_at (suc v) l e f) (λ f. none_at v l e f)
 
     pub ends : IsOnAt (is_on s m.done) EndsAt upto
     ends = record { on = ends_on; only = ends_only }

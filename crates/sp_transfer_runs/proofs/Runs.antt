@@ -1,5 +1,5 @@
 -- Runs of a transfer as a node of the timeline: they come one after the other, and what happens in them.
-use Rattle.std.proofs.Common.{◌≡◌, ℕ, zero, suc, ◌+◌, ◌<◌, ◌≤◌, ◌⊎◌, inl, inr, Bool, List, [], ◌∷◌, ◌++◌, refl, sym, ap, subst, ◌∙◌, arith}
+use Rattle.std.proofs.Common.{◌≡◌, ℕ, suc, ◌+◌, ◌≤◌, ◌⊎◌, inl, inr, Bool, List, [], ◌∷◌, ◌++◌, map, sym, ap, subst, ◌∙◌, arith}
 use Rattle.std.specs.List.{Contains}
 use Rattle.sp_core.specs.Events.{Event, touches, spans_moments}
 use Rattle.sp_core.specs.History.{moved}
@@ -14,8 +14,7 @@ use Rattle.sp_control_runs.specs.Parts.{Ran, Begins, Ends}
 use Rattle.sp_node_runs.specs.Runs.{Placed, told, events_of, over_at, AreWithin}
 use Rattle.sp_node_runs.specs.Told.{all_events}
 use Rattle.sp_node_control.specs.Runs.{ran_of, rans}
-use Rattle.sp_transfer_runs.specs.Runs.{taken_in, words_in, total_of, EachMoves, delay_in, transfer_ran, transfer_rans}
-use Rattle.sp_transfer_runs.specs.Took.{spent}
+use Rattle.sp_transfer_runs.specs.Runs.{taken_in, words_in, total_of, delay_in}
 use Rattle.sp_transfer_runs.specs.Words.{parts_of}
 use Rattle.sp_transfer_runs.proofs.Cycles.{in_split, in_none, to_map, from_map, in_right, in_either, to_flat, from_flat}
 use Rattle.sp_transfer_runs.proofs.Events.{of_spans}
@@ -93,6 +92,13 @@ module _ (core : PlainCore) (plan : PlainPlan) (delays : Delays) where
             let l = of_spans q.standing n spans (taken_in q.history) e (subst (Contains (spans_moments n q.standing spans (taken_in q.history))) (ap (λ (z : Stamped). z.moment) same ∙ f) inside) in
             absurd (omega (arith, l, number))
 
+-- runs by their cycles and how long they take
+abbrev pub transfer_ran : Delays → (node : ℕ) → Placed → Ran
+transfer_ran delays k r = record { cycle = r.cycle; took = transfer_took (delay_in delays k r) (total_of r) }
+
+abbrev pub transfer_rans : Delays → (node : ℕ) → List Placed → List Ran
+transfer_rans delays k runs = map (transfer_ran delays k) runs
+
 -- starts and ends of runs
 module _ (delays : Delays) (k : ℕ) (runs : List Placed) where
   abbrev pub cycle : Placed → ℕ
@@ -110,21 +116,17 @@ module _ (delays : Delays) (k : ℕ) (runs : List Placed) where
   pub ends_at : (t : ℕ) → Ends (transfer_rans delays k runs) t → (r : Placed) × Contains runs r × (suc t ≡ r.cycle + (transfer_ran delays k r).took)
   ends_at t (ran, c, e) = let (r, there, same) = from_map (transfer_ran delays k) runs ran c in (r, there, e ∙ sym (ap (λ (x : Ran). x.cycle + x.took) same))
 
--- they are those of the node, but for how long a run without a word takes
+-- they are those of the node
 module _ (core : PlainCore) (plan : PlainPlan) (delays : Delays) (node : PlainNode) (k n : ℕ) (runs : List Placed) where
   pub started_in : (wire : ℕ → Bool) (t : ℕ) → IsOnAt wire (Begins (rans core plan delays node k n runs)) t → IsOnAt wire (Begins (transfer_rans delays k runs)) t
   started_in wire t = same_cycles wire (Begins (rans core plan delays node k n runs)) (Begins (transfer_rans delays k runs)) t
       (λ u b. let (ran, c, e) = b in let (r, there, same) = from_map (ran_of core plan delays node k n) runs ran c in (transfer_ran delays k r, to_map (transfer_ran delays k) runs r there, e ∙ sym (ap (λ (x : Ran). x.cycle) same)))
       (λ u b. let (ran, c, e) = b in let (r, there, same) = from_map (transfer_ran delays k) runs ran c in (ran_of core plan delays node k n r, to_map (ran_of core plan delays node k n) runs r there, e ∙ sym (ap (λ (x : Ran). x.cycle) same)))
 
-  spent_is : (delay : ℕ → ℕ) (words : ℕ) → 0 < words → spent delay words ≡ transfer_took delay words
-  spent_is delay zero l = absurd (omega (arith, l))
-  spent_is delay (suc w) l = refl
+  same_took : (took : (q : Placed) → Contains runs q → (told core plan delays node k n q).took ≡ transfer_took (delay_in delays k q) (total_of q)) → (q : Placed) (c : Contains runs q) → (transfer_ran delays k q).took ≡ (ran_of core plan delays node k n q).took
+  same_took took q c = sym (took q c)
 
-  same_took : (took : (q : Placed) → Contains runs q → (told core plan delays node k n q).took ≡ transfer_took (delay_in delays k q) (total_of q)) → EachMoves runs → (q : Placed) (c : Contains runs q) → (transfer_ran delays k q).took ≡ (ran_of core plan delays node k n q).took
-  same_took took each q c = spent_is (delay_in delays k q) (total_of q) (each q c) ∙ sym (took q c)
-
-  pub over_in : (took : (q : Placed) → Contains runs q → (told core plan delays node k n q).took ≡ transfer_took (delay_in delays k q) (total_of q)) → EachMoves runs → (wire : ℕ → Bool) (t : ℕ) → IsOnAt wire (Ends (transfer_rans delays k runs)) t → IsOnAt wire (Ends (rans core plan delays node k n runs)) t
-  over_in took each wire t = same_cycles wire (Ends (transfer_rans delays k runs)) (Ends (rans core plan delays node k n runs)) t
-      (λ u b. let (ran, c, e) = b in let (r, there, same) = from_map (transfer_ran delays k) runs ran c in (ran_of core plan delays node k n r, to_map (ran_of core plan delays node k n) runs r there, e ∙ sym (ap (λ (x : Ran). x.cycle + x.took) same) ∙ ap (λ x. r.cycle + x) (same_took took each r there)))
-      (λ u b. let (ran, c, e) = b in let (r, there, same) = from_map (ran_of core plan delays node k n) runs ran c in (transfer_ran delays k r, to_map (transfer_ran delays k) runs r there, e ∙ sym (ap (λ (x : Ran). x.cycle + x.took) same) ∙ ap (λ x. r.cycle + x) (sym (same_took took each r there))))
+  pub over_in : (took : (q : Placed) → Contains runs q → (told core plan delays node k n q).took ≡ transfer_took (delay_in delays k q) (total_of q)) → (wire : ℕ → Bool) (t : ℕ) → IsOnAt wire (Ends (transfer_rans delays k runs)) t → IsOnAt wire (Ends (rans core plan delays node k n runs)) t
+  over_in took wire t = same_cycles wire (Ends (transfer_rans delays k runs)) (Ends (rans core plan delays node k n runs)) t
+      (λ u b. let (ran, c, e) = b in let (r, there, same) = from_map (transfer_ran delays k) runs ran c in (ran_of core plan delays node k n r, to_map (ran_of core plan delays node k n) runs r there, e ∙ sym (ap (λ (x : Ran). x.cycle + x.took) same) ∙ ap (λ x. r.cycle + x) (same_took took r there)))
+      (λ u b. let (ran, c, e) = b in let (r, there, same) = from_map (ran_of core plan delays node k n) runs ran c in (transfer_ran delays k r, to_map (transfer_ran delays k) runs r there, e ∙ sym (ap (λ (x : Ran). x.cycle + x.took) same) ∙ ap (λ x. r.cycle + x) (sym (same_took took r there))))

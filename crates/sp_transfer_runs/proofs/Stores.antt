@@ -22,7 +22,7 @@ use Rattle.sp_xfer.specs.declared.part.Stored.{Stored}
 use Rattle.sp_xfer.specs.Ahead.{RunsStore, look_offsets, store_wires_of}
 use Rattle.sp_xfer.specs.Moving.{MovesSlice, words_at}
 use Rattle.sp_node_bodies.specs.Spans.{SpanNets}
-use Rattle.sp_transfer_runs.specs.Runs.{taken_in, words_in, total_of, word_of, place_of, delay_in, moves_in, transfer_rans, TellsWords, TransferRuns}
+use Rattle.sp_transfer_runs.specs.Runs.{taken_in, words_in, total_of, word_of, place_of, delay_in, moves_in, TellsWords, TransferRuns}
 use Rattle.sp_transfer_runs.specs.Stores.{StoreAnswered, Idles, ReadsInTime, StoresInTime, StoreGoes, StoresWork, StoresDo}
 use Rattle.sp_transfer_runs.specs.Told.{DoesAt, Reads}
 use Rattle.sp_transfer_runs.specs.Words.{moves_of, parts_of, count_of, offset_of, SlicesAreWords}
@@ -35,6 +35,7 @@ use Rattle.sp_transfer_runs.proofs.Looks.{look_before}
 use Rattle.sp_transfer_runs.proofs.Passing.{Apart, StartsAt}
 use Rattle.sp_transfer_runs.proofs.Pipeline as pipeline
 use Rattle.sp_transfer_runs.proofs.Runs as runs_of
+use Rattle.sp_transfer_runs.proofs.Runs.{transfer_rans}
 
 -- the word of a read
 abbrev read_in : Act → ℕ
@@ -197,7 +198,7 @@ module _ (law : SlicesAreWords) (core : PlainCore) (plan : PlainPlan) (delays : 
 
   pub goes : StoreGoes core plan delays s part nets upto k n r m spans runs
   goes = record {
-    ends = both.ends law core plan delays s (store_wires_of part) (dims core (dram_number core r)) spanned nets.moving last (store r m spans) k n runs moving rs took answered.ready upto in_time starts;
+    ends = runs_of.over_in core plan delays (store r m spans) k n runs took (is_on s nets.moving.done) upto (both.ends law core plan delays s (store_wires_of part) (dims core (dram_number core r)) spanned nets.moving last (store r m spans) k n runs moving rs took answered.ready upto in_time starts);
     asks = both.asks law core plan delays s (store_wires_of part) (dims core (dram_number core r)) spanned nets.moving last (store r m spans) k n runs moving rs took answered.ready upto in_time starts;
     tells = tells;
     looks = read;
@@ -209,6 +210,5 @@ stores_work law core plan delays s part nets spanned last k n r m spans runs h m
     goes law core plan delays s part nets spanned last k n r m spans runs h moves_are dims_are rs answered t l (runs_of.started_in core plan delays (store r m spans) k n runs (is_on s part.start) t starts)
 
 pub stores_do : SlicesAreWords → (core : PlainCore) (plan : PlainPlan) (delays : Delays) → StoresDo core plan delays
-stores_do law core plan delays s part nets spanned last k n r m spans runs h moves_are dims_are rs answered each t l starts =
-    runs_of.over_in core plan delays (store r m spans) k n runs (λ q c. runs_of.store_took core plan delays k n r m spans q (rs.did q c).is) each (is_on s nets.moving.done) t
+stores_do law core plan delays s part nets spanned last k n r m spans runs h moves_are dims_are rs answered t l starts =
     (stores_work law core plan delays s part nets spanned last k n r m spans runs h moves_are dims_are rs answered t l starts).ends

@@ -197,8 +197,8 @@ module _ (counters_law : CountersRunThroughGroups) (loops_law : SlicesAreLoops) 
     pub asks : is_on s wires.start begun ≡ true → is_on s wires.request (suc begun) ≡ nat_lt 0 (count_of taken)
     asks e = moves_law.asks s wires dims (moves_of nets) m (loops_of taken) begun h (was_taken begun (at_once e)) ∙ ap (nat_lt 0) same_count
 
-    pub empty : is_on s wires.start begun ≡ true → is_on s m.done (suc begun) ≡ (ends_at s wires.ready m.walk begun || not (nat_lt 0 (count_of taken)))
-    empty e = moves_law.empty s wires dims (moves_of nets) m (loops_of taken) begun h (was_taken begun (at_once e)) ∙ ap (λ n. ends_at s wires.ready m.walk begun || not (nat_lt 0 n)) same_count
+    pub empty : is_on s wires.start begun ≡ true → is_on s m.done (suc (suc begun)) ≡ (ends_at s wires.ready m.walk (suc begun) || not (nat_lt 0 (count_of taken)))
+    empty e = moves_law.empty s wires dims (moves_of nets) m (loops_of taken) begun h (was_taken begun (at_once e)) ∙ ap (λ n. ends_at s wires.ready m.walk (suc begun) || not (nat_lt 0 n)) same_count
 
     module _ (cycles : ℕ) (b : StartedAt s wires.start begun (begun + 1 + cycles)) where
       j : ℕ
@@ -226,7 +226,7 @@ module _ (counters_law : CountersRunThroughGroups) (loops_law : SlicesAreLoops) 
         at = at;
         address = λ l. address l;
         last = λ e l. old.last e (subst (λ n. j < n) (sym same_count) l) ∙ ap (λ n. nat_lt j n && not (nat_lt (suc j) n)) same_count ∙ ap (λ b. b && not (nat_lt (suc j) (count_of taken))) (lt-ltb j (count_of taken) l);
-        done = old.done ∙ ap (λ n. is_on s wires.ready u && (nat_lt j n && not (nat_lt (suc j) n))) same_count;
+        done = λ l. old.done (subst (λ n. 0 < n) (sym same_count) l) ∙ ap (λ n. is_on s wires.ready u && (nat_lt j n && not (nat_lt (suc j) n))) same_count;
         request = old.request;
       }
 

@@ -130,10 +130,10 @@ slice_moves dims moves counts counters masks axes d e h = record {
   address = subst₂ (λ ds ns. (t : ℕ) → waves.net t 4 ≡ row_major ds (values_at waves ns t) % 2 ^ 32) (sym d) (sym h.counters_are) (cycles _ refl refl refl refl refl refl refl refl (λ t. refl));
   asks = cycles _ refl refl refl refl refl refl refl refl (λ t. refl);
   moved = cycles _ refl refl refl refl refl refl refl refl (λ t. refl);
-  done = subst₂ (λ ns xs. (t : ℕ) → is_on waves 11 t ≡ (was (λ u. (is_on waves 1 u && is_on waves 10 u) && all_ended waves ns xs u) t || (was (is_on waves 0) t && not (is_on waves 10 t)))) (sym h.counters_are) (sym h.axes_are) over;
+  done = subst₂ (λ ns xs. (t : ℕ) → is_on waves 11 t ≡ was (λ u. ((is_on waves 1 u && is_on waves 10 u) && all_ended waves ns xs u) || (was (is_on waves 0) u && not (is_on waves 10 u))) t) (sym h.counters_are) (sym h.axes_are) over;
 }
   where
-    over : (t : ℕ) → is_on waves 11 t ≡ (was (λ u. (is_on waves 1 u && is_on waves 10 u) && all_ended waves (counter 4 ∷ []) (axis 3 9 ∷ []) u) t || (was (is_on waves 0) t && not (is_on waves 10 t)))
+    over : (t : ℕ) → is_on waves 11 t ≡ was (λ u. ((is_on waves 1 u && is_on waves 10 u) && all_ended waves (counter 4 ∷ []) (axis 3 9 ∷ []) u) || (was (is_on waves 0) u && not (is_on waves 10 u))) t
     over = cycles _ refl refl refl refl refl refl refl refl (λ t. refl)
 
 loads : (dims : Vec ℕ) (moves : Vec Move) (counts : Vec Count) (counters : Vec Counter) (masks : Vec ℕ) (axes : Vec Axis) (indices : Vec ℕ) → dims.items ≡ 4 ∷ [] → moves.items ≡ Range 5 6 ∷ [] → HaveWalk 4 3 9 counts counters masks axes → indices.items ≡ 11 ∷ []

@@ -1,4 +1,3 @@
-pub mod Took
 pub mod Words
 pub mod Runs
 pub mod Told

@@ -29,9 +29,8 @@ use Rattle.sp_xfer.specs.declared.part.Stored.{Stored}
 use Rattle.sp_xfer.specs.Ahead.{RunsStore}
 use Rattle.sp_xfer.specs.Moving.{RunsLoad}
 use Rattle.sp_node_bodies.specs.Spans.{two_nets, HaveSpans}
-use Rattle.sp_machine.specs.Transfers.{word_cycle, look_cycle}
+use Rattle.sp_machine.specs.Transfers.{word_cycle, look_cycle, transfer_took}
 use Rattle.sp_transfer_runs.specs.Stores.{ReadsAhead, goes_ahead}
-use Rattle.sp_transfer_runs.specs.Took.{spent}
 use Rattle.sp_transfer_runs.specs.Words.{loops_of, parts_of, count_of, offset_of, IsSlice}
 
 -- the words of a net: those of the first cycles, and that of all others
@@ -120,5 +119,5 @@ pub record WorkedTransfers : Type 0 where
   -- their cycles, where each asking takes a delay of 1, and the end
   pub moves : map (word_cycle (λ ask. 1)) (0 ∷ 1 ∷ []) ≡ 3 ∷ 4 ∷ []
   pub looks : map (look_cycle (λ ask. 1)) (0 ∷ 1 ∷ []) ≡ 0 ∷ 1 ∷ []
-  pub took : spent (λ ask. 1) 2 ≡ 6
-  pub none : spent (λ ask. 1) 0 ≡ 2
+  pub took : transfer_took (λ ask. 1) 2 ≡ 6
+  pub none : transfer_took (λ ask. 1) 0 ≡ 3

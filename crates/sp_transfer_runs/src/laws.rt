@@ -31,7 +31,7 @@ pub fn slices_are_words()
 
 /// Where a load is started in the cycles of its runs, with the nets of its spans there, and its channel answers as the timeline says,
 /// all up to a cycle, it is done where its runs are over, asks for the slice of each run that has a word, and writes on the chip at the
-/// events of the timeline and nowhere else. So where each run has a word it does the runs of its node.
+/// events of the timeline and nowhere else. So it does the runs of its node.
 pub fn loads_work()
     ensures goes { (core : PlainCore) (plan : PlainPlan) (delays : Delays) → LoadsWork core plan delays }
     ensures runs { (core : PlainCore) (plan : PlainPlan) (delays : Delays) → LoadsDo core plan delays }
