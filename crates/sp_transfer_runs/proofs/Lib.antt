@@ -8,11 +8,13 @@ pub mod Loads
 pub mod Looks
 pub mod Moved
 pub mod Numbers
+pub mod Parts
 pub mod Passing
 pub mod Pipeline
 pub mod Places
 pub mod Runs
 pub mod Stores
 pub mod Taken
+pub mod Trees
 pub mod Words
 pub mod Worked

@@ -8,6 +8,7 @@ use Rattle.sp_words.specs.Types.{int_type}
 use Rattle.sp_core.specs.Around.{Around}
 use Rattle.sp_core.specs.Declarations.{mem, dims, dram, kind_of, dram_number}
 use Rattle.sp_core.specs.History.{Taken, one, both, last_word, History, moved}
+use Rattle.sp_core.specs.Invariant.{IsRight}
 use Rattle.sp_core.specs.MemoryRules.{are_memories_right, is_mem_right, is_dram_right, has_words}
 use Rattle.sp_core.specs.NodeRules.{is_span_right, is_slice_right, fits_sram, fits_line}
 use Rattle.sp_core.specs.OperationRules.{is_bound, is_word_list, is_early}
@@ -24,18 +25,19 @@ use Rattle.sp_fitting.proofs.Rules.{word_list_right, here_right}
 use Rattle.sp_hold.proofs.Steps.{bound, was_pure, was_ensured}
 use Rattle.sp_transfer_runs.specs.Runs.{taken_in, words_in, DidSlice}
 use Rattle.sp_transfer_runs.specs.Taken.{SlicesAreTaken}
-use Rattle.sp_transfer_runs.specs.Words.{EndsFit, parts_of, count_of}
+use Rattle.sp_transfer_runs.specs.Trees.{MovesAll}
+use Rattle.sp_transfer_runs.specs.Words.{EndsFit, parts_of}
 use Rattle.sp_transfer_runs.proofs.Moved.{not_less}
 use Rattle.sp_transfer_runs.proofs.Places.{none_offsets}
 
 -- what a step gives, where it goes on
-abbrev Gives : {A : Type 0} → (A → Type 0) → Step A → Type 0
+abbrev pub Gives : {A : Type 0} → (A → Type 0) → Step A → Type 0
 Gives {A = A} P step = (s t : Store) (a : A) → step s ≡ went a t → P a
 
-gives_bound : {A B : Type 0} (step : Step A) (rest : A → Step B) (P : A → Type 0) (R : B → Type 0) → Gives P step → ((a : A) → P a → Gives R (rest a)) → Gives R (step >>= rest)
+pub gives_bound : {A B : Type 0} (step : Step A) (rest : A → Step B) (P : A → Type 0) (R : B → Type 0) → Gives P step → ((a : A) → P a → Gives R (rest a)) → Gives R (step >>= rest)
 gives_bound step rest P R f g s t b e = let x = bound step rest s b t e in g x.value (f s x.middle x.value x.first) x.middle t b x.later
 
-gives_pure : {A : Type 0} (P : A → Type 0) (a : A) → P a → Gives P (pure a)
+pub gives_pure : {A : Type 0} (P : A → Type 0) (a : A) → P a → Gives P (pure a)
 gives_pure P a p s t b e = subst P (was_pure a b s t e).value p
 
 gives_ensured : (test : Bool) → Gives (λ u. test ≡ true) (ensure test)
@@ -47,24 +49,18 @@ unfolding in_order
 as_long step [] = gives_pure (λ ys. length ys ≡ 0) [] refl
 as_long step (x ∷ xs) = gives_bound (step x) _ (λ y. Unit {0}) _ (λ s t a e. tt) (λ y u. gives_bound (in_order step xs) _ (λ ys. length ys ≡ length xs) _ (as_long step xs) (λ ys e. gives_pure (λ zs. length zs ≡ suc (length xs)) (y ∷ ys) (ap (λ n. suc n) e)))
 
--- what is moved
-pub record MovedSo (size : List ℕ) (h : History) : Type 0 where
-  pub is : h ≡ moved (taken_in h) (words_in h)
-  pub each : length (words_in h) ≡ count_of (taken_in h)
-  pub inside : has_none (lengths (parts_of (taken_in h))) ≡ false → are_parts_inside size (parts_of (taken_in h)) ≡ true
-
 module _ (core : PlainCore) where
-  transfer_gives : (r m : ℕ) (ts : List Taken) (move : Step (List ℕ)) → Gives (λ ws. length ws ≡ length (all_offsets (parts_of ts))) move → Gives (MovedSo (dims core (dram_number core r))) (transfer core r m ts move)
+  transfer_gives : (r m : ℕ) (ts : List Taken) (move : Step (List ℕ)) → Gives (λ ws. length ws ≡ length (all_offsets (parts_of ts))) move → Gives (MovesAll (dims core (dram_number core r))) (transfer core r m ts move)
   transfer_gives r m ts move f = go (has_none (lengths (map part_of ts))) refl
     where
       go : (none : Bool) → has_none (lengths (map part_of ts)) ≡ none
-          → Gives (MovedSo (dims core (dram_number core r))) (elim none as (λ _. Step History) [ true ↦ pure (moved ts []) | false ↦ ensure (are_parts_inside (dims core (dram_number core r)) (map part_of ts)) >> (ensure (do_fit (range_limits (kind_of core m) (dims core m)) (lengths (map part_of ts))) >> (move >>= (λ ws. pure (moved ts ws)))) ])
-      go true e = gives_pure (MovedSo (dims core (dram_number core r))) (moved ts []) (record { is = refl; each = sym (ap length (none_offsets (parts_of ts) e)); inside = λ f. absurd (let g = sym e ∙ f in cc) })
+          → Gives (MovesAll (dims core (dram_number core r))) (elim none as (λ _. Step History) [ true ↦ pure (moved ts []) | false ↦ ensure (are_parts_inside (dims core (dram_number core r)) (map part_of ts)) >> (ensure (do_fit (range_limits (kind_of core m) (dims core m)) (lengths (map part_of ts))) >> (move >>= (λ ws. pure (moved ts ws)))) ])
+      go true e = gives_pure (MovesAll (dims core (dram_number core r))) (moved ts []) (record { is = refl; each = sym (ap length (none_offsets (parts_of ts) e)); inside = λ f. absurd (let g = sym e ∙ f in cc) })
       go false e =
           gives_bound (ensure (are_parts_inside (dims core (dram_number core r)) (map part_of ts))) _ (λ u. are_parts_inside (dims core (dram_number core r)) (map part_of ts) ≡ true) _ (gives_ensured (are_parts_inside (dims core (dram_number core r)) (map part_of ts)))
           (λ u inside. gives_bound (ensure (do_fit (range_limits (kind_of core m) (dims core m)) (lengths (map part_of ts)))) _ (λ u. Unit {0}) _ (λ s t a e. tt)
           (λ v w. gives_bound move _ (λ ws. length ws ≡ length (all_offsets (parts_of ts))) _ f
-          (λ ws long. gives_pure (MovedSo (dims core (dram_number core r))) (moved ts ws) (record { is = refl; each = long; inside = λ g. inside }))))
+          (λ ws long. gives_pure (MovesAll (dims core (dram_number core r))) (moved ts ws) (record { is = refl; each = long; inside = λ g. inside }))))
 
   load_gives : (r m : ℕ) (ts : List Taken) → Gives (λ ws. length ws ≡ length (all_offsets (parts_of ts))) (load_words core r m (map part_of ts))
   load_gives r m ts = gives_bound (make_room core (kind_of core m) m) _ (λ u. Unit {0}) _ (λ s t a e. tt) (λ u w. as_long _ (all_offsets (map part_of ts)))
@@ -73,11 +69,11 @@ module _ (core : PlainCore) where
   store_gives r m ts = as_long _ (all_offsets (map part_of ts))
 
   module _ (reading : Reading) (turns : ℕ) where
-    load_run_gives : (r m : ℕ) (spans : List PlainSpan) (scope : Scope) → Gives (MovedSo (dims core (dram_number core r))) (run core reading turns (load r m spans) scope)
+    pub load_run_gives : (r m : ℕ) (spans : List PlainSpan) (scope : Scope) → Gives (MovesAll (dims core (dram_number core r))) (run core reading turns (load r m spans) scope)
     unfolding run
     load_run_gives r m spans scope = gives_bound (in_order (taken core reading turns scope) spans) _ (λ ts. Unit {0}) _ (λ s t a e. tt) (λ ts u. transfer_gives r m ts (load_words core r m (map part_of ts)) (load_gives r m ts))
 
-    store_run_gives : (r m : ℕ) (spans : List PlainSpan) (scope : Scope) → Gives (MovedSo (dims core (dram_number core r))) (run core reading turns (store r m spans) scope)
+    pub store_run_gives : (r m : ℕ) (spans : List PlainSpan) (scope : Scope) → Gives (MovesAll (dims core (dram_number core r))) (run core reading turns (store r m spans) scope)
     unfolding run
     store_run_gives r m spans scope = gives_bound (in_order (taken core reading turns scope) spans) _ (λ ts. Unit {0}) _ (λ s t a e. tt) (λ ts u. transfer_gives r m ts (store_words core r m (map part_of ts)) (store_gives r m ts))
 
@@ -116,7 +112,7 @@ module _ (core : PlainCore) where
       let few = leb-true (word_count (dims core (dram_number core r))) 67108864 p.1 in
       (leb-true 1 (word_count (dims core (dram_number core r))) p.0, omega (arith, few))
 
-  did : (around : Around) (r : ℕ) (spans : List PlainSpan) (h : History) → are_memories_right core ≡ true → is_slice_right core around r spans ≡ true → MovedSo (dims core (dram_number core r)) h → AllZip SpanFits spans (taken_in h) → DidSlice (dims core (dram_number core r)) h
+  did : (around : Around) (r : ℕ) (spans : List PlainSpan) (h : History) → are_memories_right core ≡ true → is_slice_right core around r spans ≡ true → MovesAll (dims core (dram_number core r)) h → AllZip SpanFits spans (taken_in h) → DidSlice (dims core (dram_number core r)) h
   did around r spans h right slice so fits =
       let p = and_parts (nat_lt r (length core.ports.drams) && (length spans == length (dram core r).dims)) (list_all (is_span_right core around) spans) slice in
       let size = size_right right r (and_parts (nat_lt r (length core.ports.drams)) (length spans == length (dram core r).dims) p.0).0 in
@@ -128,12 +124,16 @@ module _ (core : PlainCore) where
   store_fits : (r m : ℕ) (spans : List PlainSpan) (h : History) → h ≡ moved (taken_in h) (words_in h) → HistoryFits core (store r m spans) h → AllZip SpanFits spans (taken_in h)
   store_fits r m spans h e f = let g : HistoryFits core (store r m spans) (moved (taken_in h) (words_in h)) = subst (HistoryFits core (store r m spans)) e f in g.0
 
+  pub load_did : (around : Around) (earlier : List ℕ) (r m : ℕ) (spans : List PlainSpan) (h : History) → are_memories_right core ≡ true → IsRight core around earlier (load r m spans) → MovesAll (dims core (dram_number core r)) h → HistoryFits core (load r m spans) h → DidSlice (dims core (dram_number core r)) h
+  load_did around earlier r m spans h mems right so fits =
+      did around r spans h mems (and_parts (is_slice_right core around r spans) (fits_sram core around r m spans || fits_line core around r m spans) (here_right core around earlier (load r m spans) right).0).0 so (load_fits r m spans h so.is fits)
+
+  pub store_did : (around : Around) (earlier : List ℕ) (r m : ℕ) (spans : List PlainSpan) (h : History) → are_memories_right core ≡ true → IsRight core around earlier (store r m spans) → MovesAll (dims core (dram_number core r)) h → HistoryFits core (store r m spans) h → DidSlice (dims core (dram_number core r)) h
+  store_did around earlier r m spans h mems right so fits =
+      did around r spans h mems (and_parts (is_slice_right core around r spans) (fits_sram core around r m spans) (here_right core around earlier (store r m spans) right).0).0 so (store_fits r m spans h so.is fits)
+
   pub slices_are_taken : SlicesAreTaken core
   slices_are_taken = record {
-    of_load = λ reading turns around earlier r m spans scope s t h mems right ran fits.
-        let so = load_run_gives reading turns r m spans scope s t h ran in
-        did around r spans h mems (and_parts (is_slice_right core around r spans) (fits_sram core around r m spans || fits_line core around r m spans) (here_right core around earlier (load r m spans) right).0).0 so (load_fits r m spans h so.is fits);
-    of_store = λ reading turns around earlier r m spans scope s t h mems right ran fits.
-        let so = store_run_gives reading turns r m spans scope s t h ran in
-        did around r spans h mems (and_parts (is_slice_right core around r spans) (fits_sram core around r m spans) (here_right core around earlier (store r m spans) right).0).0 so (store_fits r m spans h so.is fits);
+    of_load = λ reading turns around earlier r m spans scope s t h mems right ran fits. load_did around earlier r m spans h mems right (load_run_gives reading turns r m spans scope s t h ran) fits;
+    of_store = λ reading turns around earlier r m spans scope s t h mems right ran fits. store_did around earlier r m spans h mems right (store_run_gives reading turns r m spans scope s t h ran) fits;
   }

@@ -5,4 +5,5 @@ pub mod Loads
 pub mod Stores
 pub mod Taken
 pub mod Channels
+pub mod Trees
 pub mod Worked
