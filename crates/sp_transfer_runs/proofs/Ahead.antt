@@ -1,5 +1,5 @@
 -- A walk that is one word ahead: what is read as it goes on is the word that it comes to.
-use Rattle.std.proofs.Common.{◌≡◌, ℕ, zero, suc, ◌+◌, ◌*◌, ◌<◌, ◌≤◌, ◌==◌, Bool, true, false, ◌&&◌, ◌||◌, not, ℤ, pos, ◌+ℤ◌, ◌-ℤ◌, List, [], ◌∷◌, ◌++◌, map, flat_map, slice_index_or, refl, sym, ap, ap₂, subst, ◌∙◌, arith, lit<, if◌then◌else◌}
+use Rattle.std.proofs.Common.{◌≡◌, ℕ, zero, suc, ◌+◌, ◌*◌, ◌<◌, ◌≤◌, ◌==◌, Bool, true, false, ◌&&◌, ◌||◌, not, ℤ, pos, ◌+ℤ◌, ◌-ℤ◌, List, [], ◌∷◌, ◌++◌, map, flat_map, length, slice_index_or, refl, sym, ap, ap₂, subst, ◌∙◌, arith, lit<, if◌then◌else◌}
 use Rattle.std.specs.Prelude.{int_lt}
 use Rattle.std.proofs.lemmas.Int.{ints}
 use Rattle.sp_words.specs.Types.{int_type}
@@ -141,6 +141,10 @@ first_tuple (suc n ∷ ns) h =
       map (λ xs. 0 ∷ xs) rest ++ flat_map (λ x. map (λ xs. x ∷ xs) (map (λ n. 0) ns ∷ rest)) others,
       ap₂ (λ xs ts. flat_map (λ x. map (λ ys. x ∷ ys) ts) xs) f e,
     )
+
+-- so it has a word
+pub some_word : (ns : List ℕ) → has_none ns ≡ false → 0 < length (tuples (map numbers_below ns))
+some_word ns h = let (rest, e) = first_tuple ns h in let f : length (tuples (map numbers_below ns)) ≡ suc (length rest) = ap length e in omega (arith, f)
 
 pub first_is : (s : Signals) (start : ℕ) (follows : ℕ → Bool) (t u : ℕ) (spanned : List SpanNets) (taken : List Taken) (counts : List Count) (counters : List Counter) (axes : List Axis) → CountMoves s (moves_of spanned) counts → FollowAxes s follows counts counters axes
     → HaveSpans s u spanned taken → is_on s start t ≡ true → has_none (lengths (parts_of taken)) ≡ false → look_offsets s start (moves_of spanned) axes t ≡ offset_of taken 0

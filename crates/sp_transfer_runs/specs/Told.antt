@@ -1,9 +1,9 @@
 -- Accesses of a transfer in the cycles of the events of a timeline, by its number.
-use Rattle.std.specs.Prelude.{◌≡◌, ℕ, ◌≤◌, List}
+use Rattle.std.specs.Prelude.{◌≡◌, ℕ, ◌≤◌, List, []}
 use Rattle.sp_netlist.specs.Signals.{Signals}
 use Rattle.sp_gates.specs.Tested.{is_on}
 use Rattle.sp_core.specs.Elements.{row_major}
-use Rattle.sp_core.specs.Events.{Act, reads, writes, Event}
+use Rattle.sp_core.specs.Events.{Act, reads, writes, turns, Event}
 use Rattle.sp_machine.specs.Stamps.{Stamped}
 use Rattle.sp_body_runs.specs.Runs.{IsOnAt}
 use Rattle.sp_xfer.specs.Moving.{words_at}
@@ -21,6 +21,10 @@ Writes events n t = (is : List ℕ) × (w : ℕ) × DoesAt events n t is (writes
 
 abbrev pub Reads : List Stamped → (number t : ℕ) → Type 0
 Reads events n t = (is : List ℕ) × (w : ℕ) × DoesAt events n t is (reads w)
+
+-- the rows of a line buffer turn
+abbrev pub Turns : List Stamped → (number t : ℕ) → Type 0
+Turns events n t = DoesAt events n t [] turns
 
 -- Up to a cycle an access writes in the cycles of the events that do and in no other, at the event's element and with its word.
 -- `place` gives the element of the words of the access's nets.
