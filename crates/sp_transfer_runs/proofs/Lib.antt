@@ -2,6 +2,7 @@ pub mod Ahead
 pub mod Askings
 pub mod Both
 pub mod Channels
+pub mod Choice
 pub mod Cycles
 pub mod Events
 pub mod Loads

@@ -174,4 +174,7 @@ worked_transfers = record {
   looks = refl;
   took = refl;
   none = refl;
+  first_delays = refl;
+  second_delay = refl;
+  apart = ((refl, tt), (tt, tt));
 }

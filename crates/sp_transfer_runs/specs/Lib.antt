@@ -5,5 +5,6 @@ pub mod Loads
 pub mod Stores
 pub mod Taken
 pub mod Channels
+pub mod Choice
 pub mod Trees
 pub mod Worked

@@ -10,9 +10,10 @@
 --   store reads   1  1                  (at 0 and 1)
 --   word to store          10 11
 --   done                         1
-use Rattle.std.specs.Prelude.{◌≡◌, ℕ, zero, suc, pos, List, [], ◌∷◌, map, slice_index_or}
+use Rattle.std.specs.Prelude.{◌≡◌, ℕ, zero, suc, ◌+◌, pos, List, [], ◌∷◌, map, slice_index_or}
 use Rattle.std.specs.Global.{Vec}
 use Rattle.sp_netlist.specs.Signals.{Signals, idle}
+use Rattle.sp_core.specs.Events.{At, in_group_of}
 use Rattle.sp_core.specs.History.{Taken, gave, both}
 use Rattle.sp_core.specs.Scope.{group_values}
 use Rattle.sp_core.specs.Transfers.{places_of, all_offsets}
@@ -30,6 +31,7 @@ use Rattle.sp_xfer.specs.Ahead.{RunsStore}
 use Rattle.sp_xfer.specs.Moving.{RunsLoad}
 use Rattle.sp_node_bodies.specs.Spans.{two_nets, HaveSpans}
 use Rattle.sp_machine.specs.Transfers.{word_cycle, look_cycle, transfer_took}
+use Rattle.sp_transfer_runs.specs.Choice.{Moved, AreApart, chosen}
 use Rattle.sp_transfer_runs.specs.Stores.{ReadsAhead, goes_ahead}
 use Rattle.sp_transfer_runs.specs.Words.{loops_of, parts_of, count_of, offset_of, IsSlice}
 
@@ -102,6 +104,13 @@ stored_of moving counts counters masks axes indices = record { moving = moving; 
 abbrev pub taken : List Taken
 taken = both (gave 1 ∷ []) (gave 3 ∷ []) ∷ []
 
+-- two runs of a transfer in a loop, of 18 words and of 2
+abbrev pub path : (group : ℕ) → List At
+path g = record { node = 0; when = in_group_of g 0 } ∷ []
+
+abbrev pub runs : List Moved
+runs = record { path = path 0; words = 18 } ∷ record { path = path 1; words = 2 } ∷ []
+
 pub record WorkedTransfers : Type 0 where
   pub loads : (dims : Vec ℕ) (moves : Vec Move) (counts : Vec Count) (counters : Vec Counter) (masks : Vec ℕ) (axes : Vec Axis) (indices : Vec ℕ) → dims.items ≡ 4 ∷ [] → moves.items ≡ Range 5 6 ∷ [] → HaveWalk 4 3 9 counts counters masks axes → indices.items ≡ 11 ∷ []
       → RunsLoad waves (load_of dims moves) (record { moving = moving_of counts counters masks axes; write = 12; indices = indices })
@@ -121,3 +130,7 @@ pub record WorkedTransfers : Type 0 where
   pub looks : map (look_cycle (λ ask. 1)) (0 ∷ 1 ∷ []) ≡ 0 ∷ 1 ∷ []
   pub took : transfer_took (λ ask. 1) 2 ≡ 6
   pub none : transfer_took (λ ask. 1) 0 ≡ 3
+  -- the first run has the delays of the first two askings, the second one that of the third
+  pub first_delays : map (chosen (λ i. 100 + i) 0 runs (path 0)) (0 ∷ 1 ∷ []) ≡ 100 ∷ 101 ∷ []
+  pub second_delay : chosen (λ i. 100 + i) 0 runs (path 1) 0 ≡ 102
+  pub apart : AreApart runs

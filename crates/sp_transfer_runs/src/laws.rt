@@ -4,6 +4,7 @@ ghost use Rattle.sp_core.specs.PlainCore.{PlainCore};
 ghost use Rattle.sp_plan.specs.PlainPlan.{PlainPlan};
 ghost use Rattle.sp_machine.specs.Transfers.{Delays};
 ghost use Rattle.sp_transfer_runs.specs.Channels.{ChannelsAnswer};
+ghost use Rattle.sp_transfer_runs.specs.Choice.{DelaysAreChosen};
 ghost use Rattle.sp_transfer_runs.specs.Loads.{LoadsDo, LoadsWork};
 ghost use Rattle.sp_transfer_runs.specs.Stores.{StoresDo, StoresWork};
 ghost use Rattle.sp_transfer_runs.specs.Taken.{SlicesAreTaken};
@@ -62,6 +63,12 @@ pub fn channels_answer()
 {
     transfers_follow();
 }
+
+/// Where no two runs of a transfer have one path, delays that are chosen by paths and by how many words each run moves are those that the
+/// askings take.
+pub fn delays_are_chosen()
+    ensures { DelaysAreChosen }
+{}
 
 /// The equations of a load and of a store hold of a transfer of two words that is worked by hand, and the words of its slice, their
 /// cycles and its end are those.
