@@ -24,7 +24,7 @@ abbrev pub ends_at : Signals → (ready : ℕ) → Walk → (cycle : ℕ) → Bo
 ends_at s ready walk t = moves_at s ready walk t && all_ended s walk.counted.counters.items walk.axes.items t
 
 -- A slice is asked for in the cycle after the start, where it has a word. It is done in the cycle after that in which its last
--- word moves, or in the one after the start where it has none.
+-- word moves, or, where it has none, in the second one after the start.
 pub record MovesSlice (s : Signals) (wires : Wires) (dims : List ℕ) (moves : List Move) (m : Moving) : Type 0 where
   pub walks : WalksSlice s wires.start wires.ready moves m.walk
   pub request : (t : ℕ) → is_on s wires.request t ≡ (was (is_on s wires.start) t && is_on s m.walk.counted.more t)
@@ -32,7 +32,7 @@ pub record MovesSlice (s : Signals) (wires : Wires) (dims : List ℕ) (moves : L
   pub address : (t : ℕ) → s.net t wires.address ≡ row_major dims (values_at s m.walk.counted.counters.items t) % 2 ^ 32
   pub asks : (t : ℕ) → is_on s m.asks t ≡ (was (is_on s wires.start) t && is_on s m.walk.counted.more t)
   pub moved : (t : ℕ) → is_on s m.moved t ≡ moves_at s wires.ready m.walk t
-  pub done : (t : ℕ) → is_on s m.done t ≡ (was (ends_at s wires.ready m.walk) t || (was (is_on s wires.start) t && not (is_on s m.walk.counted.more t)))
+  pub done : (t : ℕ) → is_on s m.done t ≡ was (λ u. ends_at s wires.ready m.walk u || (was (is_on s wires.start) u && not (is_on s m.walk.counted.more u))) t
 
 -- the words of some nets
 abbrev pub words_at : Signals → (cycle : ℕ) → List ℕ → List ℕ

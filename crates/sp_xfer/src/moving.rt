@@ -32,7 +32,7 @@ pub(crate) fn after(builder: &mut Builder, net: NetId, one: NetId) -> Result<Net
     Ok(late)
 }
 
-/// A net that is 1 in the cycle after the last word moved, or in the first one of a slice without a word.
+/// A net that is 1 in the cycle after the last word moved, or in the second one after the start of a slice without a word.
 fn ends(
     builder: &mut Builder,
     begun: NetId,
@@ -48,13 +48,13 @@ fn ends(
     requires one { IsOne builder.old one }
     ensures fills { OnOk result (Fills builder.old builder.new []) }
     ensures net { IfOk result (λ done. HasNet builder.new done 1) }
-    ensures on { IfOk result (λ done. (s : Signals) → RunsOn s builder.new.cells → (t : ℕ) → is_on s done t ≡ (was (λ u. is_on s moved u && is_on s last u) t || (is_on s begun t && not (is_on s more t)))) }
+    ensures on { IfOk result (λ done. (s : Signals) → RunsOn s builder.new.cells → (t : ℕ) → is_on s done t ≡ was (λ u. (is_on s moved u && is_on s last u) || (is_on s begun u && not (is_on s more u))) t) }
 {
     let over = on_both(builder, moved, last)?;
-    let past = after(builder, over, one)?;
     let none = on_not(builder, more)?;
     let empty = on_both(builder, begun, none)?;
-    let done = on_either(builder, past, empty)?;
+    let either = on_either(builder, over, empty)?;
+    let done = after(builder, either, one)?;
     Ok(done)
 }
 

@@ -36,7 +36,7 @@ fn reading(builder: &mut Builder, start: NetId, step: NetId, look: &Walk) -> Res
 
 /// Emits a store. Its slice is taken in the cycle of the start and asked for in the next one. The first word is read on the chip in
 /// the cycle of the start, the second one in the next, and each other one as a word moves. It is done in the cycle after the last
-/// word moved; without a word it is done in the cycle after the start.
+/// word moved; without a word it is done two cycles after the start.
 pub fn emit_store(alloc: Global, builder: &mut Builder, part: &Store) -> Result<Stored, NoMemory>
     requires { StoreFits builder.old part.now }
     ensures fills { OnOk result (Fills builder.old builder.new (part.now.port.request ∷ part.now.port.last ∷ part.now.port.address ∷ part.now.port.word ∷ [])) }

@@ -84,5 +84,5 @@ returns-clause-moves c = λ s moves r same w.
       asks = asks;
       moved = moved;
       done = λ t. c.in_ok-done.ensures.on s r_done t
-          ∙ ap₂ (λ a b. a || (b && not (is_on s c.args.walk.now.counted.more t))) (was_same _ _ (λ u. ap₂ (λ a b. a && b) (moved u) (w.last u)) t) (begun t);
+          ∙ was_same _ _ (λ u. ap₂ (λ a b. a || (b && not (is_on s c.args.walk.now.counted.more u))) (ap₂ (λ a b. a && b) (moved u) (w.last u)) (begun u)) t;
     }

@@ -5,27 +5,26 @@ use Rattle.sp_gates.specs.Tested.{is_on}
 use Rattle.sp_xfer.proofs.Keeping.{was_same}
 use Rattle.sp_xfer.proofs.moving.ends.Goals as goal
 
-pub after-requires-clause-one : goal.after-requires-clause-one
-after-requires-clause-one c = IsOne-stays _ _ _ c.in_ok-over.ensures.fills.grows c.requires.one
-
 pub on_not-requires : goal.on_not-requires
-on_not-requires c = HasNet-stays _ _ _ _ c.in_ok-past.ensures.fills.grows (HasNet-stays _ _ _ _ c.in_ok-over.ensures.fills.grows (c.requires.more))
+on_not-requires c = HasNet-stays _ _ _ _ c.in_ok-over.ensures.fills.grows (c.requires.more)
 
 pub on_both-requires-2-clause-left : goal.on_both-requires-2-clause-left
-on_both-requires-2-clause-left c = HasNet-stays _ _ _ _ c.in_ok-none.ensures.fills.grows (HasNet-stays _ _ _ _ c.in_ok-past.ensures.fills.grows (HasNet-stays _ _ _ _ c.in_ok-over.ensures.fills.grows (c.requires.begun)))
+on_both-requires-2-clause-left c = HasNet-stays _ _ _ _ c.in_ok-none.ensures.fills.grows (HasNet-stays _ _ _ _ c.in_ok-over.ensures.fills.grows (c.requires.begun))
 
 pub on_either-requires-clause-left : goal.on_either-requires-clause-left
-on_either-requires-clause-left c = HasNet-stays _ _ _ _ c.in_ok-empty.ensures.fills.grows (HasNet-stays _ _ _ _ c.in_ok-none.ensures.fills.grows (c.in_ok-past.ensures.net))
+on_either-requires-clause-left c = HasNet-stays _ _ _ _ c.in_ok-empty.ensures.fills.grows (HasNet-stays _ _ _ _ c.in_ok-none.ensures.fills.grows (c.in_ok-over.ensures.net))
+
+pub after-requires-clause-one : goal.after-requires-clause-one
+after-requires-clause-one c = IsOne-stays _ _ _ c.in_ok-either.ensures.fills.grows (IsOne-stays _ _ _ c.in_ok-empty.ensures.fills.grows (IsOne-stays _ _ _ c.in_ok-none.ensures.fills.grows (IsOne-stays _ _ _ c.in_ok-over.ensures.fills.grows c.requires.one)))
 
 pub returns-clause-fills : goal.returns-clause-fills
-returns-clause-fills c = Fills-join _ _ _ [] _ c.in_ok-over.ensures.fills (Fills-join _ _ _ [] _ c.in_ok-past.ensures.fills (Fills-join _ _ _ [] _ c.in_ok-none.ensures.fills (Fills-join _ _ _ [] _ c.in_ok-empty.ensures.fills c.in_ok-done.ensures.fills)))
+returns-clause-fills c = Fills-join _ _ _ [] _ c.in_ok-over.ensures.fills (Fills-join _ _ _ [] _ c.in_ok-none.ensures.fills (Fills-join _ _ _ [] _ c.in_ok-empty.ensures.fills (Fills-join _ _ _ [] _ c.in_ok-either.ensures.fills c.in_ok-done.ensures.fills)))
 
 pub returns-clause-on : goal.returns-clause-on
 returns-clause-on c = λ s r t.
-    let r_empty = runs_earlier _ _ s c.in_ok-done.ensures.fills.grows r in
+    let r_either = runs_earlier _ _ s c.in_ok-done.ensures.fills.grows r in
+    let r_empty = runs_earlier _ _ s c.in_ok-either.ensures.fills.grows r_either in
     let r_none = runs_earlier _ _ s c.in_ok-empty.ensures.fills.grows r_empty in
-    let r_past = runs_earlier _ _ s c.in_ok-none.ensures.fills.grows r_none in
-    let r_over = runs_earlier _ _ s c.in_ok-past.ensures.fills.grows r_past in
+    let r_over = runs_earlier _ _ s c.in_ok-none.ensures.fills.grows r_none in
     c.in_ok-done.ensures.on s r t
-    ∙ ap₂ (λ a b. a || b) (c.in_ok-past.ensures.on s r_past t ∙ was_same (is_on s c.in_ok-over.over) _ (c.in_ok-over.ensures.on s r_over) t)
-    (c.in_ok-empty.ensures.on s r_empty t ∙ ap (λ b. is_on s c.args.begun t && b) (c.in_ok-none.ensures.on s r_none t))
+    ∙ was_same (is_on s c.in_ok-either.either) _ (λ u. c.in_ok-either.ensures.on s r_either u ∙ ap₂ (λ a b. a || b) (c.in_ok-over.ensures.on s r_over u) (c.in_ok-empty.ensures.on s r_empty u ∙ ap (λ b. is_on s c.args.begun u && b) (c.in_ok-none.ensures.on s r_none u))) t

@@ -1,0 +1,9 @@
+//! Laws of loads and stores over all of their runs, in the cycles of the timeline.
+#![tactic(auto)]
+
+mod laws;
+
+pub use laws::{
+    channels_answer, delays_are_chosen, loads_work, slices_are_taken, slices_are_words,
+    stores_work, worked_transfers,
+};
