@@ -1,0 +1,3 @@
+pub mod Nets
+pub mod Reserved
+pub mod Table
