@@ -1,40 +1,37 @@
 -- Operations and their nets, place by place.
-use Rattle.std.proofs.Common.{◌≡◌, ℕ, zero, suc, ◌+◌, ◌==◌, ◌<◌, ◌≤◌, ◌⊎◌, inl, inr, ⊎_elim, true, ◌&&◌, nat_le, List, [], ◌∷◌, ◌++◌, length, map, Contains, slice_index, slice_index_or, refl, sym, ◌∙◌, ap, subst, arith}
+use Rattle.std.proofs.Common.{◌≡◌, ℕ, zero, suc, ◌+◌, ◌*◌, ◌-◌, ◌%◌, ◌^◌, ◌==◌, ◌<◌, ◌≤◌, ⊎_elim, true, ◌&&◌, nat_le, List, [], ◌∷◌, ◌++◌, length, Contains, slice_index, slice_index_or, refl, sym, ◌∙◌, ap, subst, arith}
 use Rattle.std.proofs.lemmas.Bool.{true≢false, and_parts, leb-true, eqb-true}
 use Rattle.std.proofs.lemmas.List.{length-map}
 use Rattle.std.proofs.lemmas.List.Elements.{Contains-append_left, Contains-append_right, Contains-append_cases}
 use Rattle.sp_words.specs.declared.types.Ty.{Ty}
 use Rattle.sp_words.specs.declared.types.Ty.TheVariants.{Bit, Fix}
 use Rattle.sp_words.specs.Types.{width_of, int_type}
+use Rattle.sp_words.specs.Words.{word_add}
 use Rattle.sp_netlist.specs.Draft.{Draft}
 use Rattle.sp_netlist.specs.Signals.{Signals}
-use Rattle.sp_gates.specs.Grows.{Grows, Fills}
 use Rattle.sp_gates.specs.Nets.{HasNet}
-use Rattle.sp_gates.specs.Runs.{RunsOn}
+use Rattle.sp_gates.specs.Tested.{is_on}
 use Rattle.sp_gates.proofs.Growing.{HasNet-stays, Grows-join}
 use Rattle.sp_gates.proofs.Running.{runs_earlier}
 use Rattle.sp_core.specs.declared.operation.Op.{Op}
 use Rattle.sp_core.specs.declared.operation.OpKind.{OpKind}
 use Rattle.sp_core.specs.declared.operation.OpKind.TheVariants.{Word, Count, Live, Read, Write, Enq, Deq, Reset, One, Two, Shift, Mux, Cast}
-use Rattle.sp_core.specs.Around.{Around, has_lane}
+use Rattle.sp_core.specs.Around.{Around, Near, has_lane}
 use Rattle.sp_core.specs.Latency.{latency}
-use Rattle.sp_core.specs.OperationRules.{is_in_range, names_rightly, is_operation_right, are_operations_right, are_operations_right_after}
+use Rattle.sp_core.specs.OperationRules.{is_in_range, names_rightly, is_operation_right, are_operations_right_after}
 use Rattle.sp_core.specs.Plain.{plain_op, plain_ops}
 use Rattle.sp_core.specs.PlainCore.{PlainOp, PlainCore}
+use Rattle.sp_core.specs.Scope.{is_some_up_to}
 use Rattle.sp_core.specs.Typed.{Given, given_type, is_type, is_same_flag}
 use Rattle.sp_pipe.specs.declared.part.Act.{Act}
-use Rattle.sp_pipe.specs.declared.part.PipeOp.{PipeOp}
-use Rattle.sp_pipe.specs.Right.{IsAt}
-use Rattle.sp_body_acts.specs.Circuits.{IsActOf, IsOpOf, AreOpsOf, is_given, is_answered, net_of, answer_of, of_word, of_count, of_live, of_read, of_write, of_enq, of_deq, of_reset, of_one, of_two, of_shift, of_mux, of_cast}
+use Rattle.sp_body_acts.specs.Circuits.{IsActOf, is_given, is_answered, of_word, of_count, of_live, of_read, of_write, of_enq, of_deq, of_reset, of_one, of_two, of_shift, of_mux, of_cast}
 use Rattle.sp_body_acts.specs.Entries.{IsOpAt}
 use Rattle.sp_circuit_ops.specs.declared.ops.WordNet.{WordNet}
-use Rattle.sp_circuit_ops.specs.Circuit.{ArePlaced}
-use Rattle.sp_circuit_ops.specs.Fitting.{NetFits}
-use Rattle.sp_node_bodies.specs.Given.{IsGivenBy}
+use Rattle.sp_node_bodies.specs.Given.{CounterNets, Nets, IsGivenBy, counted, lived}
 use Rattle.sp_op_nets.specs.declared.table.AroundNets.{AroundNets}
-use Rattle.sp_op_nets.specs.Laws.{CountersStand, OperationsAreGiven, NetsFit, ReservedAreDriven}
+use Rattle.sp_op_nets.specs.Laws.{CountersStand, OperationsAreGiven, SameNetsGive, NetsFit, ReservedAreDriven}
 use Rattle.sp_op_nets.specs.Nets.{is_counted, counted_width, IsNetOf, AreNetsOf, no_op, more_ops}
-use Rattle.sp_op_nets.specs.Reserved.{is_reserved, Rise, Reserves}
+use Rattle.sp_op_nets.specs.Reserved.{is_reserved, Rise}
 use Rattle.sp_op_nets.specs.Table.{nets_at, HasLane, StandsAt, StandAround}
 
 -- types that are one are as wide
@@ -149,6 +146,14 @@ are_given core around d later table ops times afters nets ps s right all placed 
     let here = net_here d table (plain_ops ops) afters nets k op all there in
     let word = here.given (given_right op.kind p.act op.ty around kinds range e).0 around.counters (lane_right op.kind op.ty around range) s (runs_earlier d later s grows run) in
     subst (λ n. IsGivenBy s around.counters (nets_at table) op.kind n) (sym (placed.given k p at e)) word
+
+same_given : (s : Signals) (near : List Near) (env other : Nets) → ((c lane : ℕ) → has_lane near c lane ≡ true → env c ≡ other c) → (kind : OpKind) (net : ℕ) → IsGivenBy s near env kind net → IsGivenBy s near other kind net
+same_given s near env other h _ _ (counted c lane net has word) = counted c lane net has (λ t. word t ∙ ap (λ (n : CounterNets). word_add int_type (s.net t n.value) ((lane * n.step) % 2 ^ 32)) (h c lane has))
+same_given s near env other h _ _ (lived c first last net order has small on) =
+    lived c first last net order has small (λ t. on t ∙ ap (λ (n : CounterNets). is_some_up_to (λ l. is_on s (slice_index n.masks l) t) first (last - first)) (h c last has))
+
+pub same_give : SameNetsGive
+same_give s near env other ops ps h given k op p there at e = same_given s near env other h op.kind _ (given k op p there at e)
 
 pub fit_all : NetsFit
 fit_all core around d later table ops times afters nets ps right all placed grows early k op p there at =

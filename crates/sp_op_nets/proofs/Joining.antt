@@ -1,9 +1,8 @@
 -- The nets of a list of operations, and one more behind them.
-use Rattle.std.proofs.Common.{◌≡◌, ℕ, ◌+◌, ◌<◌, List, [], ◌∷◌, ◌++◌, length, map, take, slice_index, slice_index_or, append_assoc, sym, ◌∙◌, ap, subst, arith}
+use Rattle.std.proofs.Common.{◌≡◌, ℕ, ◌+◌, ◌<◌, List, [], ◌∷◌, ◌++◌, length, take, slice_index, slice_index_or, append_assoc, sym, ◌∙◌, ap, subst, arith}
 use Rattle.std.proofs.lemmas.List.{take_more, map-append, append-nil}
 use Rattle.sp_netlist.specs.Draft.{Draft}
 use Rattle.sp_gates.specs.Grows.{Grows}
-use Rattle.sp_gates.specs.Nets.{HasNet}
 use Rattle.sp_gates.proofs.Growing.{HasNet-stays, Awaits-stays}
 use Rattle.sp_gates.proofs.Running.{runs_earlier}
 use Rattle.sp_core.specs.declared.operation.Op.{Op}

@@ -5,7 +5,7 @@ use Rattle.sp_words.specs.Types.{int_type, width_of}
 use Rattle.sp_words.specs.Words.{word_add}
 use Rattle.sp_netlist.specs.Draft.{Draft}
 use Rattle.sp_netlist.specs.Signals.{Signals}
-use Rattle.sp_gates.specs.Grows.{Grows, Fills, Opens}
+use Rattle.sp_gates.specs.Grows.{Fills, Opens}
 use Rattle.sp_gates.specs.Nets.{HasNet, Awaits}
 use Rattle.sp_gates.specs.Runs.{RunsOn}
 use Rattle.sp_gates.specs.Tested.{is_on}
@@ -15,11 +15,11 @@ use Rattle.sp_core.specs.Around.{Near}
 use Rattle.sp_core.specs.PlainCore.{PlainOp}
 use Rattle.sp_core.specs.Scope.{is_some_up_to}
 use Rattle.sp_circuit_ops.specs.declared.ops.WordNet.{WordNet}
-use Rattle.sp_node_bodies.specs.Given.{CounterNets, IsGivenBy, counted, lived}
+use Rattle.sp_node_bodies.specs.Given.{IsGivenBy, counted, lived}
 use Rattle.sp_op_nets.specs.declared.table.AroundNets.{AroundNets}
 use Rattle.sp_op_nets.specs.Nets.{is_counted, counted_width, IsNetOf}
 use Rattle.sp_op_nets.specs.Reserved.{is_reserved, reserved_by, Reserves}
-use Rattle.sp_op_nets.specs.Table.{nets_at, HasLane, StandsAt, IsCounterAt}
+use Rattle.sp_op_nets.specs.Table.{nets_at, HasLane}
 use Rattle.sp_op_nets.proofs.Reserving.{none_reserved, one_reserved}
 
 -- a counter's nets are those at its place

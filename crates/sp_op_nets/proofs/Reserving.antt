@@ -1,8 +1,8 @@
 -- Drafts with more nets open, one after the other.
-use Rattle.std.proofs.Common.{◌≡◌, ℕ, zero, suc, ◌<◌, ◌≤◌, ◌⊎◌, inl, inr, ⊎_elim, Bool, true, List, [], ◌∷◌, ◌++◌, length, Contains, Option, Some, None, option_map, slice_get, refl, sym, arith}
+use Rattle.std.proofs.Common.{◌≡◌, ℕ, zero, suc, ◌<◌, ◌≤◌, ⊎_elim, Bool, List, [], ◌∷◌, ◌++◌, length, Contains, Option, Some, None, option_map, slice_get, refl, sym, arith}
 use Rattle.std.proofs.lemmas.List.Elements.{Contains-append_right, Contains-append_left, Contains-append_cases}
 use Rattle.std.proofs.lemmas.Option.{slice_get_within}
-use Rattle.sp_netlist.specs.Draft.{Draft, Keeps}
+use Rattle.sp_netlist.specs.Draft.{Draft}
 use Rattle.sp_gates.specs.Grows.{Grows, Fills, Opens}
 use Rattle.sp_gates.specs.Nets.{IsOpen, Awaits}
 use Rattle.sp_gates.proofs.Growing.{Grows-same, Grows-join}

@@ -5,7 +5,7 @@ use Rattle.sp_netlist.specs.Signals.{Signals}
 use Rattle.sp_gates.specs.Grows.{Grows, Fills}
 use Rattle.sp_gates.specs.Runs.{RunsOn}
 use Rattle.sp_core.specs.declared.operation.Op.{Op}
-use Rattle.sp_core.specs.Around.{Around}
+use Rattle.sp_core.specs.Around.{Around, Near, has_lane}
 use Rattle.sp_core.specs.Latency.{latency}
 use Rattle.sp_core.specs.OperationRules.{are_operations_right}
 use Rattle.sp_core.specs.Plain.{plain_ops}
@@ -16,7 +16,7 @@ use Rattle.sp_body_acts.specs.Entries.{IsOpAt}
 use Rattle.sp_circuit_ops.specs.declared.ops.WordNet.{WordNet}
 use Rattle.sp_circuit_ops.specs.Circuit.{ArePlaced}
 use Rattle.sp_circuit_ops.specs.Fitting.{NetFits}
-use Rattle.sp_node_bodies.specs.Given.{AreGivenBy}
+use Rattle.sp_node_bodies.specs.Given.{Nets, AreGivenBy}
 use Rattle.sp_op_nets.specs.declared.table.AroundNets.{AroundNets}
 use Rattle.sp_op_nets.specs.Nets.{AreNetsOf}
 use Rattle.sp_op_nets.specs.Reserved.{is_reserved, Reserves}
@@ -33,6 +33,11 @@ abbrev pub OperationsAreGiven : Type 0
 OperationsAreGiven =
     (core : PlainCore) (around : Around) (d later : Draft) (table : List AroundNets) (ops : List Op) (times afters : List ℕ) (nets : List WordNet) (ps : List PipeOp) (s : Signals) → are_operations_right core around (plain_ops ops) ≡ true
     → AreNetsOf d table (plain_ops ops) afters nets → ArePlaced ops times nets ps → Grows d later → RunsOn s later.cells → AreGivenBy s around.counters (nets_at table) (plain_ops ops) ps
+
+-- so they are by any nets that are the same for the counters around
+abbrev pub SameNetsGive : Type 0
+SameNetsGive =
+    (s : Signals) (near : List Near) (env other : Nets) (ops : List PlainOp) (ps : List PipeOp) → ((c lane : ℕ) → has_lane near c lane ≡ true → env c ≡ other c) → AreGivenBy s near env ops ps → AreGivenBy s near other ops ps
 
 -- and each net fits its operation, where no answer comes later than the operation's latency says
 abbrev pub NetsFit : Type 0

@@ -1,3 +1,4 @@
+pub mod Example
 pub mod Laws
 pub mod Nets
 pub mod Reserved

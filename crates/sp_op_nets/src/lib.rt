@@ -5,6 +5,9 @@ mod laws;
 mod nets;
 mod table;
 
-pub use laws::{counters_stand, nets_fit, operations_are_given, reserved_are_driven};
+pub use laws::{
+    counters_stand, nets_fit, operations_are_given, reserved_are_driven, same_nets_give,
+    worked_nets,
+};
 pub use nets::{op_net, op_nets};
 pub use table::AroundNets;

@@ -1,4 +1,4 @@
-use Rattle.std.proofs.Common.{◌≡◌, ℕ, ◌*◌, ◌%◌, ◌^◌, sym, ap, subst, ◌∙◌}
+use Rattle.std.proofs.Common.{◌*◌, ◌%◌, ◌^◌, sym, ap, subst, ◌∙◌}
 use Rattle.sp_words.specs.Types.{int_type}
 use Rattle.sp_words.specs.Words.{word_add}
 use Rattle.sp_gates.specs.Nets.{HasNet}

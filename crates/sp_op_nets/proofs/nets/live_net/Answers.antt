@@ -1,7 +1,5 @@
-use Rattle.std.proofs.Common.{◌≡◌, ℕ, ◌-◌, ◌<◌, ◌≤◌, ◌==◌, [], length, slice_index, sym, ap, subst, ◌∙◌, arith}
-use Rattle.sp_netlist.specs.Signals.{Signals}
+use Rattle.std.proofs.Common.{ℕ, ◌-◌, ◌<◌, ◌==◌, [], length, slice_index, sym, ap, subst, ◌∙◌, arith}
 use Rattle.sp_gates.specs.Nets.{HasNet}
-use Rattle.sp_gates.specs.Runs.{RunsOn}
 use Rattle.sp_gates.specs.Tested.{is_on}
 use Rattle.sp_gates.proofs.Growing.{Fills-join}
 use Rattle.sp_gates.proofs.Running.{runs_earlier}

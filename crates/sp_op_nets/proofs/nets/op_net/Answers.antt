@@ -1,4 +1,4 @@
-use Rattle.std.proofs.Common.{sym, ap, subst}
+use Rattle.std.proofs.Common.{ap, subst}
 use Rattle.sp_core.specs.Plain.{plain_op}
 use Rattle.sp_gates.proofs.Growing.{Fills-none}
 use Rattle.sp_op_nets.specs.Reserved.{is_reserved}
