@@ -83,11 +83,7 @@ pub fn op_net(
             let net = live_net(builder, around, counter, first, last)?;
             Ok(WordNet { net, after })
         }
-        OpKind::Read => {
-            let net = reserve(builder, op.ty.width())?;
-            Ok(WordNet { net, after })
-        }
-        OpKind::Deq => {
+        OpKind::Read | OpKind::Deq => {
             let net = reserve(builder, op.ty.width())?;
             Ok(WordNet { net, after })
         }

@@ -1,4 +1,4 @@
-use Rattle.std.proofs.Common.{ap, subst}
+use Rattle.std.proofs.Common.{◌≡◌, ⊎_elim, true, ap, subst}
 use Rattle.sp_core.specs.Plain.{plain_op}
 use Rattle.sp_gates.proofs.Growing.{Fills-none}
 use Rattle.sp_op_nets.specs.Reserved.{is_reserved}
@@ -25,11 +25,8 @@ returns-in_ok-net-in-Live-clause-reserves c = reserves_none _ _ c.args.op.now.ki
 
 pub returns-in_ok-net-in-Read-clause-reserves : goal.returns-in_ok-net-in-Read-clause-reserves
 returns-in_ok-net-in-Read-clause-reserves c =
-    reserves_one _ _ c.args.op.now.kind c.in_ok-net-in-Read.net _ (ap is_reserved c.in-Read.is) c.in_ok-net-in-Read.ensures.opens c.in_ok-net-in-Read.ensures.awaits
-
-pub returns-in_ok-net-in-Deq-clause-reserves : goal.returns-in_ok-net-in-Deq-clause-reserves
-returns-in_ok-net-in-Deq-clause-reserves c =
-    reserves_one _ _ c.args.op.now.kind c.in_ok-net-in-Deq.net _ (ap is_reserved c.in-Deq.is) c.in_ok-net-in-Deq.ensures.opens c.in_ok-net-in-Deq.ensures.awaits
+    let so : is_reserved c.args.op.now.kind ≡ true = ⊎_elim (λ h. ap is_reserved h) (λ h. ap is_reserved h) c.in-Read.is in
+    reserves_one _ _ c.args.op.now.kind c.in_ok-net-in-Read.net _ so c.in_ok-net-in-Read.ensures.opens c.in_ok-net-in-Read.ensures.awaits
 
 pub returns-in_default : goal.returns-in_default
 returns-in_default c =
