@@ -1,0 +1,4 @@
+mod Giving
+mod Joining
+mod Making
+mod Reserving

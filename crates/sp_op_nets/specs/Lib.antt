@@ -1,0 +1,5 @@
+pub mod Example
+pub mod Laws
+pub mod Nets
+pub mod Reserved
+pub mod Table
