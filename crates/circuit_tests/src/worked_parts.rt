@@ -1,7 +1,10 @@
 use sp_netlist::Netlist;
 use sp_sim::{Sim, SimEnd};
 use sp_words::Input;
-use sp_worked_parts::{worked_machine, worked_memory, worked_queue, worked_rows, worked_store};
+use sp_worked_parts::{
+    worked_load, worked_machine, worked_memory, worked_queue, worked_rows, worked_save,
+    worked_store,
+};
 use std::alloc::Global;
 use std::test::Fail;
 
@@ -103,5 +106,94 @@ fn a_loop_writes_its_elements(rt: HostRuntime) -> Result<(), Fail> {
         push_run(alloc, &mut text, &netlist)?;
     }
     assert_eq!(rt; text.as_str(), " 5 0; 6 2; 7 4; 8 6;");
+    Ok(())
+}
+
+/// A DRAM with the words from 1 to 24, or with 24 times the word 0.
+fn dram(alloc: Global, is_counted: bool) -> Result<Input, Fail> {
+    let mut words = Vec::new(alloc);
+    for index in 0..24 {
+        words.push(if is_counted { index + 1 } else { 0 })?;
+    }
+    let mut drams = Vec::new(alloc);
+    drams.push(words)?;
+    Ok(Input {
+        args: Vec::new(alloc),
+        drams,
+    })
+}
+
+fn push_load(
+    alloc: Global,
+    text: &mut String,
+    from: u32,
+    until: u32,
+    delays: &[u32],
+) -> Result<(), Fail> {
+    let netlist = worked_load(alloc, from, until)?;
+    let input = dram(alloc, true)?;
+    let mut sim = Sim::load(alloc, &netlist, &input, delays)?;
+    sim.run(100);
+    push_end(alloc, text, &sim)
+}
+
+/// The cycle in which a store was done, and its DRAM then.
+fn push_save(
+    alloc: Global,
+    text: &mut String,
+    from: u32,
+    until: u32,
+    delays: &[u32],
+) -> Result<(), Fail> {
+    let netlist = worked_save(alloc, from, until)?;
+    let input = dram(alloc, false)?;
+    let mut sim = Sim::load(alloc, &netlist, &input, delays)?;
+    sim.run(100);
+    if let Some(SimEnd::Done { cycles }) = sim.ended() {
+        push_number(alloc, text, cycles)?;
+        text.push_str(":")?;
+        let output = sim.outputs(alloc)?;
+        for words in &output.drams {
+            for word in words {
+                push_number(alloc, text, *word)?;
+            }
+        }
+    }
+    text.push_str(";")?;
+    Ok(())
+}
+
+// Started in cycle 0, a load asks in cycle 1. A word moves in each cycle from 2 on, later by the channel's delay, and is written a
+// cycle later with its index, so in the cycle after the load's end the digits are the words 3, 4 and 5 and the indices 0, 1 and 2.
+// Without a word the load is done in cycle 2.
+#[test]
+fn a_load_writes_its_slice(rt: HostRuntime) -> Result<(), Fail> {
+    let alloc = rt.alloc();
+    let mut text = String::new(alloc);
+    push_load(alloc, &mut text, 2, 5, &[])?;
+    push_load(alloc, &mut text, 2, 5, &[3])?;
+    push_load(alloc, &mut text, 7, 8, &[])?;
+    push_load(alloc, &mut text, 5, 5, &[])?;
+    assert_eq!(rt; text.as_str(), " 6 357; 9 357; 4 8; 3 0;");
+    Ok(())
+}
+
+// A store's words are 10, 11 and so on; they move in the cycles in which a load's do, and the store is done a cycle after the last
+// one. Past 16 words a second burst waits for the second delay.
+#[test]
+fn a_store_moves_its_slice(rt: HostRuntime) -> Result<(), Fail> {
+    let alloc = rt.alloc();
+    let mut text = String::new(alloc);
+    push_save(alloc, &mut text, 2, 5, &[])?;
+    push_save(alloc, &mut text, 2, 5, &[3])?;
+    push_save(alloc, &mut text, 5, 5, &[])?;
+    push_save(alloc, &mut text, 2, 22, &[])?;
+    push_save(alloc, &mut text, 2, 22, &[3])?;
+    push_save(alloc, &mut text, 2, 22, &[3, 2])?;
+    let few = ": 0 0 10 11 12 0 0 0 0 0 0 0 0 0 0 0 0 0 0 0 0 0 0 0;";
+    let none = ": 0 0 0 0 0 0 0 0 0 0 0 0 0 0 0 0 0 0 0 0 0 0 0 0;";
+    let many = ": 0 0 10 11 12 13 14 15 16 17 18 19 20 21 22 23 24 25 26 27 28 29 0 0;";
+    let wanted = format!(in alloc; " 5{few} 8{few} 2{none} 22{many} 25{many} 27{many}")?;
+    assert_eq!(rt; text.as_str(), wanted.as_str());
     Ok(())
 }

@@ -4,3 +4,4 @@ pub mod Waiting
 pub mod Lining
 pub mod Doubling
 pub mod Storing
+pub mod Transfers

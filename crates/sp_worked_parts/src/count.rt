@@ -1,8 +1,8 @@
 //! The number of the cycle, and what follows from it.
-ghost use Rattle.std.specs.Prelude.{◌<◌, ◌^◌, [], IfOk, OnOk};
+ghost use Rattle.std.specs.Prelude.{◌<◌, ◌^◌, [], ◌∷◌, IfOk, OnOk};
 ghost use Rattle.sp_gates.specs.Bits.{IsOne};
 ghost use Rattle.sp_gates.specs.Grows.{Fills};
-ghost use Rattle.sp_gates.specs.Nets.{HasNet};
+ghost use Rattle.sp_gates.specs.Nets.{Awaits, HasNet};
 
 use sp_gates::{constant, drive, operate, reserve};
 use sp_netlist::{Builder, CellOp, NetId, NoMemory};
@@ -63,4 +63,23 @@ pub(crate) fn without(builder: &mut Builder, number: u32, net: NetId) -> Result<
     let whole = constant(builder, 32, u64::from(number))?;
     let rest = operate(builder, Ty::int(), CellOp::Sub, whole, net)?;
     Ok(rest)
+}
+
+/// Drives a net by a register that takes ten times its word and another word where `enable` is 1: its digits are these words.
+pub(crate) fn collect(
+    builder: &mut Builder,
+    y: NetId,
+    word: NetId,
+    enable: NetId,
+) -> Result<(), NoMemory>
+    requires y { Awaits builder.old y 32 }
+    requires word { HasNet builder.old word 32 }
+    requires enable { HasNet builder.old enable 1 }
+    ensures fills { OnOk result (Fills builder.old builder.new (y ∷ [])) }
+{
+    let ten = constant(builder, 32, 10)?;
+    let moved = operate(builder, Ty::int(), CellOp::Mul, y, ten)?;
+    let next = operate(builder, Ty::int(), CellOp::Add, moved, word)?;
+    drive(builder, y, 32, 0, next, enable)?;
+    Ok(())
 }
