@@ -1,4 +1,10 @@
-pub mod Named
-pub mod Placed
-pub mod Rounds
-pub mod Ups
+pub mod MetApart
+pub mod MetGroupOrder
+pub mod MetPathOrder
+pub mod MetStand
+pub mod MetTogether
+pub mod MetTraces
+pub mod AlongNamed
+pub mod AlongPlaced
+pub mod AlongRounds
+pub mod AlongUps

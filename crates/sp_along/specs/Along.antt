@@ -12,8 +12,8 @@ use Rattle.sp_patterns.specs.declared.place.CounterPlace.{CounterPlace}
 use Rattle.sp_patterns.specs.Ranges.{places_in}
 use Rattle.sp_meets.specs.Around.{PlainLevel, in_part, changed_in, inner_level, outer_level, once}
 use Rattle.sp_meets.specs.Spots.{PlainSpot, spots}
-use Rattle.sp_met.specs.Traces.{stage_in}
-use Rattle.sp_along.specs.Controllers.{Ran, ran_in}
+use Rattle.sp_along.specs.MetTraces.{stage_in}
+use Rattle.sp_along.specs.AlongControllers.{Ran, ran_in}
 
 abbrev pub counters_at : PlainNode → List PlainCounter
 counters_at (inner counters owned ops comb) = counters

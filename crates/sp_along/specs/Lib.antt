@@ -1,4 +1,9 @@
+pub mod MetApart
+pub mod MetGroups
+pub mod MetOrder
+pub mod MetTouching
+pub mod MetTraces
 pub mod Along
-pub mod Controllers
-pub mod Symbols
-pub mod TextOrder
+pub mod AlongControllers
+pub mod AlongSymbols
+pub mod AlongTextOrder

@@ -1,7 +1,12 @@
-//! The controllers along the paths of a run: each event stands at a spot of its number, whose controllers are those of its
-//! path, and in one round of a controller the numbers go up. Each function does nothing: what it ensures is the law.
+//! Laws only. Each function does nothing: what it ensures is the law.
 #![tactic(auto)]
 
-mod laws;
+mod along;
+mod met;
 
-pub use laws::{events_have_spots, runs_go_up};
+pub use along::{events_have_spots, runs_go_up};
+pub use met::{
+    counters_have_steps, groups_go_on, later_groups_follow, met_accesses_stand,
+    places_are_at_one_loop, places_are_in_one_turn, runs_are_apart, runs_are_in_order,
+    runs_are_traced,
+};

@@ -16,9 +16,9 @@ use Rattle.sp_machine.specs.Stamps.{Stamped}
 use Rattle.sp_machine.specs.Timeline.{core_timed}
 use Rattle.sp_machine.specs.Transfers.{Delays}
 use Rattle.sp_contents.specs.Found.{first_contents}
-use Rattle.sp_own_ports.specs.Laws.{OwnPlansShareNoPort}
-use Rattle.sp_inside.specs.Laws.{is_of_word, TimelinesStayInside}
-use Rattle.sp_inside.specs.Laws as run
+use Rattle.sp_chosen_runs.specs.OwnLaws.{OwnPlansShareNoPort}
+use Rattle.sp_chosen_runs.specs.InsideLaws.{is_of_word, TimelinesStayInside}
+use Rattle.sp_chosen_runs.specs.InsideLaws as run
 use Rattle.sp_patterns.specs.Patterns.{patterns_of}
 use Rattle.sp_bank_words.specs.Accesses.{is_read, is_write, AreInside}
 use Rattle.sp_bank_words.specs.Laws.{AreFound, MemoriesHoldWords}

@@ -20,8 +20,8 @@ use Rattle.sp_time.specs.Lists.{Each}
 use Rattle.sp_overlap.specs.Whole.{HasPlan}
 use Rattle.sp_patterns.specs.Patterns.{patterns_of}
 use Rattle.sp_meets.specs.Meets.{IsMeetsOf}
-use Rattle.sp_own_ports.specs.Laws.{SharesNoPort}
-use Rattle.sp_inside.specs.Laws as run
+use Rattle.sp_chosen_runs.specs.OwnLaws.{SharesNoPort}
+use Rattle.sp_chosen_runs.specs.InsideLaws as run
 use Rattle.sp_banked.specs.declared.part.Banked.{Banked}
 use Rattle.sp_banked.specs.Runs.{RunsBanked}
 use Rattle.sp_lines.specs.declared.part.Lines.{Lines}

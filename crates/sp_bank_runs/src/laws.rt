@@ -6,8 +6,7 @@ ghost use Rattle.sp_machine.specs.Transfers.{Delays};
 ghost use Rattle.sp_plan.specs.PlainPlan.{PlainPlan};
 
 use sp_bank_words::{lines_hold_words, memories_hold_words};
-use sp_inside::timelines_stay_inside;
-use sp_own_ports::own_plans_share_no_port;
+use sp_chosen_runs::{own_plans_share_no_port, timelines_stay_inside};
 
 /// By a plan that is valid for a core's own forms and meets, each run of the core from an input that fits goes well.
 pub fn valid_plans_go_well()

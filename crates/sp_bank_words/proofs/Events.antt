@@ -15,7 +15,7 @@ use Rattle.sp_time.specs.Places.{Place, is_place}
 use Rattle.sp_machine.specs.Found.{event_of, events_of}
 use Rattle.sp_machine.specs.InOrder.{is_done, does_change}
 use Rattle.sp_machine.specs.Stamps.{Stamped}
-use Rattle.sp_body_acts.specs.Entries.{index_of}
+use Rattle.sp_part_runs.specs.ActsEntries.{index_of}
 
 pub each_at : {A : Type 0} (Q : A → Type 0) (xs : List A) → Each Q xs → (x : A) → Contains xs x → Q x
 each_at Q [] h x (k, l, e) = absurd (omega (arith, l))

@@ -24,7 +24,7 @@ use Rattle.sp_machine.specs.Transfers.{Delays}
 use Rattle.sp_machine.proofs.Told.{told_node}
 use Rattle.sp_contents.specs.Inside.{RunsAreInside, RunsAreAllowed}
 use Rattle.sp_contents.specs.Steady.{IsAllowed, MayAct}
-use Rattle.sp_along.specs.Symbols.{EachIn}
+use Rattle.sp_along.specs.AlongSymbols.{EachIn}
 use Rattle.sp_touched.specs.Touched.{IsTouched, Touches, RunsTouch}
 use Rattle.sp_bank_words.specs.Accesses.{IsWriteOf, IsTurnOf}
 use Rattle.sp_bank_words.specs.Numbers.{accesses_of, changes_of, IsReadOf, IsByAccess, TimelinesAreByAccesses}

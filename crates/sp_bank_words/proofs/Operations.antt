@@ -7,7 +7,7 @@ use Rattle.sp_core.specs.PlainCore.{PlainCore}
 use Rattle.sp_plan.specs.PlainPlan.{PlainPlan}
 use Rattle.sp_machine.specs.Stamps.{Stamped}
 use Rattle.sp_mem.specs.declared.part.Touch.{Touch}
-use Rattle.sp_node_bodies.specs.Told.{Happens}
+use Rattle.sp_node_runs.specs.BodiesTold.{Happens}
 use Rattle.sp_bank_words.specs.Accesses.{reads_in, writes_in, IsOperation}
 use Rattle.sp_bank_words.specs.Acting.{StandsInTime}
 use Rattle.sp_bank_words.specs.Laws.{OperationsGo}

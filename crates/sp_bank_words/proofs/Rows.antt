@@ -36,10 +36,10 @@ use Rattle.sp_lines.specs.Turns.{is_turned}
 use Rattle.sp_lines.specs.Spots.{read_spot, load_spot, AreServed, LoadsServed}
 use Rattle.sp_lines.specs.Runs.{RunsLines}
 use Rattle.sp_lines.specs.Buffers.{dims_of, buffer_loaded, buffer_turned, buffer, LinesLaws}
-use Rattle.sp_node_bodies.specs.Told.{Happens}
-use Rattle.sp_used_ports.specs.Ports.{Port, row_at, bank_at, port_of, HasDuplicate}
-use Rattle.sp_used_ports.specs.Readers.{duplicate_at}
-use Rattle.sp_used_copies.specs.Laws.{HasCopy}
+use Rattle.sp_node_runs.specs.BodiesTold.{Happens}
+use Rattle.sp_core_ports.specs.UsedPorts.{Port, row_at, bank_at, port_of, HasDuplicate}
+use Rattle.sp_core_ports.specs.UsedReaders.{duplicate_at}
+use Rattle.sp_core_ports.specs.CopiesLaws.{HasCopy}
 use Rattle.sp_bank_words.specs.Layouts.{banking_for}
 use Rattle.sp_bank_words.specs.Accesses.{is_read, is_write, reads_in, writes_in, turns_in, IsWriteOf, IsTurnOf, IsLinesOf}
 use Rattle.sp_bank_words.specs.Acting.{IsAnswered, SomeReads, ReadGoes, LoadGoes, TurnGoes, LinesGo}

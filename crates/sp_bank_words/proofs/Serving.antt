@@ -19,16 +19,16 @@ use Rattle.sp_plan.specs.Ports.{scheme_at}
 use Rattle.sp_plan.specs.Validity.{schemes_of}
 use Rattle.sp_time.specs.Lists.{Pairs}
 use Rattle.sp_machine.specs.Stamps.{Stamped}
-use Rattle.sp_used_ports.specs.Ports.{Port, bank_at, port_of, UseNoPortTwice}
-use Rattle.sp_used_ports.specs.Readers.{readers_of, over_at, duplicate_at}
+use Rattle.sp_core_ports.specs.UsedPorts.{Port, bank_at, port_of, UseNoPortTwice}
+use Rattle.sp_core_ports.specs.UsedReaders.{readers_of, over_at, duplicate_at}
 use Rattle.sp_mem.specs.declared.part.Touch.{Touch}
 use Rattle.sp_mem.specs.Copies.{copy_at}
 use Rattle.sp_places.specs.Layouts.{banking_of}
 use Rattle.sp_requests.specs.Elements.{element_at, AreServed}
 use Rattle.sp_banked.specs.declared.part.Banked.{Banked}
 use Rattle.sp_banked.specs.Runs.{reads_of}
-use Rattle.sp_body_acts.specs.Entries.{index_of}
-use Rattle.sp_node_bodies.specs.Told.{Happens, SomeHappens}
+use Rattle.sp_part_runs.specs.ActsEntries.{index_of}
+use Rattle.sp_node_runs.specs.BodiesTold.{Happens, SomeHappens}
 use Rattle.sp_bank_words.specs.Layouts.{banking_for, IsLayoutOf}
 use Rattle.sp_bank_words.specs.Accesses.{is_read, is_write, reads_in, writes_in, AreInside, IsMemoryOf}
 use Rattle.sp_bank_words.specs.Acting.{StandsInTime, WriteGoes, SomeReads, ReadGoes, MemoryGoes}

@@ -29,11 +29,11 @@ use Rattle.sp_requests.proofs.Writing.{same_indices, same_itself}
 use Rattle.sp_banked.specs.declared.part.Banked.{Banked}
 use Rattle.sp_banked.specs.Runs.{RunsBanked}
 use Rattle.sp_banked.specs.Laws.{contents, BankedLaws}
-use Rattle.sp_node_bodies.specs.Told.{Happens}
+use Rattle.sp_node_runs.specs.BodiesTold.{Happens}
 use Rattle.sp_plan.specs.Ports.{has_banks}
-use Rattle.sp_used_ports.specs.Ports.{HasDuplicate}
-use Rattle.sp_used_ports.specs.Readers.{duplicate_at}
-use Rattle.sp_used_copies.specs.Laws.{HasCopy}
+use Rattle.sp_core_ports.specs.UsedPorts.{HasDuplicate}
+use Rattle.sp_core_ports.specs.UsedReaders.{duplicate_at}
+use Rattle.sp_core_ports.specs.CopiesLaws.{HasCopy}
 use Rattle.sp_bank_words.specs.Accesses.{reads_in, writes_in, IsWriteOf, IsMemoryOf}
 use Rattle.sp_bank_words.specs.Acting.{WriteGoes, IsAnswered, SomeReads, ReadGoes, MemoryGoes}
 use Rattle.sp_bank_words.specs.Laws.{ServedInTime, AreFound, HoldsWords, WordsStand, MemoriesHoldWords}

@@ -10,8 +10,8 @@ use Rattle.sp_core.specs.PlainCore.{PlainCore}
 use Rattle.sp_plan.specs.PlainPlan.{PlainPlan}
 use Rattle.sp_machine.specs.Stamps.{Stamped}
 use Rattle.sp_mem.specs.declared.part.Touch.{Touch}
-use Rattle.sp_body_acts.specs.Entries.{touched_at, word_that_changes}
-use Rattle.sp_node_bodies.specs.Told.{Happens}
+use Rattle.sp_part_runs.specs.ActsEntries.{touched_at, word_that_changes}
+use Rattle.sp_node_runs.specs.BodiesTold.{Happens}
 use Rattle.sp_bank_words.specs.Accesses.{reads_in, writes_in}
 use Rattle.sp_bank_words.specs.Acting.{WriteGoes, ReadGoes}
 use Rattle.sp_bank_words.specs.Examples.{event, worked_events, worked_net, worked_signals, IsWorked, WorkedAccesses}

@@ -9,9 +9,9 @@ use Rattle.sp_core.specs.PlainCore.{PlainCore}
 use Rattle.sp_plan.specs.PlainPlan.{PlainPlan, mem_plan}
 use Rattle.sp_machine.specs.InOrder.{is_done, memory_of, does_change}
 use Rattle.sp_machine.specs.Stamps.{Stamped}
-use Rattle.sp_used_ports.specs.Readers.{duplicate_at}
+use Rattle.sp_core_ports.specs.UsedReaders.{duplicate_at}
 use Rattle.sp_banked.specs.declared.part.Banked.{Banked}
-use Rattle.sp_node_bodies.specs.Told.{Happens}
+use Rattle.sp_node_runs.specs.BodiesTold.{Happens}
 use Rattle.sp_lines.specs.declared.part.Lines.{Lines}
 use Rattle.sp_places.specs.Layouts.{banking_of}
 use Rattle.sp_plan.specs.Ports.{scheme_at}

@@ -9,16 +9,16 @@ use Rattle.sp_core.specs.Events.{writes, Event, touches, act_of}
 use Rattle.sp_core.specs.PlainCore.{PlainCore}
 use Rattle.sp_plan.specs.PlainPlan.{PlainPlan}
 use Rattle.sp_machine.specs.Stamps.{Stamped}
-use Rattle.sp_used_ports.specs.Readers.{duplicate_at}
+use Rattle.sp_core_ports.specs.UsedReaders.{duplicate_at}
 use Rattle.sp_mem.specs.declared.part.Fresh.{Fresh}
 use Rattle.sp_mem.specs.declared.part.Touch.{Touch}
 use Rattle.sp_mem.specs.Copies.{copy_at}
 use Rattle.sp_banked.specs.declared.part.Banked.{Banked}
 use Rattle.sp_lines.specs.declared.part.Lines.{Lines}
 use Rattle.sp_lines.specs.Spots.{load_spot}
-use Rattle.sp_body_runs.specs.Runs.{IsOnAt}
-use Rattle.sp_body_acts.specs.Entries.{touched_at}
-use Rattle.sp_node_bodies.specs.Told.{Happens, SomeHappens, ActsInTime}
+use Rattle.sp_part_runs.specs.BodiesRuns.{IsOnAt}
+use Rattle.sp_part_runs.specs.ActsEntries.{touched_at}
+use Rattle.sp_node_runs.specs.BodiesTold.{Happens, SomeHappens, ActsInTime}
 use Rattle.sp_bank_words.specs.Accesses.{reads_in, writes_in, turns_in}
 
 module _ (s : Signals) (events : List Stamped) (last : ℕ) where

@@ -18,14 +18,14 @@ use Rattle.sp_time.specs.Places.{Place, is_place}
 use Rattle.sp_machine.specs.Found.{events_of, does, Sees, one_cell}
 use Rattle.sp_machine.specs.InOrder.{does_change}
 use Rattle.sp_machine.specs.Stamps.{Stamped}
-use Rattle.sp_used_ports.specs.Ports.{UseNoPortTwice, HasDuplicate}
-use Rattle.sp_used_copies.specs.Laws.{HasCopy}
+use Rattle.sp_core_ports.specs.UsedPorts.{UseNoPortTwice, HasDuplicate}
+use Rattle.sp_core_ports.specs.CopiesLaws.{HasCopy}
 use Rattle.sp_mem.specs.declared.part.Touch.{Touch}
 use Rattle.sp_requests.specs.Elements.{AreServed}
 use Rattle.sp_banked.specs.declared.part.Banked.{Banked}
 use Rattle.sp_banked.specs.Runs.{reads_of, RunsBanked}
 use Rattle.sp_banked.specs.Laws.{contents}
-use Rattle.sp_node_bodies.specs.Told.{SomeHappens, ActsInTime}
+use Rattle.sp_node_runs.specs.BodiesTold.{SomeHappens, ActsInTime}
 use Rattle.sp_bank_words.specs.Accesses.{reads_in, writes_in, AreInside, IsMemoryOf, IsOperation}
 use Rattle.sp_bank_words.specs.Acting.{StandsInTime, WriteGoes, IsAnswered, SomeReads, ReadGoes, MemoryGoes}
 

@@ -13,7 +13,7 @@ use Rattle.sp_places.specs.Layouts.{IsLayout, banking_of}
 use Rattle.sp_plan.specs.PlainPlan.{PlainPlan}
 use Rattle.sp_plan.specs.Ports.{scheme_at}
 use Rattle.sp_plan.specs.Validity.{schemes_of}
-use Rattle.sp_used_ports.specs.Ports.{bank_at}
+use Rattle.sp_core_ports.specs.UsedPorts.{bank_at}
 use Rattle.sp_words.specs.declared.kind.Kind.TheVariants.{Sram, LineBuf}
 
 -- a memory without a scheme is one bank

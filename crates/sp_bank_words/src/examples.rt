@@ -4,14 +4,14 @@ ghost use Rattle.sp_bank_words.specs.Examples.{WorkedAccesses, read_in, written_
 ghost use Rattle.sp_bank_words.specs.Layouts.{banking_for, one_bank};
 ghost use Rattle.sp_bank_words.specs.Numbers.{accesses_of, changes_of};
 ghost use Rattle.sp_bank.specs.Places.{bank as bank_number, offset};
-ghost use Rattle.sp_body_acts.specs.Entries.{index_of};
+ghost use Rattle.sp_part_runs.specs.ActsEntries.{index_of};
 ghost use Rattle.sp_core.specs.Elements.{are_inside, index_value, numbers_below};
 ghost use Rattle.sp_core.specs.ExampleForms.{input};
 ghost use Rattle.sp_core.specs.Meaning.{meaning};
 ghost use Rattle.sp_core.specs.Scope.{in_lanes};
 ghost use Rattle.sp_machine.specs.Examples.{always};
 ghost use Rattle.sp_plan.specs.ExamplePlans.{banked};
-ghost use Rattle.sp_used_ports.specs.Examples.{two_readers, two_readers_plan};
+ghost use Rattle.sp_core_ports.specs.UsedExamples.{two_readers, two_readers_plan};
 ghost use Rattle.std.specs.Prelude.{[], ◌≡◌, ◌∷◌, None, Some, false, map};
 
 /// In one bank an element of two by three words stands at its row-major place.

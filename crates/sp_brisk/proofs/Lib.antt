@@ -1,2 +1,4 @@
-pub mod Slots
-pub mod Whole
+pub mod RunsSlots
+pub mod RunsWhole
+pub mod ChoiceChosen
+pub mod ChoiceRanks

@@ -1,2 +1,3 @@
-pub mod Brisk
-pub mod Laws
+pub mod RunsBrisk
+pub mod RunsLaws
+pub mod ChoiceLaws

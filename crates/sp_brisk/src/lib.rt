@@ -1,6 +1,8 @@
-//! Plans that keep to the limit of a program. Each function does nothing: what it ensures is the law.
+//! Laws only. Each function does nothing: what it ensures is the law.
 #![tactic(auto)]
 
-mod laws;
+mod choice;
+mod runs;
 
-pub use laws::{brisk_plans_cost_within, brisk_runs_end_within};
+pub use choice::{chosen_plans_are_brisk, chosen_plans_keep_to_limit};
+pub use runs::{brisk_plans_cost_within, brisk_runs_end_within};

@@ -1,5 +1,5 @@
 -- Operations of a core that keep its rules may be emitted.
-use Rattle.std.proofs.Common.{◌≡◌, ℕ, zero, suc, ◌<◌, ◌^◌, true, ◌&&◌, inl, inr, List, [], ◌∷◌, ◌++◌, length, map, take, slice_index, slice_index_or, Option, Some, None, IfSome, refl, sym, ◌∙◌, ap, subst, arith}
+use Rattle.std.proofs.Common.{◌≡◌, ℕ, zero, suc, ◌+◌, ◌<◌, ◌≤◌, ◌^◌, true, ◌&&◌, inl, inr, List, [], ◌∷◌, ◌++◌, length, map, take, slice_index, slice_index_or, Option, Some, None, IfSome, refl, sym, ◌∙◌, ap, subst, arith}
 use Rattle.std.proofs.lemmas.Bool.{true≢false, and_parts, ltb-true}
 use Rattle.std.proofs.lemmas.List.{append-nil, append_assoc}
 use Rattle.std.proofs.lemmas.List.Elements.{Contains-get_or}
@@ -20,9 +20,9 @@ use Rattle.sp_pipe.specs.declared.part.Act.{Act}
 use Rattle.sp_pipe.specs.declared.part.PipeOp.{PipeOp}
 use Rattle.sp_pipe.specs.Right.{ActFits, IsAt, IsTaken, OpFits}
 use Rattle.sp_pipe.specs.Values.{given_width, taken_width, takes}
-use Rattle.sp_body_acts.specs.Circuits.{IsActOf, IsOpOf, AreOpsOf, is_given, is_answered, net_of, of_word, of_count, of_live, of_read, of_write, of_enq, of_deq, of_reset, of_one, of_two, of_shift, of_mux, of_cast}
-use Rattle.sp_body_acts.specs.Entries.{IsOpAt}
-use Rattle.sp_circuit_ops.specs.Fitting.{NetFits, IsUsed, LeaveTime, OperationsFit}
+use Rattle.sp_part_runs.specs.ActsCircuits.{IsActOf, IsOpOf, AreOpsOf, is_given, is_answered, net_of, answer_of, of_word, of_count, of_live, of_read, of_write, of_enq, of_deq, of_reset, of_one, of_two, of_shift, of_mux, of_cast}
+use Rattle.sp_part_runs.specs.ActsEntries.{IsOpAt}
+use Rattle.sp_circuit_ops.specs.Fitting.{NetStands, NetFits, IsUsed, LeaveCycles, LeaveTime, OperationsFit, AwaitedOperationsFit}
 use Rattle.sp_circuit_ops.proofs.Typing.{gives_there, give_each, takes_there, taken_there, stands_within}
 
 -- places of lists
@@ -74,8 +74,8 @@ module _ (core : PlainCore) (around : Around) where
       next : (a b : ℕ) → a < b → suc a < suc b
       next a b lt = omega (arith, lt)
 
-  module _ (d : Draft) (ops : List PlainOp) (ps : List PipeOp) (time : ℕ → ℕ) (right : are_operations_right core around ops ≡ true) (of : AreOpsOf ops ps) (timed : (k : ℕ) (p : PipeOp) → IsAt ps k p → p.time ≡ time k)
-      (nets : (k : ℕ) (op : PlainOp) (p : PipeOp) → IsOpAt ops k op → IsAt ps k p → NetFits core d op p) (leave : LeaveTime core ops time) where
+  module _ (d : Draft) (ops : List PlainOp) (ps : List PipeOp) (time wait : ℕ → ℕ) (right : are_operations_right core around ops ≡ true) (of : AreOpsOf ops ps) (timed : (k : ℕ) (p : PipeOp) → IsAt ps k p → p.time ≡ time k)
+      (nets : (k : ℕ) (op : PlainOp) (p : PipeOp) → IsOpAt ops k op → IsAt ps k p → NetStands d op p (wait k)) (leave : LeaveCycles ops time wait) where
     module _ (k : ℕ) (p : PipeOp) (at : IsAt ps k p) where
       low : k < length ops
       low = (let lt = at.within in let each = of.each in omega (arith, lt, each))
@@ -108,13 +108,13 @@ module _ (core : PlainCore) (around : Around) where
           let used_op : IsOpAt ops i (op_at ops i) = op_is ops i g.1 in
           let is_of_q : IsOpOf (op_at ops i) q = of.alike i (op_at ops i) q used_op there in
           let w = gives_there (op_at ops i).kind q.act (op_at ops i).ty ty is_of_q.kinds g.2 in
-          let fit : NetFits core d (op_at ops i) q = nets i (op_at ops i) q used_op there in
+          let fit : NetStands d (op_at ops i) q (wait i) = nets i (op_at ops i) q used_op there in
           record {
             op = q;
             at = record { within = take_within ps k i g.0 less; is = λ o. take_at ps k i o g.0 ∙ same_at ps i o p less };
             gives = w.0;
             wide = ap (given_width q.act) is_of_q.types ∙ w.1;
-            in_time = (let most = stands_within q.act q.mask q.time (latency core (op_at ops i)) fit.early in
+            in_time = (let most = stands_within q.act q.mask q.time (wait i) fit.early in
                 let when = timed i q there in let own = timed k p at in let order = leave.uses k i op (op_at ops i) here used_op used in omega (arith, most, when, own, order));
           }
 
@@ -154,8 +154,28 @@ module _ (core : PlainCore) (around : Around) where
             (sym (ap (λ t. taken_width p.act t (length op.args) i) is_of.types ∙ taken_there op.kind p.act op.ty (indices_of core around op.mem) (length op.args) i is_of.kinds each.0 lt))
             (taken (slice_index op.args i) (slice_index_or (taken_types op.kind op.ty (indices_of core around op.mem)) i Bit) (each.1 i lt) (inl (Contains-get_or op.args i 0 lt))));
         mask = subst (λ mask. IfSome mask (λ m. IsTaken (take k ps) m 1 p.time)) (sym is_of.masks) (masked op.mask refl second.1);
-        time = (let most = stands_within p.act p.mask p.time (latency core op) (nets k op p here at).early in let when = timed k p at in let few = leave.small k op here in omega (arith, most, when, few));
+        time = (let most = stands_within p.act p.mask p.time (wait k) (nets k op p here at).early in let when = timed k p at in let few = leave.small k op here in omega (arith, most, when, few));
       }
 
+pub awaited_fit : AwaitedOperationsFit
+awaited_fit core around d ops ps time wait right of timed nets leave k p at = fit core around d ops ps time wait right of timed nets leave k p at
+
+-- an answer that is awaited for the latency of its operation
+module _ (core : PlainCore) (d : Draft) (ops : List PlainOp) (ps : List PipeOp) (time : ℕ → ℕ) where
+  abbrev wait : ℕ → ℕ
+  wait k = latency core (op_at ops k)
+
+  same : (k : ℕ) (op : PlainOp) → IsOpAt ops k op → latency core op ≡ wait k
+  same k op there = ap (latency core) (sym (there.is no_op))
+
+  stands : ((k : ℕ) (op : PlainOp) (p : PipeOp) → IsOpAt ops k op → IsAt ps k p → NetFits core d op p) → (k : ℕ) (op : PlainOp) (p : PipeOp) → IsOpAt ops k op → IsAt ps k p → NetStands d op p (wait k)
+  stands nets k op p there at = (let fit = nets k op p there at in record { given = fit.given; answered = fit.answered; early = λ e. subst (λ n. answer_of p.act ≤ n) (same k op there) (fit.early e) })
+
+  cycles : LeaveTime core ops time → LeaveCycles ops time wait
+  cycles leave = record {
+    uses = λ k i op used there before takes. subst (λ n. time i + n ≤ time k) (same i used before) (leave.uses k i op used there before takes);
+    small = λ k op there. subst (λ n. time k + n < 2 ^ 32) (same k op there) (leave.small k op there);
+  }
+
 pub fits : OperationsFit
-fits core around d ops ps time right of timed nets leave k p at = fit core around d ops ps time right of timed nets leave k p at
+fits core around d ops ps time right of timed nets leave = awaited_fit core around d ops ps time (wait core d ops ps time) right of timed (stands core d ops ps time nets) (cycles core d ops ps time leave)

@@ -1,3 +1,3 @@
-mod Fitting
+pub mod Fitting
 mod Pushing
-mod Typing
+pub mod Typing

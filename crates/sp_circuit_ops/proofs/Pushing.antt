@@ -6,8 +6,8 @@ use Rattle.sp_core.specs.Plain.{plain_op, plain_ops}
 use Rattle.sp_core.specs.PlainCore.{PlainOp}
 use Rattle.sp_pipe.specs.declared.part.PipeOp.{PipeOp}
 use Rattle.sp_pipe.specs.Right.{IsAt}
-use Rattle.sp_body_acts.specs.Circuits.{IsOpOf, is_given, is_answered, net_of, answer_of}
-use Rattle.sp_body_acts.specs.Entries.{IsOpAt}
+use Rattle.sp_part_runs.specs.ActsCircuits.{IsOpOf, is_given, is_answered, net_of, answer_of}
+use Rattle.sp_part_runs.specs.ActsEntries.{IsOpAt}
 use Rattle.sp_circuit_ops.specs.declared.ops.WordNet.{WordNet}
 use Rattle.sp_circuit_ops.specs.Circuit.{IsPlacedOp, ArePlaced}
 use Rattle.sp_circuit_ops.specs.Nets.{net_at, after_at}

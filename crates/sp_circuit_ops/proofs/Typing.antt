@@ -11,7 +11,7 @@ use Rattle.sp_core.specs.Typed as typed
 use Rattle.sp_pipe.specs.declared.part.Act.{Act}
 use Rattle.sp_pipe.specs.declared.part.Act.TheVariants as act
 use Rattle.sp_pipe.specs.Values.{gives_word, given_width, taken_width, takes, word_time, masked_time, time_of}
-use Rattle.sp_body_acts.specs.Circuits.{IsActOf, is_answered, answer_of, of_word, of_count, of_live, of_read, of_write, of_enq, of_deq, of_reset, of_one, of_two, of_shift, of_mux, of_cast}
+use Rattle.sp_part_runs.specs.ActsCircuits.{IsActOf, is_answered, answer_of, of_word, of_count, of_live, of_read, of_write, of_enq, of_deq, of_reset, of_one, of_two, of_shift, of_mux, of_cast}
 
 -- types that are one are as wide
 pub same_width : (t u : Ty) → is_type t u ≡ true → width_of t ≡ width_of u

@@ -4,5 +4,5 @@
 mod laws;
 mod ops;
 
-pub use laws::placed_operations_fit;
+pub use laws::{awaited_operations_fit, placed_operations_fit};
 pub use ops::{WordNet, circuit_ops};

@@ -1,6 +1,6 @@
 //! One operation, and a list of them.
 ghost use Rattle.std.specs.Prelude.{◌≡◌, true, length, IfOk};
-ghost use Rattle.sp_body_acts.specs.Circuits.{IsActOf, is_given, is_answered, net_of, answer_of};
+ghost use Rattle.sp_part_runs.specs.ActsCircuits.{IsActOf, is_given, is_answered, net_of, answer_of};
 ghost use Rattle.sp_circuit_ops.specs.Circuit.{ArePlaced, IsPlacedOp};
 
 use sp_core::{Op, OpKind};

@@ -3,7 +3,7 @@ use Rattle.std.proofs.Common.{ℕ}
 use Rattle.sp_tree.specs.PlainProgram.{PlainProgram}
 use Rattle.sp_plan.specs.PlainPlan.{PlainPlan}
 use Rattle.sp_machine.specs.Transfers.{Delays}
-use Rattle.sp_program_runs.specs.Laws.{ProgramRuns}
+use Rattle.sp_program_runs.specs.RunsLaws.{ProgramRuns}
 use Rattle.sp_compiled_runs.specs.Laws.{PlanIsChosen, PlannedProgramRuns}
 
 pub chosen : (p : PlainProgram) (plan : PlainPlan) → PlanIsChosen p plan

@@ -11,8 +11,8 @@ use Rattle.sp_core.specs.Inputs.{InputFits}
 use Rattle.sp_sugar.specs.Core.{core_of}
 use Rattle.sp_plan.specs.PlainPlan.{PlainPlan}
 use Rattle.sp_machine.specs.Transfers.{Delays}
-use Rattle.sp_timed_programs.specs.Timed.{BodyTimed}
-use Rattle.sp_program_runs.specs.Laws.{HasPlan, Runs}
+use Rattle.sp_lane_programs.specs.Timed.{BodyTimed}
+use Rattle.sp_program_runs.specs.RunsLaws.{HasPlan, Runs}
 use Rattle.sp_compile.specs.Choices.{IsPlanOf}
 
 -- a program without proper `Stream` blocks, gathers, scatters and wide transfers

@@ -3,7 +3,7 @@
 ghost use Rattle.sp_tree.specs.ExampleTransfers.{mixed_stages};
 ghost use Rattle.sp_compiled_runs.specs.Laws.{IsSimple};
 
-use sp_timed_programs::worked_programs;
+use sp_lane_programs::worked_programs;
 
 /// A load, a loop over stages, and a loop of two lanes that adds sums of elements: where it ends, it runs by its plan.
 pub fn worked_program()

@@ -1,2 +1,10 @@
-pub mod Laws
-pub mod Served
+pub mod UsedExamples
+pub mod UsedLaws
+pub mod UsedPorts
+pub mod UsedQueues
+pub mod UsedReaders
+pub mod CopiesLaws
+pub mod CoreLaws
+pub mod CoreServed
+pub mod BanksExamples
+pub mod BanksLaws

@@ -1,1 +1,5 @@
-pub mod Laws
+pub mod RunsLaws
+pub mod RunsStanding
+pub mod HoldLaws
+pub mod GroupsAtForms
+pub mod GroupsLaws

@@ -1,5 +1,11 @@
-pub mod Changing
-pub mod ChangingStages
-pub mod Elements
-pub mod Fronts
-pub mod Whole
+pub mod ProgramsChanging
+pub mod ProgramsChangingStages
+pub mod ProgramsElements
+pub mod ProgramsFronts
+pub mod ProgramsWhole
+pub mod LanesFree
+pub mod LanesPlaced
+pub mod LanesOwn
+pub mod LanesTree
+pub mod TimedNodes
+pub mod TimedPrograms

@@ -1,1 +1,4 @@
-pub mod Laws
+pub mod ProgramsLaws
+pub mod LanesLaws
+pub mod TimedLaws
+pub mod Timed

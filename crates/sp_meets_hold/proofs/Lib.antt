@@ -1,11 +1,14 @@
-pub mod Levels
-pub mod Meeting
-pub mod Rising
-pub mod Outers
-pub mod Sites
-pub mod Elements
-pub mod Values
-pub mod Ones
-pub mod Pairs
-pub mod Judged
-pub mod Whole
+mod SymbolsKept
+mod SymbolsLeaving
+mod SymbolsRuns
+pub mod HoldLevels
+pub mod HoldMeeting
+pub mod HoldRising
+pub mod HoldOuters
+pub mod HoldSites
+pub mod HoldElements
+pub mod HoldValues
+pub mod HoldOnes
+pub mod HoldPairs
+pub mod HoldJudged
+pub mod HoldWhole

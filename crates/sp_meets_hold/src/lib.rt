@@ -1,6 +1,8 @@
-//! The meets of a core hold in its runs. Each function does nothing: what it ensures is the law.
+//! Laws only. Each function does nothing: what it ensures is the law.
 #![tactic(auto)]
 
-mod laws;
+mod hold;
+mod symbols;
 
-pub use laws::meets_hold;
+pub use hold::meets_hold;
+pub use symbols::symbols_stay;

@@ -21,10 +21,10 @@ use Rattle.sp_machine.specs.Stamps.{Stamped}
 use Rattle.sp_mem.specs.declared.part.Fresh.{Fresh}
 use Rattle.sp_mem.specs.declared.part.Touch.{Touch}
 use Rattle.sp_mem.specs.Copies.{copy_at, is_at}
-use Rattle.sp_body_acts.specs.Entries.{word_that_changes}
-use Rattle.sp_node_bodies.specs.Told.{Happens}
-use Rattle.sp_told_operations.specs.Items.{Item, operation, transfer, NodeHas}
-use Rattle.sp_told_operations.specs.Laws.{Does, IsOfItem, NumbersStandForOne, IsMoved, TransfersMove}
+use Rattle.sp_part_runs.specs.ActsEntries.{word_that_changes}
+use Rattle.sp_node_runs.specs.BodiesTold.{Happens}
+use Rattle.sp_tree_events.specs.ToldItems.{Item, operation, transfer, NodeHas}
+use Rattle.sp_tree_events.specs.ToldLaws.{Does, IsOfItem, NumbersStandForOne, IsMoved, TransfersMove}
 use Rattle.sp_memory_words.specs.Accesses.{IsOperation, IsAccess, GivesWord, IsWrite, an_operation, a_machine, Makes, a_reset, an_owner, HasAllWrites, HasAllFresh, HasAllPuts, HasAllTakes, IsStill, OperationsStay, AccessesAsk}
 use Rattle.sp_memory_words.specs.Answers.{IsOf}
 use Rattle.sp_memory_words.specs.Asked.{AreWrites, ArePuts, AreTakes, AreFresh}

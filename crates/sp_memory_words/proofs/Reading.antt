@@ -18,11 +18,11 @@ use Rattle.sp_machine.specs.Found.{ActSees, is_read_in, one_cell}
 use Rattle.sp_machine.specs.InOrder.{does_change, memory_of}
 use Rattle.sp_machine.specs.Stamps.{Stamped}
 use Rattle.sp_contents.specs.Steady.{IsAllowed, MayAct, MayWrite, IsFifo, IsLine, IsMade, IsReg}
-use Rattle.sp_used_copies.specs.Laws.{HasCopy}
+use Rattle.sp_core_ports.specs.CopiesLaws.{HasCopy}
 use Rattle.sp_mem.specs.declared.part.Register.{Register}
 use Rattle.sp_mem.specs.declared.part.Touch.{Touch}
 use Rattle.sp_mem.specs.Runs.{RunsReader}
-use Rattle.sp_node_bodies.specs.Told.{Happens}
+use Rattle.sp_node_runs.specs.BodiesTold.{Happens}
 use Rattle.sp_memory_words.specs.Moments.{HappensWell}
 use Rattle.sp_memory_words.specs.Answers.{IsAnswered, NamesCopies, IsOf, ReadsAtOnce}
 use Rattle.sp_memory_words.specs.Registers.{IsRegister, copy_place, standing, IsRegisterOf, RegistersAnswer, ArgumentsAnswer}

@@ -22,8 +22,8 @@ use Rattle.sp_machine.specs.Transfers.{Delays}
 use Rattle.sp_contents.specs.Found.{contents_at, first_contents}
 use Rattle.sp_contents.specs.Inside.{RunsAreInside, RunsAreAllowed}
 use Rattle.sp_contents.specs.Steady.{IsAllowed}
-use Rattle.sp_used_copies.specs.Laws.{RunsHaveCopies}
-use Rattle.sp_told_operations.specs.Laws.{TimelinesAreOfItems}
+use Rattle.sp_core_ports.specs.CopiesLaws.{RunsHaveCopies}
+use Rattle.sp_tree_events.specs.ToldLaws.{TimelinesAreOfItems}
 use Rattle.sp_memory_words.specs.Registers.{copy_place, ContentsBegin}
 use Rattle.sp_memory_words.specs.Runs.{RunsHappenWell}
 

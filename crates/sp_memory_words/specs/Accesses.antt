@@ -19,9 +19,9 @@ use Rattle.sp_machine.specs.Stamps.{Stamped}
 use Rattle.sp_mem.specs.declared.part.Fresh.{Fresh}
 use Rattle.sp_mem.specs.declared.part.Touch.{Touch}
 use Rattle.sp_mem.specs.Copies.{copy_at, is_at}
-use Rattle.sp_body_acts.specs.Entries.{word_that_changes}
-use Rattle.sp_node_bodies.specs.Told.{ActsInTime}
-use Rattle.sp_told_operations.specs.Items.{operation, NodeHas}
+use Rattle.sp_part_runs.specs.ActsEntries.{word_that_changes}
+use Rattle.sp_node_runs.specs.BodiesTold.{ActsInTime}
+use Rattle.sp_tree_events.specs.ToldItems.{operation, NodeHas}
 use Rattle.sp_memory_words.specs.Moments.{IsAt, HappensWell}
 use Rattle.sp_memory_words.specs.Answers.{NamesCopies, IsOf}
 use Rattle.sp_memory_words.specs.Asked.{AreWrites, ArePuts, AreTakes, AreFresh}

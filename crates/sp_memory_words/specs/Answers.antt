@@ -5,7 +5,7 @@ use Rattle.sp_core.specs.declared.operation.OpKind.{OpKind}
 use Rattle.sp_core.specs.Events.{Event, act_of}
 use Rattle.sp_machine.specs.Stamps.{Stamped}
 use Rattle.sp_mem.specs.Copies.{copy_at}
-use Rattle.sp_node_bodies.specs.Told.{Happens}
+use Rattle.sp_node_runs.specs.BodiesTold.{Happens}
 
 module _ (s : Signals) (events : List Stamped) (last number : ℕ) where
   -- The net has the word of each event so many cycles after it. Where this holds of each answered operation of a list, by the number of

@@ -12,8 +12,8 @@ use Rattle.sp_machine.specs.Found.{events_of, does, Sees}
 use Rattle.sp_machine.specs.InOrder.{is_done, does_change}
 use Rattle.sp_machine.specs.Stamps.{Stamped}
 use Rattle.sp_contents.specs.Steady.{IsAllowed}
-use Rattle.sp_used_copies.specs.Laws.{HasCopy}
-use Rattle.sp_told_operations.specs.Laws.{IsOfItem}
+use Rattle.sp_core_ports.specs.CopiesLaws.{HasCopy}
+use Rattle.sp_tree_events.specs.ToldLaws.{IsOfItem}
 
 -- a moment of a timeline, in a cycle and at a copy
 abbrev pub IsAt : List Stamped → (cycle copy : ℕ) → Moment → Type 0

@@ -11,10 +11,10 @@ ghost use Rattle.sp_plan.specs.PlainPlan.{PlainPlan};
 ghost use Rattle.sp_words.specs.Ports.{PlainInput};
 
 use sp_contents::{runs_are_allowed, runs_are_inside};
+use sp_core_ports::runs_have_copies;
 use sp_machine::timelines_tell_all;
 use sp_queue::queues_give_first_words;
-use sp_told_operations::{numbers_stand_for_one, timelines_are_of_items, transfers_move};
-use sp_used_copies::runs_have_copies;
+use sp_tree_events::{numbers_stand_for_one, timelines_are_of_items, transfers_move};
 
 /// Where a register's circuit is asked, up to a cycle, what happens to the register in a timeline, each of its copies has up to the
 /// cycle after the word that stands there.

@@ -24,10 +24,10 @@ use Rattle.sp_core.specs.PlainCore.{PlainOp, PlainCore}
 use Rattle.sp_core.specs.Scope.{is_some_up_to}
 use Rattle.sp_core.specs.Typed.{Given, given_type, is_type, is_same_flag}
 use Rattle.sp_pipe.specs.declared.part.Act.{Act}
-use Rattle.sp_body_acts.specs.Circuits.{IsActOf, is_given, is_answered, of_word, of_count, of_live, of_read, of_write, of_enq, of_deq, of_reset, of_one, of_two, of_shift, of_mux, of_cast}
-use Rattle.sp_body_acts.specs.Entries.{IsOpAt}
+use Rattle.sp_part_runs.specs.ActsCircuits.{IsActOf, is_given, is_answered, of_word, of_count, of_live, of_read, of_write, of_enq, of_deq, of_reset, of_one, of_two, of_shift, of_mux, of_cast}
+use Rattle.sp_part_runs.specs.ActsEntries.{IsOpAt}
 use Rattle.sp_circuit_ops.specs.declared.ops.WordNet.{WordNet}
-use Rattle.sp_node_bodies.specs.Given.{CounterNets, Nets, IsGivenBy, counted, lived}
+use Rattle.sp_node_runs.specs.BodiesGiven.{CounterNets, Nets, IsGivenBy, counted, lived}
 use Rattle.sp_op_nets.specs.declared.table.AroundNets.{AroundNets}
 use Rattle.sp_op_nets.specs.Laws.{CountersStand, OperationsAreGiven, SameNetsGive, NetsFit, ReservedAreDriven}
 use Rattle.sp_op_nets.specs.Nets.{is_counted, counted_width, IsNetOf, AreNetsOf, no_op, more_ops}
@@ -170,7 +170,7 @@ fit_all core around d later table ops times afters nets ps right all placed grow
           subst (λ n. n ≤ latency core op) (sym (placed.later k p at e ∙ here.later so)) (early k op there so);
     }
 
-above : (from : ℕ) (ns : List ℕ) (n : ℕ) → Rise from ns → Contains ns n → from ≤ n
+pub above : (from : ℕ) (ns : List ℕ) (n : ℕ) → Rise from ns → Contains ns n → from ≤ n
 above from [] n r k = (let l = k.1 in absurd (omega (arith, l)))
 above from (m ∷ ns) n r (zero, l, e) = (let a = r.0 in omega (arith, a, e))
 above from (m ∷ ns) n r (suc k, l, e) = (let a = r.0 in let b = above (suc m) ns n r.1 (k, omega (arith, l), e) in omega (arith, a, b))

@@ -1,4 +1,5 @@
-mod Giving
-mod Joining
-mod Making
-mod Reserving
+pub mod Driving
+pub mod Giving
+pub mod Joining
+pub mod Making
+pub mod Reserving

@@ -15,7 +15,7 @@ use Rattle.sp_core.specs.Around.{Near}
 use Rattle.sp_core.specs.PlainCore.{PlainOp}
 use Rattle.sp_core.specs.Scope.{is_some_up_to}
 use Rattle.sp_circuit_ops.specs.declared.ops.WordNet.{WordNet}
-use Rattle.sp_node_bodies.specs.Given.{IsGivenBy, counted, lived}
+use Rattle.sp_node_runs.specs.BodiesGiven.{IsGivenBy, counted, lived}
 use Rattle.sp_op_nets.specs.declared.table.AroundNets.{AroundNets}
 use Rattle.sp_op_nets.specs.Nets.{is_counted, counted_width, IsNetOf}
 use Rattle.sp_op_nets.specs.Reserved.{is_reserved, reserved_by, Reserves}

@@ -1,8 +1,9 @@
 -- What the nets of operations are good for: laws, as statements.
-use Rattle.std.specs.Prelude.{◌≡◌, ℕ, ◌<◌, ◌≤◌, true, List, ◌++◌, length, slice_index, slice_index_or}
+use Rattle.std.specs.Prelude.{◌≡◌, ℕ, ◌<◌, ◌≤◌, true, List, [], ◌∷◌, ◌++◌, length, slice_index, slice_index_or, Contains}
 use Rattle.sp_netlist.specs.Draft.{Draft}
 use Rattle.sp_netlist.specs.Signals.{Signals}
-use Rattle.sp_gates.specs.Grows.{Grows, Fills}
+use Rattle.sp_gates.specs.Grows.{Grows, Fills, Opens}
+use Rattle.sp_gates.specs.Nets.{Awaits}
 use Rattle.sp_gates.specs.Runs.{RunsOn}
 use Rattle.sp_core.specs.declared.operation.Op.{Op}
 use Rattle.sp_core.specs.Around.{Around, Near, has_lane}
@@ -12,14 +13,15 @@ use Rattle.sp_core.specs.Plain.{plain_ops}
 use Rattle.sp_core.specs.PlainCore.{PlainOp, PlainCore}
 use Rattle.sp_pipe.specs.declared.part.PipeOp.{PipeOp}
 use Rattle.sp_pipe.specs.Right.{IsAt}
-use Rattle.sp_body_acts.specs.Entries.{IsOpAt}
+use Rattle.sp_part_runs.specs.ActsEntries.{IsOpAt}
 use Rattle.sp_circuit_ops.specs.declared.ops.WordNet.{WordNet}
 use Rattle.sp_circuit_ops.specs.Circuit.{ArePlaced}
 use Rattle.sp_circuit_ops.specs.Fitting.{NetFits}
-use Rattle.sp_node_bodies.specs.Given.{Nets, AreGivenBy}
+use Rattle.sp_node_runs.specs.BodiesGiven.{Nets, AreGivenBy}
 use Rattle.sp_op_nets.specs.declared.table.AroundNets.{AroundNets}
+use Rattle.sp_op_nets.specs.Acted.{answers_of}
 use Rattle.sp_op_nets.specs.Nets.{AreNetsOf}
-use Rattle.sp_op_nets.specs.Reserved.{is_reserved, Reserves}
+use Rattle.sp_op_nets.specs.Reserved.{is_reserved, Reserves, reserved_of}
 use Rattle.sp_op_nets.specs.Table.{nets_at, StandsAt, StandAround}
 
 -- operations that keep their rules take their words from counters that stand in the table
@@ -49,3 +51,28 @@ NetsFit =
 -- nets that were reserved, and then driven by the part behind, are no open nets
 abbrev pub ReservedAreDriven : Type 0
 ReservedAreDriven = (first second third : Draft) (nets more : List ℕ) → Reserves first second nets → Fills second third (nets ++ more) → Fills first third more
+
+-- some of them driven, the others are left: those that were reserved first and exactly those that a part behind drives
+abbrev pub SomeReservedAreDriven : Type 0
+SomeReservedAreDriven =
+    (first second third : Draft) (nets left driven : List ℕ) → Reserves first second (nets ++ left) → Fills second third driven → ((n : ℕ) → Contains nets n → Contains driven n) → ((n : ℕ) → Contains driven n → Contains nets n) → Reserves first third left
+
+-- what is reserved before and after a part is reserved together; a net that is promised is reserved; and cells that drive nothing
+-- that was open reserve nothing
+abbrev pub ReservedComeTogether : Type 0
+ReservedComeTogether = (first second third : Draft) (nets more : List ℕ) → Reserves first second nets → Reserves second third more → Reserves first third (nets ++ more)
+
+abbrev pub PromisedAreReserved : Type 0
+PromisedAreReserved = (first second : Draft) (net width : ℕ) → Opens first second net → Awaits second net width → Reserves first second (net ∷ [])
+
+abbrev pub FillsAreReserved : Type 0
+FillsAreReserved = (first second : Draft) → Fills first second [] → Reserves first second []
+
+-- nets that operations reserve are those on which they are answered
+abbrev pub AnswersAreReserved : Type 0
+AnswersAreReserved =
+    (d : Draft) (table : List AroundNets) (ops : List Op) (times afters : List ℕ) (nets : List WordNet) (ps : List PipeOp) → AreNetsOf d table (plain_ops ops) afters nets → ArePlaced ops times nets ps → answers_of ps ≡ reserved_of (plain_ops ops) nets
+
+-- a reserved net still awaits what drives it, whatever is reserved behind it
+abbrev pub ReservedStay : Type 0
+ReservedStay = (first second : Draft) (net width : ℕ) (nets : List ℕ) → Awaits first net width → Reserves first second nets → Awaits second net width

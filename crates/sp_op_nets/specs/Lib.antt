@@ -1,3 +1,4 @@
+pub mod Acted
 pub mod Example
 pub mod Laws
 pub mod Nets

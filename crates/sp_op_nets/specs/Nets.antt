@@ -10,7 +10,7 @@ use Rattle.sp_core.specs.declared.operation.OpKind.TheVariants.{Count, Live}
 use Rattle.sp_core.specs.Around.{Near}
 use Rattle.sp_core.specs.PlainCore.{PlainOp}
 use Rattle.sp_circuit_ops.specs.declared.ops.WordNet.{WordNet}
-use Rattle.sp_node_bodies.specs.Given.{IsGivenBy}
+use Rattle.sp_node_runs.specs.BodiesGiven.{IsGivenBy}
 use Rattle.sp_op_nets.specs.declared.table.AroundNets.{AroundNets}
 use Rattle.sp_op_nets.specs.Reserved.{is_reserved}
 use Rattle.sp_op_nets.specs.Table.{nets_at, HasLane}

@@ -5,7 +5,7 @@ use Rattle.sp_gates.specs.Nets.{HasNet}
 use Rattle.sp_core.specs.declared.operation.OpKind.{OpKind}
 use Rattle.sp_core.specs.declared.operation.OpKind.TheVariants.{Count, Live}
 use Rattle.sp_core.specs.Around.{Near, has_lane}
-use Rattle.sp_node_bodies.specs.Given.{Nets}
+use Rattle.sp_node_runs.specs.BodiesGiven.{Nets}
 use Rattle.sp_op_nets.specs.declared.table.AroundNets.{AroundNets}
 
 -- by the number of the counter

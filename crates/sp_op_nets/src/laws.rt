@@ -1,7 +1,7 @@
 //! Laws of operations with their nets. The functions do nothing: what they ensure are the laws.
 
 ghost use Rattle.sp_op_nets.specs.Example.{WorkedNets};
-ghost use Rattle.sp_op_nets.specs.Laws.{CountersStand, OperationsAreGiven, SameNetsGive, NetsFit, ReservedAreDriven};
+ghost use Rattle.sp_op_nets.specs.Laws.{CountersStand, OperationsAreGiven, SameNetsGive, NetsFit, ReservedAreDriven, SomeReservedAreDriven, ReservedComeTogether, PromisedAreReserved, FillsAreReserved, AnswersAreReserved, ReservedStay};
 
 /// Where each counter around stands in the table, so does what operations that keep their rules take their words from.
 pub fn counters_stand()
@@ -26,6 +26,36 @@ pub fn nets_fit()
 /// Reserved nets that the part behind drives are no open nets.
 pub fn reserved_are_driven()
     ensures { ReservedAreDriven }
+{}
+
+/// Of reserved nets those are left that the part behind doesn't drive.
+pub fn some_reserved_are_driven()
+    ensures { SomeReservedAreDriven }
+{}
+
+/// What is reserved in turn is reserved together.
+pub fn reserved_come_together()
+    ensures { ReservedComeTogether }
+{}
+
+/// A net that is promised is reserved.
+pub fn promised_are_reserved()
+    ensures { PromisedAreReserved }
+{}
+
+/// Cells that drive no open net reserve nothing.
+pub fn fills_are_reserved()
+    ensures { FillsAreReserved }
+{}
+
+/// The nets that operations reserve are those on which they are answered.
+pub fn answers_are_reserved()
+    ensures { AnswersAreReserved }
+{}
+
+/// A reserved net awaits its driver, whatever is reserved behind it.
+pub fn reserved_stay()
+    ensures { ReservedStay }
 {}
 
 /// The nets that worked operations reserve.

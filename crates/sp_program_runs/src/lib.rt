@@ -1,6 +1,10 @@
-//! Programs and the timelines of their plans.
+//! Laws only. Each function does nothing: what it ensures is the law.
 #![tactic(auto)]
 
-mod laws;
+mod plans;
+mod runs;
 
-pub use laws::programs_run_well;
+pub use plans::{
+    program_plans_are_sound, programs_end_within, programs_have_plans, programs_run_in_time,
+};
+pub use runs::programs_run_well;

@@ -4,9 +4,9 @@ use Rattle.std.specs.Prelude.{slice_index_or}
 use Rattle.std.proofs.lemmas.Bool.{and_parts, and_from, eqb-true, eq-eqb}
 use Rattle.sp_time.specs.Beats.{Slot, slot_at, is_slot}
 use Rattle.sp_time.proofs.ListLemmas.{greatest_ge}
-use Rattle.sp_sequence_runs.specs.Places.{stages_in, last_slot}
-use Rattle.sp_sequence_runs.proofs.Cycles.{one_of, is_not}
-use Rattle.sp_sequence_runs.proofs.Placing.{same_slot, is_same}
+use Rattle.sp_part_runs.specs.SequencesPlaces.{stages_in, last_slot}
+use Rattle.sp_part_runs.proofs.SequencesCycles.{one_of, is_not}
+use Rattle.sp_part_runs.proofs.SequencesPlacing.{same_slot, is_same}
 use Rattle.sp_stage_places.specs.Arranged.{is_seen, begins_chain, chains_of, first_slots, arranged}
 use Rattle.sp_stage_places.specs.Laws.{StagesAreArranged}
 

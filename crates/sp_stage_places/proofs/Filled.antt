@@ -22,7 +22,7 @@ use Rattle.sp_overlap.specs.Whole.{IsTimed, AreTimed}
 use Rattle.sp_overlap.proofs.Lanes.{Lanes, all_below, single_stage, all_stage, stand_in_lanes}
 use Rattle.sp_overlap.proofs.Planned.{Holds, AllHold, outer_holds, fsm_holds, branch_holds, stage_holds, OuterPlan, outer_plan_of}
 use Rattle.sp_overlap.proofs.Slots.{slots_rise}
-use Rattle.sp_sequence_runs.specs.Places.{last_slot}
+use Rattle.sp_part_runs.specs.SequencesPlaces.{last_slot}
 use Rattle.sp_stage_places.specs.Planned.{HavePlaces, AllHavePlaces, StagesHavePlaces, PlansHavePlaces}
 use Rattle.sp_stage_places.proofs.Arranging.{stages_are_arranged}
 

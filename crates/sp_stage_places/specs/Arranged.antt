@@ -1,7 +1,7 @@
 -- The stages of an outer body by slots, chains and members, from the slot and the chain of each stage.
 use Rattle.std.specs.Prelude.{ℕ, zero, suc, ◌&&◌, ◌||◌, not, Bool, true, false, nat_eq, List, [], ◌∷◌, ◌++◌, length}
 use Rattle.sp_time.specs.Beats.{Slot, slot_at, is_slot}
-use Rattle.sp_sequence_runs.specs.Places.{stages_in, last_slot}
+use Rattle.sp_part_runs.specs.SequencesPlaces.{stages_in, last_slot}
 
 module _ (slots : List Slot) where
   -- whether one of the first stages is in this chain

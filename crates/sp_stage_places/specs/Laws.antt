@@ -1,7 +1,7 @@
 -- Laws of stages in their places, as statements.
 use Rattle.std.specs.Prelude.{◌≡◌, ℕ, ◌<◌, ◌≤◌, List, [], ◌∷◌, length}
 use Rattle.sp_time.specs.Beats.{Slot, slot_at}
-use Rattle.sp_sequence_runs.specs.Places.{AreArranged, last_slot}
+use Rattle.sp_part_runs.specs.SequencesPlaces.{AreArranged, last_slot}
 use Rattle.sp_stage_places.specs.Arranged.{arranged}
 
 -- where no slot is without a stage, each stage has its place

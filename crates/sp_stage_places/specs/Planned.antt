@@ -10,7 +10,7 @@ use Rattle.sp_plan.specs.Validity.{stage_count, IsValid}
 use Rattle.sp_time.specs.Beats.{Slot}
 use Rattle.sp_machine.specs.Timeline.{slots_of}
 use Rattle.sp_overlap.specs.Whole.{IsTimed}
-use Rattle.sp_sequence_runs.specs.Places.{AreArranged}
+use Rattle.sp_part_runs.specs.SequencesPlaces.{AreArranged}
 use Rattle.sp_stage_places.specs.Arranged.{arranged}
 
 -- a slot for each of so many stages, and none without a stage

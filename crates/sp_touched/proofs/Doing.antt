@@ -10,7 +10,7 @@ use Rattle.sp_core.proofs.Replays.{Does, not_stopped, not_more, same_value, same
 use Rattle.sp_core.proofs.ReplayLists.{append_nil}
 use Rattle.sp_fitting.specs.Fitting.{StoreFits}
 use Rattle.sp_fitting.proofs.Keeping.{Keeps}
-use Rattle.sp_along.specs.Symbols.{EachIn}
+use Rattle.sp_along.specs.AlongSymbols.{EachIn}
 use Rattle.sp_touched.specs.Touched.{Touches}
 use Rattle.sp_touched.proofs.Words.{each_both}
 

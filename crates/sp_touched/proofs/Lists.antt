@@ -39,12 +39,12 @@ use Rattle.sp_patterns.specs.Indices.{known_after, indices_at, access_forms, ind
 use Rattle.sp_patterns.specs.Forms.{forms_of}
 use Rattle.sp_patterns.specs.Patterns.{patterns_of}
 use Rattle.sp_patterns.specs.Ranges.{PlainAround}
-use Rattle.sp_run_forms.specs.Laws.{IsPlaced}
-use Rattle.sp_run_forms.specs.Standing.{ListStands, PartsStand}
+use Rattle.sp_forms_hold.specs.RunsLaws.{IsPlaced}
+use Rattle.sp_forms_hold.specs.RunsStanding.{ListStands, PartsStand}
 use Rattle.sp_meets.specs.Around.{PlainLevel}
 use Rattle.sp_meets.specs.Sites.{counters_of, indices_by}
 use Rattle.sp_meets.specs.Spots.{PlainSpot, is_write, operand_places, op_targets, op_spots, list_spots, spots}
-use Rattle.sp_along.specs.Symbols.{EachIn}
+use Rattle.sp_along.specs.AlongSymbols.{EachIn}
 use Rattle.sp_touched.specs.Touched.{AreSteps, IsInside, IsTouched, Touches}
 use Rattle.sp_touched.proofs.Lengths.{access_have}
 use Rattle.sp_touched.proofs.OfSymbols.{RowHas, access_symbols, its_symbols}

@@ -17,13 +17,13 @@ use Rattle.sp_core.specs.Step.{went, in_order}
 use Rattle.sp_core.specs.Store.{Store}
 use Rattle.sp_core.specs.Transfers.{Part, part_of, lengths, has_none, are_parts_inside, do_fit, places_of, all_offsets, loaded_at}
 use Rattle.sp_deps.specs.Groups.{HaveValues, HaveLength}
-use Rattle.sp_forms_hold.specs.Laws.{slice_of}
+use Rattle.sp_forms_hold.specs.HoldLaws.{slice_of}
 use Rattle.sp_hold.proofs.Steps.{bound, was_pure}
 use Rattle.sp_patterns.specs.Patterns.{patterns_of}
 use Rattle.sp_meets.specs.Around.{PlainLevel}
 use Rattle.sp_meets.specs.Sites.{counters_of}
 use Rattle.sp_meets.specs.Spots.{are_ranges, slice_spot, spots}
-use Rattle.sp_along.specs.Symbols.{holds_symbol, EachIn}
+use Rattle.sp_along.specs.AlongSymbols.{holds_symbol, EachIn}
 use Rattle.sp_touched.specs.Touched.{AreSteps, IsTouched, Touches}
 use Rattle.sp_touched.proofs.OfSymbols.{RowHas}
 use Rattle.sp_touched.proofs.SliceForms.{AreParts}

@@ -22,7 +22,7 @@ use Rattle.sp_patterns.specs.Forms.{shape_of, is_steady, fits, sum_form, differe
 use Rattle.sp_patterns.specs.Indices.{is_index, index_form, known_after, indices_at, access_forms, bound_form, first_form, slice_forms}
 use Rattle.sp_patterns.specs.Ranges.{PlainAround, word_form}
 use Rattle.sp_meets.specs.Sites.{unit, with_more, slice_indices, counter_indices}
-use Rattle.sp_along.specs.Symbols.{holds_symbol}
+use Rattle.sp_along.specs.AlongSymbols.{holds_symbol}
 use Rattle.sp_touched.specs.Touched.{IsOfSymbol, AreSymbols}
 
 module _ (core : PlainCore) where

@@ -22,7 +22,7 @@ use Rattle.sp_meets.specs.declared.spot.Places.TheVariants.{Anywhere}
 use Rattle.sp_meets.specs.Around.{PlainLevel}
 use Rattle.sp_meets.specs.Sites.{counters_of, counter_indices}
 use Rattle.sp_meets.specs.Spots.{pick_spot, word_target, spots}
-use Rattle.sp_along.specs.Symbols.{EachIn}
+use Rattle.sp_along.specs.AlongSymbols.{EachIn}
 use Rattle.sp_touched.specs.Touched.{AreSteps, IsInside, IsTouched, Touches}
 use Rattle.sp_touched.proofs.OfSymbols.{counter_symbols, its_symbols}
 use Rattle.sp_touched.proofs.Slots.{one_has, own_indices, replicate_length, unit_length}

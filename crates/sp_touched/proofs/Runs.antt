@@ -28,14 +28,14 @@ use Rattle.sp_fitting.specs.Fitting.{StoreFits}
 use Rattle.sp_fitting.proofs.Rules.{word_list_right, counters_right, load_right, store_right, wide_right, pick_right, no_pick, machine_right, state_there, here_right}
 use Rattle.sp_fitting.proofs.Transfers.{alike}
 use Rattle.sp_patterns.specs.Ranges.{PlainAround, inside}
-use Rattle.sp_run_forms.specs.Laws.{IsPlaced}
-use Rattle.sp_run_forms.specs.Standing.{ListStands, NodeStands, StagesStand}
-use Rattle.sp_forms_hold.proofs.Lists.{Known}
-use Rattle.sp_forms_hold.proofs.Nodes.{placed_at}
+use Rattle.sp_forms_hold.specs.RunsLaws.{IsPlaced}
+use Rattle.sp_forms_hold.specs.RunsStanding.{ListStands, NodeStands, StagesStand}
+use Rattle.sp_forms_hold.proofs.HoldLists.{Known}
+use Rattle.sp_forms_hold.proofs.HoldNodes.{placed_at}
 use Rattle.sp_meets.specs.Around.{PlainLevel, in_part, changed_in, inner_level, outer_level, once}
 use Rattle.sp_meets.specs.Spots.{list_spots, bounds_spots, spans_spots, slice_spot, pick_spot, node_spots, stages_spots, spots}
-use Rattle.sp_along.specs.Symbols.{EachIn}
-use Rattle.sp_along.proofs.Named.{plus_assoc}
+use Rattle.sp_along.specs.AlongSymbols.{EachIn}
+use Rattle.sp_along.proofs.AlongNamed.{plus_assoc}
 use Rattle.sp_touched.specs.Touched.{Touches}
 use Rattle.sp_touched.proofs.Arounds.{around_counters, around_once}
 use Rattle.sp_touched.proofs.Doing.{Holds, bind_holds, pure_holds, no_turn_holds, weaker_holds, after_given, after_known, then_answer, still_then}

@@ -30,13 +30,13 @@ use Rattle.sp_fitting.proofs.Keeping.{Keeps, Anything, pure_keeps, weaker_keeps,
 use Rattle.sp_fitting.proofs.Lists.{last_fits}
 use Rattle.sp_fitting.proofs.Rules.{word_list_right, bound_right, counter_right}
 use Rattle.sp_patterns.specs.Ranges.{PlainAround, inside}
-use Rattle.sp_run_forms.specs.Laws.{IsPlaced}
-use Rattle.sp_run_forms.specs.Standing.{ListStands, BoundsStand, SpansStand}
-use Rattle.sp_forms_hold.proofs.Lists.{Known}
+use Rattle.sp_forms_hold.specs.RunsLaws.{IsPlaced}
+use Rattle.sp_forms_hold.specs.RunsStanding.{ListStands, BoundsStand, SpansStand}
+use Rattle.sp_forms_hold.proofs.HoldLists.{Known}
 use Rattle.sp_meets.specs.Around.{PlainLevel}
 use Rattle.sp_meets.specs.Spots.{PlainSpot, list_spots, bounds_spots, spans_spots, spots}
-use Rattle.sp_along.specs.Symbols.{EachIn}
-use Rattle.sp_along.proofs.Named.{plus_assoc}
+use Rattle.sp_along.specs.AlongSymbols.{EachIn}
+use Rattle.sp_along.proofs.AlongNamed.{plus_assoc}
 use Rattle.sp_touched.specs.Touched.{Touches}
 use Rattle.sp_touched.proofs.Lists.{IsAround, list_each}
 use Rattle.sp_touched.proofs.Words.{each_both}

@@ -28,20 +28,20 @@ use Rattle.sp_fitting.specs.Fitting.{StoreFits}
 use Rattle.sp_fitting.proofs.Rules.{IsSlice, bound_right}
 use Rattle.sp_fitting.proofs.Transfers.{AreAlike, alike, all_gathered, all_scattered}
 use Rattle.sp_fitting.proofs.Transfers as fitting
-use Rattle.sp_forms_hold.specs.Laws.{slice_of}
-use Rattle.sp_forms_hold.proofs.Lists.{Known}
+use Rattle.sp_forms_hold.specs.HoldLaws.{slice_of}
+use Rattle.sp_forms_hold.proofs.HoldLists.{Known}
 use Rattle.sp_hold.proofs.Orderly.{all_allowed}
 use Rattle.sp_hold.proofs.Steps.{bound, was_pure, was_ensured}
 use Rattle.sp_patterns.specs.Indices.{bound_form, slice_forms, length_up_to, range_lengths}
 use Rattle.sp_patterns.specs.Patterns.{patterns_of}
 use Rattle.sp_patterns.specs.Ranges.{PlainAround}
-use Rattle.sp_run_forms.specs.Laws.{IsPlaced}
-use Rattle.sp_run_forms.specs.Standing.{ListStands, SpansStand, TransferStands}
+use Rattle.sp_forms_hold.specs.RunsLaws.{IsPlaced}
+use Rattle.sp_forms_hold.specs.RunsStanding.{ListStands, SpansStand, TransferStands}
 use Rattle.sp_meets.specs.Around.{PlainLevel}
 use Rattle.sp_meets.specs.Sites.{counters_of}
 use Rattle.sp_meets.specs.Spots.{are_ranges, slice_spot, pick_spot, list_spots, spans_spots, spots}
 use Rattle.sp_deps.specs.Groups.{HaveLength}
-use Rattle.sp_along.specs.Symbols.{EachIn}
+use Rattle.sp_along.specs.AlongSymbols.{EachIn}
 use Rattle.sp_touched.specs.Touched.{Touches}
 use Rattle.sp_touched.proofs.Doing.{Did, did_both, Holds}
 use Rattle.sp_touched.proofs.Lengths.{slice_have}

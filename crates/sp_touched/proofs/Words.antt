@@ -21,13 +21,13 @@ use Rattle.sp_core.specs.Store.{Store, hold}
 use Rattle.sp_core.specs.Transfers.{Part, index, between, lengths, are_parts_inside, places_of}
 use Rattle.sp_deps.specs.declared.access.LoopRange.{LoopRange}
 use Rattle.sp_deps.specs.Groups.{HaveValues, HaveLength}
-use Rattle.sp_forms_hold.specs.Laws.{slice_of}
+use Rattle.sp_forms_hold.specs.HoldLaws.{slice_of}
 use Rattle.sp_patterns.specs.Patterns.{patterns_of}
 use Rattle.sp_meets.specs.declared.spot.Places.TheVariants.{Slice, Anywhere}
 use Rattle.sp_meets.specs.Around.{PlainLevel}
 use Rattle.sp_meets.specs.Sites.{counters_of, own_counters, indices_by, slice_indices, counter_indices}
 use Rattle.sp_meets.specs.Spots.{PlainSpot, are_ranges, range_sizes, slice_places, slice_spot, spots}
-use Rattle.sp_along.specs.Symbols.{holds_symbol, EachIn}
+use Rattle.sp_along.specs.AlongSymbols.{holds_symbol, EachIn}
 use Rattle.sp_touched.specs.Touched.{AreSteps, IsInside, IsOfSymbol, AreSymbols, IsTouched, Touches}
 use Rattle.sp_touched.proofs.OfSymbols.{RowHas, slice_row, counter_symbols, its_symbols}
 use Rattle.sp_touched.proofs.SliceForms.{AreParts, length_inside, places_inside, offsets_inside, below_length, slice_indices_are, slice_length}

@@ -24,7 +24,7 @@ use Rattle.sp_deps.specs.Groups.{HaveValues, HaveLength}
 use Rattle.sp_patterns.specs.Patterns.{patterns_of}
 use Rattle.sp_meets.specs.Sites.{counters_of, own_counters, indices_by}
 use Rattle.sp_meets.specs.Spots.{PlainTarget, PlainSpot, spots}
-use Rattle.sp_along.specs.Symbols.{holds_symbol, EachIn}
+use Rattle.sp_along.specs.AlongSymbols.{holds_symbol, EachIn}
 
 -- the counters of an access's own, and the forms of its indices over those around and these
 abbrev pub own_of : PlainCore → PlainSpot → PlainTarget → List LoopRange

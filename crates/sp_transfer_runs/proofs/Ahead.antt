@@ -19,7 +19,7 @@ use Rattle.sp_slices.specs.declared.part.Move.TheVariants.{One, Range}
 use Rattle.sp_slices.specs.Slices.{CountMoves, no_move, one_move, FollowAxes, no_axis, one_axis, is_ended, all_ended, offsets_of}
 use Rattle.sp_xfer.specs.Ahead.{are_over, next_offset, look_offset, look_offsets}
 use Rattle.sp_xfer.specs.Moving.{words_at}
-use Rattle.sp_node_bodies.specs.Spans.{SpanNets, one_net, two_nets, HaveSpans}
+use Rattle.sp_node_runs.specs.BodiesSpans.{SpanNets, one_net, two_nets, HaveSpans}
 use Rattle.sp_transfer_runs.specs.Words.{moves_of, parts_of, offset_of}
 use Rattle.sp_transfer_runs.proofs.Numbers.{small_wrap}
 

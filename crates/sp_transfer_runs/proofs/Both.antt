@@ -7,13 +7,13 @@ use Rattle.sp_core.specs.PlainCore.{PlainNode, PlainCore}
 use Rattle.sp_core.specs.Transfers.{lengths, has_none}
 use Rattle.sp_plan.specs.PlainPlan.{PlainPlan}
 use Rattle.sp_machine.specs.Transfers.{Delays, transfer_took}
-use Rattle.sp_body_runs.specs.Runs.{IsOnAt}
-use Rattle.sp_control_runs.specs.Parts.{Begins, Ends}
+use Rattle.sp_part_runs.specs.BodiesRuns.{IsOnAt}
+use Rattle.sp_part_runs.specs.ControlParts.{Begins, Ends}
 use Rattle.sp_node_runs.specs.Runs.{Placed, told}
 use Rattle.sp_xfer.specs.declared.part.Moving.{Moving}
 use Rattle.sp_xfer.specs.declared.part.Wires.{Wires}
 use Rattle.sp_xfer.specs.Moving.{MovesSlice}
-use Rattle.sp_node_bodies.specs.Spans.{SpanNets}
+use Rattle.sp_node_runs.specs.BodiesSpans.{SpanNets}
 use Rattle.sp_transfer_runs.specs.Runs.{taken_in, DidSlice, total_of, delay_in, moves_in, Moves, Asks, TellsWords, TransferRuns}
 use Rattle.sp_transfer_runs.specs.Words.{moves_of, parts_of, count_of, MovesWord, SlicesAreWords}
 use Rattle.sp_transfer_runs.proofs.Moved as slices

@@ -11,7 +11,7 @@ use Rattle.sp_core.specs.PlainCore.{PlainNode, load, store, PlainCore}
 use Rattle.sp_plan.specs.PlainPlan.{PlainPlan}
 use Rattle.sp_time.specs.Lists.{total}
 use Rattle.sp_machine.specs.Transfers.{Delays, word_cycle, transfer_took}
-use Rattle.sp_body_runs.specs.Runs.{IsOnAt}
+use Rattle.sp_part_runs.specs.BodiesRuns.{IsOnAt}
 use Rattle.sp_node_runs.specs.Runs.{Placed, told, AreWithin}
 use Rattle.sp_transfer_runs.specs.Channels.{AreTaken, IsAsked, ChannelsAnswer}
 use Rattle.sp_transfer_runs.specs.Runs.{total_of, delay_in, moves_in, Moves, Asks}

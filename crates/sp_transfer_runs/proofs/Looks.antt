@@ -9,12 +9,12 @@ use Rattle.sp_core.specs.Transfers.{lengths, has_none}
 use Rattle.sp_counters.specs.Counting.{are_last, have_values, AllCount}
 use Rattle.sp_counters.specs.Laws.{steps_after}
 use Rattle.sp_machine.specs.Transfers.{word_cycle, look_cycle}
-use Rattle.sp_body_runs.specs.Runs.{IsOnAt}
+use Rattle.sp_part_runs.specs.BodiesRuns.{IsOnAt}
 use Rattle.sp_slices.specs.declared.part.Walk.{Walk}
 use Rattle.sp_slices.specs.Slices.{WalksSlice}
 use Rattle.sp_xfer.specs.Ahead.{look_offsets}
 use Rattle.sp_xfer.specs.Moving.{was}
-use Rattle.sp_node_bodies.specs.Spans.{SpanNets, HaveSpans}
+use Rattle.sp_node_runs.specs.BodiesSpans.{SpanNets, HaveSpans}
 use Rattle.sp_transfer_runs.specs.Words.{moves_of, parts_of, IsSlice, count_of, offset_of, IsAtWord, StartedAt, SlicesAreWords}
 use Rattle.sp_transfer_runs.proofs.Ahead.{Bounded, bounded, all_last, look_is_next, first_is}
 use Rattle.sp_transfer_runs.proofs.Cycles.{words_rise, two_on, word_within}

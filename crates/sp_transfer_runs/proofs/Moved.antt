@@ -6,11 +6,11 @@ use Rattle.sp_netlist.specs.Signals.{Signals}
 use Rattle.sp_gates.specs.Tested.{is_on}
 use Rattle.sp_core.specs.History.{Taken}
 use Rattle.sp_machine.specs.Transfers.{word_cycle, transfer_took}
-use Rattle.sp_body_runs.specs.Runs.{IsOnAt}
+use Rattle.sp_part_runs.specs.BodiesRuns.{IsOnAt}
 use Rattle.sp_xfer.specs.declared.part.Moving.{Moving}
 use Rattle.sp_xfer.specs.declared.part.Wires.{Wires}
 use Rattle.sp_xfer.specs.Moving.{MovesSlice, moves_at, ends_at}
-use Rattle.sp_node_bodies.specs.Spans.{SpanNets, HaveSpans}
+use Rattle.sp_node_runs.specs.BodiesSpans.{SpanNets, HaveSpans}
 use Rattle.sp_transfer_runs.specs.Words.{moves_of, IsSlice, count_of, MovesWord, StartedAt, SlicesAreWords}
 use Rattle.sp_transfer_runs.proofs.Cycles.{two_on, took_is, word_within}
 use Rattle.sp_transfer_runs.proofs.Numbers.{and_parts}

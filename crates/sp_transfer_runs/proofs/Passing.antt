@@ -3,7 +3,7 @@ use Rattle.std.proofs.Common.{◌≡◌, ℕ, zero, suc, ◌+◌, ◌<◌, ◌�
 use Rattle.std.specs.List.{Contains}
 use Rattle.sp_counters.specs.Laws.{steps_after}
 use Rattle.sp_machine.specs.Transfers.{word_cycle, transfer_took}
-use Rattle.sp_body_runs.specs.Runs.{IsOnAt}
+use Rattle.sp_part_runs.specs.BodiesRuns.{IsOnAt}
 use Rattle.sp_transfer_runs.proofs.Cycles.{words_rise, two_on, word_within}
 
 -- a bit is 1 or 0

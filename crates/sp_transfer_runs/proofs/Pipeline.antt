@@ -4,7 +4,7 @@ use Rattle.std.specs.List.{Contains}
 use Rattle.sp_netlist.specs.Signals.{Signals}
 use Rattle.sp_gates.specs.Tested.{is_on}
 use Rattle.sp_machine.specs.Transfers.{word_cycle, look_cycle}
-use Rattle.sp_body_runs.specs.Runs.{IsOnAt}
+use Rattle.sp_part_runs.specs.BodiesRuns.{IsOnAt}
 use Rattle.sp_xfer.specs.Moving.{was}
 use Rattle.sp_transfer_runs.specs.Stores.{ReadsAhead}
 use Rattle.sp_transfer_runs.proofs.Cycles.{word_within}

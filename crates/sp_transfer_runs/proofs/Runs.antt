@@ -9,11 +9,11 @@ use Rattle.sp_plan.specs.PlainPlan.{PlainPlan}
 use Rattle.sp_machine.specs.Stamps.{Stamped, stamp, stamped, moved as moved_by}
 use Rattle.sp_machine.specs.Timeline.{timed}
 use Rattle.sp_machine.specs.Transfers.{Delays, transfer_took, load_run, store_run}
-use Rattle.sp_body_runs.specs.Runs.{IsOnAt}
-use Rattle.sp_control_runs.specs.Parts.{Ran, Begins, Ends}
+use Rattle.sp_part_runs.specs.BodiesRuns.{IsOnAt}
+use Rattle.sp_part_runs.specs.ControlParts.{Ran, Begins, Ends}
 use Rattle.sp_node_runs.specs.Runs.{Placed, told, events_of, over_at, AreWithin}
-use Rattle.sp_node_runs.specs.Told.{all_events}
-use Rattle.sp_node_control.specs.Runs.{ran_of, rans}
+use Rattle.sp_node_runs.specs.RunsTold.{all_events}
+use Rattle.sp_node_runs.specs.ControlRuns.{ran_of, rans}
 use Rattle.sp_transfer_runs.specs.Runs.{taken_in, words_in, total_of, delay_in}
 use Rattle.sp_transfer_runs.specs.Words.{parts_of}
 use Rattle.sp_transfer_runs.proofs.Cycles.{in_split, in_none, to_map, from_map, in_right, in_either, to_flat, from_flat}

@@ -12,16 +12,16 @@ use Rattle.sp_core.specs.Transfers.{lengths, has_none}
 use Rattle.sp_plan.specs.PlainPlan.{PlainPlan}
 use Rattle.sp_machine.specs.Stamps.{Stamped, stamped, moved as moved_by}
 use Rattle.sp_machine.specs.Transfers.{Delays, word_cycle, look_cycle, transfer_took, store_run}
-use Rattle.sp_body_runs.specs.Runs.{IsOnAt}
-use Rattle.sp_control_runs.specs.Parts.{Begins}
+use Rattle.sp_part_runs.specs.BodiesRuns.{IsOnAt}
+use Rattle.sp_part_runs.specs.ControlParts.{Begins}
 use Rattle.sp_node_runs.specs.Runs.{Placed, told}
-use Rattle.sp_node_runs.specs.Told.{all_events}
+use Rattle.sp_node_runs.specs.RunsTold.{all_events}
 use Rattle.sp_slices.specs.Slices.{WalksSlice}
 use Rattle.sp_xfer.specs.declared.part.Store.{Store}
 use Rattle.sp_xfer.specs.declared.part.Stored.{Stored}
 use Rattle.sp_xfer.specs.Ahead.{RunsStore, look_offsets, store_wires_of}
 use Rattle.sp_xfer.specs.Moving.{MovesSlice, words_at}
-use Rattle.sp_node_bodies.specs.Spans.{SpanNets}
+use Rattle.sp_node_runs.specs.BodiesSpans.{SpanNets}
 use Rattle.sp_transfer_runs.specs.Runs.{taken_in, words_in, total_of, word_of, place_of, delay_in, moves_in, TellsWords, TransferRuns}
 use Rattle.sp_transfer_runs.specs.Stores.{StoreAnswered, Idles, ReadsInTime, StoresInTime, StoreGoes, StoresWork, StoresDo}
 use Rattle.sp_transfer_runs.specs.Told.{DoesAt, Reads}

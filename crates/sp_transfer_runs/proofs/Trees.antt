@@ -12,7 +12,7 @@ use Rattle.sp_machine.specs.Transfers.{Delays}
 use Rattle.sp_overlap.specs.Whole.{IsTimed, AreTimed}
 use Rattle.sp_time.specs.Lists.{Each}
 use Rattle.sp_node_runs.specs.Runs.{Placed}
-use Rattle.sp_node_fits.specs.Laws.{AllFit}
+use Rattle.sp_node_runs.specs.FitsLaws.{AllFit}
 use Rattle.sp_fitting.specs.Fitting.{HistoryFits}
 use Rattle.sp_transfer_runs.specs.Trees.{AllMoved, GroupsMoved, RunsMoved, TurnsMoved, EachMoved, TransfersMoveAll}
 use Rattle.sp_transfer_runs.proofs.Cycles.{in_split, in_none}

@@ -23,7 +23,7 @@ use Rattle.sp_xfer.specs.declared.part.Wires.{Wires}
 use Rattle.sp_xfer.specs.Moving.{MovesSlice, ends_at, words_at}
 use Rattle.sp_xfer_runs.specs.Laws.{word_count as loop_count, WasTaken, StandsAt, SlicesMove}
 use Rattle.sp_xfer_runs.specs.Slices.{SlicesAreLoops}
-use Rattle.sp_node_bodies.specs.Spans.{SpanNets, one_net, two_nets, HaveSpans}
+use Rattle.sp_node_runs.specs.BodiesSpans.{SpanNets, one_net, two_nets, HaveSpans}
 use Rattle.sp_transfer_runs.specs.Words.{moves_of, EndsFit, loop_of, loops_of, parts_of, IsSlice, count_of, offset_of, IsAtWord, MovesWord, StartedAt, SlicesAreWords}
 use Rattle.sp_transfer_runs.proofs.Numbers.{difference, and_parts}
 use Rattle.sp_transfer_runs.proofs.Places.{range_is, group_is, places_small, place_inside, count_is, is_inside, offsets_long}

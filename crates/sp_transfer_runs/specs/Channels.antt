@@ -11,7 +11,7 @@ use Rattle.sp_core.specs.History.{moved}
 use Rattle.sp_core.specs.PlainCore.{PlainSpan, PlainNode, load, store, PlainCore}
 use Rattle.sp_plan.specs.PlainPlan.{PlainPlan}
 use Rattle.sp_machine.specs.Transfers.{Delays}
-use Rattle.sp_body_runs.specs.Runs.{IsOnAt}
+use Rattle.sp_part_runs.specs.BodiesRuns.{IsOnAt}
 use Rattle.sp_node_runs.specs.Runs.{Placed, AreWithin}
 use Rattle.sp_transfer_runs.specs.Runs.{taken_in, words_in, total_of, delay_in, moves_in, Moves, Asks}
 

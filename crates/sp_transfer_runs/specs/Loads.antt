@@ -10,16 +10,16 @@ use Rattle.sp_core.specs.Transfers.{loaded_at}
 use Rattle.sp_plan.specs.PlainPlan.{PlainPlan}
 use Rattle.sp_machine.specs.Stamps.{Stamped}
 use Rattle.sp_machine.specs.Transfers.{Delays}
-use Rattle.sp_body_runs.specs.Runs.{IsOnAt}
-use Rattle.sp_control_runs.specs.Parts.{Ends}
+use Rattle.sp_part_runs.specs.BodiesRuns.{IsOnAt}
+use Rattle.sp_part_runs.specs.ControlParts.{Ends}
 use Rattle.sp_node_runs.specs.Runs.{Placed}
-use Rattle.sp_node_runs.specs.Told.{all_events}
-use Rattle.sp_node_control.specs.Laws.{Does, IsStarted}
-use Rattle.sp_node_control.specs.Runs.{rans}
+use Rattle.sp_node_runs.specs.RunsTold.{all_events}
+use Rattle.sp_node_runs.specs.ControlLaws.{Does, IsStarted}
+use Rattle.sp_node_runs.specs.ControlRuns.{rans}
 use Rattle.sp_xfer.specs.declared.part.Load.{Load}
 use Rattle.sp_xfer.specs.declared.part.Loaded.{Loaded}
 use Rattle.sp_xfer.specs.Moving.{RunsLoad, wires_of}
-use Rattle.sp_node_bodies.specs.Spans.{SpanNets}
+use Rattle.sp_node_runs.specs.BodiesSpans.{SpanNets}
 use Rattle.sp_transfer_runs.specs.Runs.{Moves, Asks, TellsWords, TransferRuns}
 use Rattle.sp_transfer_runs.specs.Told.{Turns, WritesInTime, AreFoundInDram}
 use Rattle.sp_transfer_runs.specs.Words.{moves_of}

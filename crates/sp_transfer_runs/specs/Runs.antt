@@ -11,7 +11,7 @@ use Rattle.sp_plan.specs.PlainPlan.{PlainPlan}
 use Rattle.sp_machine.specs.Transfers.{Delays, word_cycle}
 use Rattle.sp_node_runs.specs.Runs.{Placed, AreWithin}
 use Rattle.sp_xfer.specs.declared.part.Wires.{Wires}
-use Rattle.sp_node_bodies.specs.Spans.{SpanNets, HaveSpans}
+use Rattle.sp_node_runs.specs.BodiesSpans.{SpanNets, HaveSpans}
 use Rattle.sp_transfer_runs.specs.Words.{parts_of, IsSlice, count_of, offset_of}
 
 -- what a transfer took, and the words that it moved

@@ -5,9 +5,9 @@ use Rattle.sp_gates.specs.Tested.{is_on}
 use Rattle.sp_core.specs.Elements.{row_major}
 use Rattle.sp_core.specs.Events.{Act, reads, writes, turns, Event}
 use Rattle.sp_machine.specs.Stamps.{Stamped}
-use Rattle.sp_body_runs.specs.Runs.{IsOnAt}
+use Rattle.sp_part_runs.specs.BodiesRuns.{IsOnAt}
 use Rattle.sp_xfer.specs.Moving.{words_at}
-use Rattle.sp_node_bodies.specs.Told.{Happens}
+use Rattle.sp_node_runs.specs.BodiesTold.{Happens}
 
 -- an event of a transfer does this at an element, in a cycle
 pub record DoesAt (events : List Stamped) (number t : ℕ) (indices : List ℕ) (act : Act) : Type 0 where

@@ -17,7 +17,7 @@ use Rattle.sp_plan.specs.PlainPlan.{PlainPlan}
 use Rattle.sp_machine.specs.Transfers.{Delays}
 use Rattle.sp_overlap.specs.Whole.{IsTimed}
 use Rattle.sp_node_runs.specs.Runs.{Placed, side_runs, body_runs, stage_at, stage_runs}
-use Rattle.sp_node_fits.specs.Laws.{AllFit}
+use Rattle.sp_node_runs.specs.FitsLaws.{AllFit}
 use Rattle.sp_transfer_runs.specs.Runs.{taken_in, words_in, DidSlice}
 use Rattle.sp_transfer_runs.specs.Words.{parts_of, count_of}
 

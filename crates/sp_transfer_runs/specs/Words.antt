@@ -19,7 +19,7 @@ use Rattle.sp_slices.specs.Slices.{CountMoves, WalksSlice, values_at, offsets_of
 use Rattle.sp_xfer.specs.declared.part.Moving.{Moving}
 use Rattle.sp_xfer.specs.declared.part.Wires.{Wires}
 use Rattle.sp_xfer.specs.Moving.{MovesSlice, ends_at, words_at}
-use Rattle.sp_node_bodies.specs.Spans.{SpanNets, one_net, two_nets, HaveSpans}
+use Rattle.sp_node_runs.specs.BodiesSpans.{SpanNets, one_net, two_nets, HaveSpans}
 
 -- the nets of a slice's spans, as what a transfer takes of each dimension
 abbrev pub move_of : SpanNets → Move

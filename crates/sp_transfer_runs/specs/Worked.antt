@@ -29,7 +29,7 @@ use Rattle.sp_xfer.specs.declared.part.Store.{Store}
 use Rattle.sp_xfer.specs.declared.part.Stored.{Stored}
 use Rattle.sp_xfer.specs.Ahead.{RunsStore}
 use Rattle.sp_xfer.specs.Moving.{RunsLoad}
-use Rattle.sp_node_bodies.specs.Spans.{two_nets, HaveSpans}
+use Rattle.sp_node_runs.specs.BodiesSpans.{two_nets, HaveSpans}
 use Rattle.sp_machine.specs.Transfers.{word_cycle, look_cycle, transfer_took}
 use Rattle.sp_transfer_runs.specs.Choice.{Moved, AreApart, chosen}
 use Rattle.sp_transfer_runs.specs.Stores.{ReadsAhead, goes_ahead}

@@ -5,8 +5,8 @@ use Rattle.std.proofs.lemmas.Bool.{and_parts, and_from, eqb-true, eq-eqb}
 use Rattle.std.proofs.lemmas.List.Sums.{sum_by-append}
 use Rattle.sp_core.specs.Events.{Act, reads, writes, puts, takes, resets, turns, Event, Moment, touches, slices, renews, keeps}
 use Rattle.sp_machine.specs.Stamps.{Stamped}
-use Rattle.sp_node_bodies.specs.Told.{Happens}
-use Rattle.sp_node_bodies.proofs.Listed.{here, there, none_there, first_or_later}
+use Rattle.sp_node_runs.specs.BodiesTold.{Happens}
+use Rattle.sp_node_runs.proofs.BodiesListed.{here, there, none_there, first_or_later}
 use Rattle.sp_tree_circuits.specs.Acts.{Alike, AreEventsOf}
 
 -- acts as numbers

@@ -1,13 +1,13 @@
 -- A loop in beats is told what it asks for one cycle further than it goes.
 use Rattle.std.proofs.Common.{suc, map, sym, subst, arith}
 use Rattle.sp_core.specs.PlainCore.{outer, PlainCore}
-use Rattle.sp_sequence_runs.specs.Chains.{SaysWanted, turn}
-use Rattle.sp_beat_runs.specs.Runs.{slot_cycle, slot_found, groups_in}
+use Rattle.sp_part_runs.specs.SequencesChains.{SaysWanted, turn}
+use Rattle.sp_part_runs.specs.BeatsRuns.{slot_cycle, slot_found, groups_in}
 use Rattle.sp_plan.specs.PlainPlan.{PlainPlan}
 use Rattle.sp_machine.specs.Transfers.{Delays}
-use Rattle.sp_node_control.specs.Beating.{beats_ran}
-use Rattle.sp_node_control.proofs.Numbering.{numbered_map}
-use Rattle.sp_tree_bodies.specs.Scoped.{placed}
+use Rattle.sp_node_runs.specs.ControlBeating.{beats_ran}
+use Rattle.sp_node_runs.proofs.ControlNumbering.{numbered_map}
+use Rattle.sp_tree_runs.specs.BodiesScoped.{placed}
 use Rattle.sp_tree_circuits.specs.Circuits.{MemberCircuit}
 use Rattle.sp_tree_circuits.specs.Told.{LoopsAreTold}
 use Rattle.sp_tree_circuits.specs.Given.{Laws}

@@ -22,21 +22,21 @@ use Rattle.sp_machine.specs.Timeline.{timed}
 use Rattle.sp_machine.specs.Transfers.{Delays}
 use Rattle.sp_overlap.specs.Whole.{IsTimed}
 use Rattle.sp_node_runs.specs.Runs.{Placed, events_of}
-use Rattle.sp_node_runs.specs.Told.{all_events}
-use Rattle.sp_node_runs.proofs.Weights.{later_both}
-use Rattle.sp_node_control.specs.Laws.{IsStarted}
-use Rattle.sp_node_control.specs.Runs.{rans}
-use Rattle.sp_node_fits.proofs.Takes.{took_some}
-use Rattle.sp_node_bodies.specs.Bodies.{loops_in}
-use Rattle.sp_node_bodies.specs.Bounds.{IsBoundNet, AreBoundNets, no_bound, two_bounds}
-use Rattle.sp_node_bodies.specs.Given.{Nets, AreStanding}
-use Rattle.sp_node_bodies.specs.Laws.{InnerRuns}
-use Rattle.sp_node_bodies.specs.Spans.{SpanNets, one_net, two_nets, AreSpanNets, no_span, one_index, one_range, HaveSpans}
-use Rattle.sp_node_bodies.specs.Told.{AreAnsweredInTime}
-use Rattle.sp_node_bodies.proofs.Listed.{mapped_to, mapped_from, joined_to}
-use Rattle.sp_tree_bodies.specs.Done.{AllDone}
-use Rattle.sp_tree_bodies.specs.Scoped.{Scoped, placed}
-use Rattle.sp_tree_bodies.specs.Scopes.{scopes_of}
+use Rattle.sp_node_runs.specs.RunsTold.{all_events}
+use Rattle.sp_node_runs.proofs.RunsWeights.{later_both}
+use Rattle.sp_node_runs.specs.ControlLaws.{IsStarted}
+use Rattle.sp_node_runs.specs.ControlRuns.{rans}
+use Rattle.sp_node_runs.proofs.FitsTakes.{took_some}
+use Rattle.sp_node_runs.specs.Bodies.{loops_in}
+use Rattle.sp_node_runs.specs.BodiesBounds.{IsBoundNet, AreBoundNets, no_bound, two_bounds}
+use Rattle.sp_node_runs.specs.BodiesGiven.{Nets, AreStanding}
+use Rattle.sp_node_runs.specs.BodiesLaws.{InnerRuns}
+use Rattle.sp_node_runs.specs.BodiesSpans.{SpanNets, one_net, two_nets, AreSpanNets, no_span, one_index, one_range, HaveSpans}
+use Rattle.sp_node_runs.specs.BodiesTold.{AreAnsweredInTime}
+use Rattle.sp_node_runs.proofs.BodiesListed.{mapped_to, mapped_from, joined_to}
+use Rattle.sp_tree_runs.specs.BodiesDone.{AllDone}
+use Rattle.sp_tree_runs.specs.BodiesScoped.{Scoped, placed}
+use Rattle.sp_tree_runs.specs.BodiesScopes.{scopes_of}
 use Rattle.sp_tree_circuits.specs.Parts.{DirectNet, BoundCircuits, SpanCircuits}
 use Rattle.sp_tree_circuits.specs.Circuits.{Circuit}
 use Rattle.sp_tree_circuits.specs.Answers.{EachBound, EachSpan, Answered, TransfersMove, taken_in, SlicesStand}

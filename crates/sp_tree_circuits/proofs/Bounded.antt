@@ -13,9 +13,9 @@ use Rattle.sp_core.specs.PlainCore.{PlainCounter, PlainStages, outer, PlainCore}
 use Rattle.sp_core.specs.Scope.{Loop, in_lanes, loop_of, loops_of}
 use Rattle.sp_counters.specs.declared.part.Count.{Count}
 use Rattle.sp_plan.specs.PlainPlan.{PlainPlan}
-use Rattle.sp_node_bodies.specs.Given.{Nets}
-use Rattle.sp_node_bodies.proofs.Listed.{none_there, first_or_later}
-use Rattle.sp_tree_bodies.specs.Lanes.{loops_ran}
+use Rattle.sp_node_runs.specs.BodiesGiven.{Nets}
+use Rattle.sp_node_runs.proofs.BodiesListed.{none_there, first_or_later}
+use Rattle.sp_tree_runs.specs.BodiesLanes.{loops_ran}
 use Rattle.sp_tree_circuits.specs.Parts.{BoundCircuits}
 
 pub lanes_right : (core : PlainCore) (around : Around) (earlier : List ℕ) (counters : List PlainCounter) (style : Style) (owned : List ℕ) (stages : PlainStages) → IsRight core around earlier (outer counters style owned stages) → are_lanes_right (lanes_of counters) stages ≡ true

@@ -11,16 +11,16 @@ use Rattle.sp_machine.specs.Stamps.{Stamped}
 use Rattle.sp_machine.specs.Transfers.{Delays}
 use Rattle.sp_overlap.specs.Whole.{IsTimed, AreTimed}
 use Rattle.sp_node_runs.specs.Runs.{Placed, stage_at, node_at, number_at, stage_runs}
-use Rattle.sp_node_runs.specs.Told.{all_events}
-use Rattle.sp_node_control.specs.Laws.{IsStarted}
-use Rattle.sp_node_control.specs.Runs.{rans}
-use Rattle.sp_node_bodies.specs.Given.{Nets}
-use Rattle.sp_node_bodies.specs.Laws.{own_near}
-use Rattle.sp_node_bodies.specs.Told.{AreAnsweredInTime}
-use Rattle.sp_tree_bodies.specs.Built.{Issued, counted, single, InnerPart, Built, StagesBuilt}
-use Rattle.sp_tree_bodies.specs.Scoped.{Scoped, placed, scoped_sides, scoped_bodies, scoped_stages}
-use Rattle.sp_tree_bodies.specs.Scopes.{scopes_of, test_list}
-use Rattle.sp_tree_bodies.specs.Turns.{start_list, test_lists, next_lists}
+use Rattle.sp_node_runs.specs.RunsTold.{all_events}
+use Rattle.sp_node_runs.specs.ControlLaws.{IsStarted}
+use Rattle.sp_node_runs.specs.ControlRuns.{rans}
+use Rattle.sp_node_runs.specs.BodiesGiven.{Nets}
+use Rattle.sp_node_runs.specs.BodiesLaws.{own_near}
+use Rattle.sp_node_runs.specs.BodiesTold.{AreAnsweredInTime}
+use Rattle.sp_tree_runs.specs.BodiesBuilt.{Issued, counted, single, InnerPart, Built, StagesBuilt}
+use Rattle.sp_tree_runs.specs.BodiesScoped.{Scoped, placed, scoped_sides, scoped_bodies, scoped_stages}
+use Rattle.sp_tree_runs.specs.BodiesScopes.{scopes_of, test_list}
+use Rattle.sp_tree_runs.specs.BodiesTurns.{start_list, test_lists, next_lists}
 use Rattle.sp_tree_circuits.specs.Answers.{Answered, EachInLists, TransfersMove, EachInStages, MovesInTime}
 use Rattle.sp_tree_circuits.specs.Acts.{Acts}
 use Rattle.sp_tree_circuits.specs.Circuits.{Circuit, StageCircuits}

@@ -6,8 +6,8 @@ use Rattle.sp_core.specs.Scope.{Scope}
 use Rattle.sp_plan.specs.PlainPlan.{PlainPlan}
 use Rattle.sp_machine.specs.Transfers.{Delays}
 use Rattle.sp_node_runs.specs.Runs.{Placed, AreWithin, over_at}
-use Rattle.sp_node_bodies.proofs.Listed.{none_there, first_or_later, mapped_from}
-use Rattle.sp_tree_bodies.specs.Scoped.{Scoped, with_scope}
+use Rattle.sp_node_runs.proofs.BodiesListed.{none_there, first_or_later, mapped_from}
+use Rattle.sp_tree_runs.specs.BodiesScoped.{Scoped, with_scope}
 
 module _ (core : PlainCore) (plan : PlainPlan) (delays : Delays) (node : PlainNode) (k n : ℕ) where
   goes_on : (from until : ℕ) (runs : List Placed) → AreWithin core plan delays node k n from until runs → from ≤ until

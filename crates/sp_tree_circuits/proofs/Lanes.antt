@@ -10,8 +10,8 @@ use Rattle.sp_core.specs.PlainCore.{PlainStages, no_stage, more_stage}
 use Rattle.sp_core.specs.Scope.{Loop, group_values, is_live, is_some_up_to, is_some_live}
 use Rattle.sp_counters.proofs.Values.{values_go_on}
 use Rattle.sp_plan.specs.Validity.{stage_count}
-use Rattle.sp_node_bodies.proofs.Listed.{here, there, none_there, first_or_later, mapped_from, joined_from}
-use Rattle.sp_tree_bodies.specs.Lanes.{is_stage_live}
+use Rattle.sp_node_runs.proofs.BodiesListed.{here, there, none_there, first_or_later, mapped_from, joined_from}
+use Rattle.sp_tree_runs.specs.BodiesLanes.{is_stage_live}
 use Rattle.sp_tree_circuits.specs.Circuits.{first_lane, last_lane}
 
 -- whether a stage runs is told by its lanes

@@ -13,18 +13,18 @@ use Rattle.sp_words.specs.declared.types.Ty.{Ty}
 use Rattle.sp_fitting.specs.Fitting.{EntriesFit}
 use Rattle.sp_fitting.proofs.Lists.{masks_are_bits}
 use Rattle.sp_fitting.proofs.Rules.{word_list_right}
-use Rattle.sp_body_acts.specs.Entries.{AreEntries}
+use Rattle.sp_part_runs.specs.ActsEntries.{AreEntries}
 use Rattle.sp_plan.specs.PlainPlan.{PlainPlan}
 use Rattle.sp_machine.specs.Laws.{told}
 use Rattle.sp_machine.specs.Stamps.{Stamped, moved, list_stamped, in_a_row}
 use Rattle.sp_machine.specs.Transfers.{Delays}
 use Rattle.sp_machine.proofs.Told.{told_list}
-use Rattle.sp_node_control.specs.Laws.{IsStarted}
-use Rattle.sp_node_bodies.specs.Given.{Nets, AreStanding}
-use Rattle.sp_node_bodies.specs.Lists.{DidList, ListRun, list_ran, list_events, all_listed, ListGoes, ListsWork}
-use Rattle.sp_node_bodies.specs.Told.{Happens, AreAnsweredInTime}
-use Rattle.sp_node_bodies.proofs.Listed.{mapped_to, mapped_from, joined_from}
-use Rattle.sp_tree_bodies.specs.Scopes.{TestPart}
+use Rattle.sp_node_runs.specs.ControlLaws.{IsStarted}
+use Rattle.sp_node_runs.specs.BodiesGiven.{Nets, AreStanding}
+use Rattle.sp_node_runs.specs.BodiesLists.{DidList, ListRun, list_ran, list_events, all_listed, ListGoes, ListsWork}
+use Rattle.sp_node_runs.specs.BodiesTold.{Happens, AreAnsweredInTime}
+use Rattle.sp_node_runs.proofs.BodiesListed.{mapped_to, mapped_from, joined_from}
+use Rattle.sp_tree_runs.specs.BodiesScopes.{TestPart}
 use Rattle.sp_tree_circuits.specs.Parts.{ListCircuit}
 use Rattle.sp_tree_circuits.specs.Acts.{AreEventsOf, ListActs}
 use Rattle.sp_tree_circuits.proofs.Numbers.{within_list}

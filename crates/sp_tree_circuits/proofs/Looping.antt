@@ -15,30 +15,30 @@ use Rattle.sp_core.specs.Scope.{Loop, in_lanes, group_values}
 use Rattle.sp_fitting.specs.Fitting.{HistoryFits}
 use Rattle.sp_counters.specs.declared.part.Count.{Count}
 use Rattle.sp_counters.specs.Laws.{AreLoopsAt}
-use Rattle.sp_beat_runs.specs.Laws.{TellsMore}
-use Rattle.sp_beat_runs.specs.Runs.{BeatsRan}
-use Rattle.sp_sequence_runs.specs.Runs.{shape_of}
-use Rattle.sp_counted_beats.specs.Laws.{AreInSteps}
+use Rattle.sp_part_runs.specs.BeatsLaws.{TellsMore}
+use Rattle.sp_part_runs.specs.BeatsRuns.{BeatsRan}
+use Rattle.sp_part_runs.specs.SequencesRuns.{shape_of}
+use Rattle.sp_part_runs.specs.StepsLaws.{AreInSteps}
 use Rattle.sp_plan.specs.PlainPlan.{PlainPlan}
 use Rattle.sp_machine.specs.Stamps.{Stamped}
 use Rattle.sp_machine.specs.Timeline.{timed}
 use Rattle.sp_machine.specs.Transfers.{Delays}
 use Rattle.sp_overlap.specs.Whole.{IsTimed}
 use Rattle.sp_node_runs.specs.Runs.{Placed, AreWithin, over_at, events_of}
-use Rattle.sp_node_runs.specs.Told.{all_events}
-use Rattle.sp_node_control.specs.Beating.{AreOuters, rows_of, beats_ran, TakeTime, LoopGoes}
-use Rattle.sp_node_control.specs.Laws.{IsStarted}
-use Rattle.sp_node_control.specs.Runs.{rans}
-use Rattle.sp_node_fits.specs.Laws.{AllFit}
-use Rattle.sp_node_fits.proofs.Takes.{took_some}
-use Rattle.sp_node_bodies.specs.Bounds.{AreBoundNets}
-use Rattle.sp_node_bodies.specs.Given.{Nets, AreStanding}
-use Rattle.sp_node_bodies.specs.Rows.{TookBounds}
-use Rattle.sp_node_bodies.specs.Told.{AreAnsweredInTime}
-use Rattle.sp_node_bodies.proofs.Listed.{none_there, mapped_to, mapped_from}
-use Rattle.sp_tree_bodies.specs.Done.{BoundsDone, AllDone}
-use Rattle.sp_tree_bodies.specs.Lanes.{loops_ran}
-use Rattle.sp_tree_bodies.specs.Scoped.{Scoped, placed}
+use Rattle.sp_node_runs.specs.RunsTold.{all_events}
+use Rattle.sp_node_runs.specs.ControlBeating.{AreOuters, rows_of, beats_ran, TakeTime, LoopGoes}
+use Rattle.sp_node_runs.specs.ControlLaws.{IsStarted}
+use Rattle.sp_node_runs.specs.ControlRuns.{rans}
+use Rattle.sp_node_runs.specs.FitsLaws.{AllFit}
+use Rattle.sp_node_runs.proofs.FitsTakes.{took_some}
+use Rattle.sp_node_runs.specs.BodiesBounds.{AreBoundNets}
+use Rattle.sp_node_runs.specs.BodiesGiven.{Nets, AreStanding}
+use Rattle.sp_node_runs.specs.BodiesRows.{TookBounds}
+use Rattle.sp_node_runs.specs.BodiesTold.{AreAnsweredInTime}
+use Rattle.sp_node_runs.proofs.BodiesListed.{none_there, mapped_to, mapped_from}
+use Rattle.sp_tree_runs.specs.BodiesDone.{BoundsDone, AllDone}
+use Rattle.sp_tree_runs.specs.BodiesLanes.{loops_ran}
+use Rattle.sp_tree_runs.specs.BodiesScoped.{Scoped, placed}
 use Rattle.sp_tree_circuits.specs.Circuits.{Circuit}
 use Rattle.sp_tree_circuits.specs.Answers.{EachBound}
 use Rattle.sp_tree_circuits.proofs.Bodies.{taken_first, bound_nets, stands_first, happens_in}

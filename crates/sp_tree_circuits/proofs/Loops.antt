@@ -8,15 +8,15 @@ use Rattle.sp_core.specs.Around.{Around, Near}
 use Rattle.sp_core.specs.Invariant.{IsRight}
 use Rattle.sp_core.specs.Numbering.{counters_size, node_count, number_count}
 use Rattle.sp_core.specs.PlainCore.{PlainCounter, PlainNode, PlainStages, outer, no_stage, more_stage, PlainCore}
-use Rattle.sp_control_runs.specs.Parts.{Begins}
-use Rattle.sp_beat_runs.specs.Laws.{TellsMore}
-use Rattle.sp_beat_runs.specs.Runs.{slot_cycle, slot_found, groups_in}
+use Rattle.sp_part_runs.specs.ControlParts.{Begins}
+use Rattle.sp_part_runs.specs.BeatsLaws.{TellsMore}
+use Rattle.sp_part_runs.specs.BeatsRuns.{slot_cycle, slot_found, groups_in}
 use Rattle.sp_sequence.specs.declared.part.Chain.{Chain}
 use Rattle.sp_sequence.specs.declared.part.Member.{Member}
 use Rattle.sp_sequence.specs.declared.part.Slot.{Slot}
-use Rattle.sp_sequence_runs.specs.Chains.{Numbered, SaysWanted, turn}
-use Rattle.sp_sequence_runs.specs.Places.{stage_at as stage_in, sizes}
-use Rattle.sp_sequence_runs.specs.Runs.{shape_of}
+use Rattle.sp_part_runs.specs.SequencesChains.{Numbered, SaysWanted, turn}
+use Rattle.sp_part_runs.specs.SequencesPlaces.{stage_at as stage_in, sizes}
+use Rattle.sp_part_runs.specs.SequencesRuns.{shape_of}
 use Rattle.sp_plan.specs.PlainPlan.{PlainPlan, node_plan}
 use Rattle.sp_plan.specs.Validity.{stage_count}
 use Rattle.sp_time.specs.Beats.{slot_at}
@@ -25,17 +25,17 @@ use Rattle.sp_machine.specs.Timeline.{slots_of}
 use Rattle.sp_machine.specs.Transfers.{Delays}
 use Rattle.sp_overlap.specs.Whole.{IsTimed}
 use Rattle.sp_node_runs.specs.Runs.{AreWithin, stage_at, node_at, number_at, stage_runs}
-use Rattle.sp_node_runs.specs.Told.{all_events}
-use Rattle.sp_node_control.specs.Beating.{stage_rans, MemberDoes, SlotsDo}
-use Rattle.sp_node_control.specs.Laws.{Does, IsStarted}
-use Rattle.sp_node_control.specs.Runs.{rans}
-use Rattle.sp_node_control.proofs.Numbering.{numbered_map}
-use Rattle.sp_node_fits.specs.Laws.{AllFit}
-use Rattle.sp_node_bodies.specs.Given.{Nets}
-use Rattle.sp_node_bodies.specs.Laws.{own_near}
-use Rattle.sp_node_bodies.specs.Told.{AreAnsweredInTime}
-use Rattle.sp_tree_bodies.specs.Scoped.{Scoped, placed, scoped_stages}
-use Rattle.sp_tree_control.specs.Trees.{IsMember, AreMembers}
+use Rattle.sp_node_runs.specs.RunsTold.{all_events}
+use Rattle.sp_node_runs.specs.ControlBeating.{stage_rans, MemberDoes, SlotsDo}
+use Rattle.sp_node_runs.specs.ControlLaws.{Does, IsStarted}
+use Rattle.sp_node_runs.specs.ControlRuns.{rans}
+use Rattle.sp_node_runs.proofs.ControlNumbering.{numbered_map}
+use Rattle.sp_node_runs.specs.FitsLaws.{AllFit}
+use Rattle.sp_node_runs.specs.BodiesGiven.{Nets}
+use Rattle.sp_node_runs.specs.BodiesLaws.{own_near}
+use Rattle.sp_node_runs.specs.BodiesTold.{AreAnsweredInTime}
+use Rattle.sp_tree_runs.specs.BodiesScoped.{Scoped, placed, scoped_stages}
+use Rattle.sp_tree_runs.specs.ControlTrees.{IsMember, AreMembers}
 use Rattle.sp_tree_circuits.specs.Circuits.{MemberCircuit, Circuit, StageCircuits}
 use Rattle.sp_tree_circuits.specs.Answers.{EachBound}
 use Rattle.sp_tree_circuits.specs.Acts.{AreEventsOf, Acts, StagesAct}

@@ -14,13 +14,13 @@ use Rattle.sp_machine.specs.Transfers.{Delays}
 use Rattle.sp_overlap.specs.Whole.{IsTimed}
 use Rattle.sp_core.specs.Latency.{latency_of_all}
 use Rattle.sp_node_runs.specs.Runs.{Placed, list_took, body_runs}
-use Rattle.sp_node_runs.specs.Told.{all_events, turns_alone, fsm_alone}
-use Rattle.sp_node_runs.proofs.Weights.{later_both}
-use Rattle.sp_node_bodies.specs.Lists.{ListRun, list_events, all_listed}
-use Rattle.sp_node_bodies.proofs.Listed.{none_there, first_or_later}
-use Rattle.sp_tree_bodies.specs.Done.{AllDone}
-use Rattle.sp_tree_bodies.specs.Scoped.{Scoped, placed, AllAreDone}
-use Rattle.sp_tree_bodies.specs.Turns.{start_list, body_took, list_in_turn, tests_in, nexts_in, test_lists_in, next_lists_in, test_lists, next_lists}
+use Rattle.sp_node_runs.specs.RunsTold.{all_events, turns_alone, fsm_alone}
+use Rattle.sp_node_runs.proofs.RunsWeights.{later_both}
+use Rattle.sp_node_runs.specs.BodiesLists.{ListRun, list_events, all_listed}
+use Rattle.sp_node_runs.proofs.BodiesListed.{none_there, first_or_later}
+use Rattle.sp_tree_runs.specs.BodiesDone.{AllDone}
+use Rattle.sp_tree_runs.specs.BodiesScoped.{Scoped, placed, AllAreDone}
+use Rattle.sp_tree_runs.specs.BodiesTurns.{start_list, body_took, list_in_turn, tests_in, nexts_in, test_lists_in, next_lists_in, test_lists, next_lists}
 use Rattle.sp_tree_circuits.specs.Acts.{AreEventsOf}
 use Rattle.sp_tree_circuits.proofs.Alike.{weigh, none_like, by_weights}
 use Rattle.sp_tree_circuits.specs.Given.{Laws}

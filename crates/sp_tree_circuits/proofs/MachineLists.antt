@@ -14,19 +14,19 @@ use Rattle.sp_core.specs.PlainCore.{PlainOp, PlainNode, fsm, PlainCore}
 use Rattle.sp_core.specs.Scope.{Scope, in_lanes}
 use Rattle.sp_fitting.specs.Fitting.{HistoryFits, EntriesFit, TurnsFit}
 use Rattle.sp_fitting.proofs.Rules.{here_right}
-use Rattle.sp_body_acts.specs.Entries.{AreEntries}
-use Rattle.sp_control_runs.specs.Machines.{MachineRan, first_run, tests_from, nexts_from, tests_of, nexts_of, tests, nexts}
-use Rattle.sp_control_runs.specs.Parts.{Tested, runs_of}
+use Rattle.sp_part_runs.specs.ActsEntries.{AreEntries}
+use Rattle.sp_part_runs.specs.ControlMachines.{MachineRan, first_run, tests_from, nexts_from, tests_of, nexts_of, tests, nexts}
+use Rattle.sp_part_runs.specs.ControlParts.{Tested, runs_of}
 use Rattle.sp_plan.specs.PlainPlan.{PlainPlan}
 use Rattle.sp_machine.specs.Timeline.{timed, turn_runs}
 use Rattle.sp_machine.specs.Transfers.{Delays}
 use Rattle.sp_node_runs.specs.Runs.{Placed, over_at, list_took}
-use Rattle.sp_node_control.specs.Runs.{turns_of, machine_of}
-use Rattle.sp_node_bodies.specs.Lists.{DidList, ListRun, list_ran}
-use Rattle.sp_node_bodies.proofs.Listed.{none_there, first_or_later, mapped_from, joined_from}
-use Rattle.sp_tree_bodies.specs.Done.{AllDone, TurnsDone}
-use Rattle.sp_tree_bodies.specs.Scoped.{Scoped, placed, AllAreDone}
-use Rattle.sp_tree_bodies.specs.Turns.{started_in, start_list, body_took, list_in_turn, tests_in, nexts_in, test_lists_in, next_lists_in, test_lists, next_lists}
+use Rattle.sp_node_runs.specs.ControlRuns.{turns_of, machine_of}
+use Rattle.sp_node_runs.specs.BodiesLists.{DidList, ListRun, list_ran}
+use Rattle.sp_node_runs.proofs.BodiesListed.{none_there, first_or_later, mapped_from, joined_from}
+use Rattle.sp_tree_runs.specs.BodiesDone.{AllDone, TurnsDone}
+use Rattle.sp_tree_runs.specs.BodiesScoped.{Scoped, placed, AllAreDone}
+use Rattle.sp_tree_runs.specs.BodiesTurns.{started_in, start_list, body_took, list_in_turn, tests_in, nexts_in, test_lists_in, next_lists_in, test_lists, next_lists}
 use Rattle.sp_tree_circuits.proofs.Listing.{one_did}
 
 module _ (core : PlainCore) (plan : PlainPlan) (delays : Delays) (k n : ℕ) (start : List PlainOp) (state : ℕ) (ops : List PlainOp) (node : PlainNode) (after : List PlainOp) where

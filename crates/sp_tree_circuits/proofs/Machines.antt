@@ -13,16 +13,16 @@ use Rattle.sp_machine.specs.Stamps.{Stamped}
 use Rattle.sp_machine.specs.Transfers.{Delays}
 use Rattle.sp_overlap.specs.Whole.{IsTimed}
 use Rattle.sp_node_runs.specs.Runs.{Placed, AreWithin, over_at, body_in, body_runs}
-use Rattle.sp_node_runs.specs.Told.{all_events}
-use Rattle.sp_node_control.specs.Laws.{Does, IsStarted}
-use Rattle.sp_node_control.specs.Runs.{rans}
-use Rattle.sp_node_fits.specs.Laws.{AllFit}
-use Rattle.sp_node_bodies.specs.Given.{Nets, AreStanding}
-use Rattle.sp_node_bodies.specs.Lists.{DidList, ListRun, all_listed}
-use Rattle.sp_node_bodies.specs.Told.{AreAnsweredInTime}
-use Rattle.sp_node_bodies.proofs.Listed.{mapped_from, joined_from}
-use Rattle.sp_tree_bodies.specs.Scoped.{Scoped, placed, with_scope, scoped_bodies}
-use Rattle.sp_tree_bodies.specs.Turns.{start_list, test_lists_in, next_lists_in, test_lists, next_lists}
+use Rattle.sp_node_runs.specs.RunsTold.{all_events}
+use Rattle.sp_node_runs.specs.ControlLaws.{Does, IsStarted}
+use Rattle.sp_node_runs.specs.ControlRuns.{rans}
+use Rattle.sp_node_runs.specs.FitsLaws.{AllFit}
+use Rattle.sp_node_runs.specs.BodiesGiven.{Nets, AreStanding}
+use Rattle.sp_node_runs.specs.BodiesLists.{DidList, ListRun, all_listed}
+use Rattle.sp_node_runs.specs.BodiesTold.{AreAnsweredInTime}
+use Rattle.sp_node_runs.proofs.BodiesListed.{mapped_from, joined_from}
+use Rattle.sp_tree_runs.specs.BodiesScoped.{Scoped, placed, with_scope, scoped_bodies}
+use Rattle.sp_tree_runs.specs.BodiesTurns.{start_list, test_lists_in, next_lists_in, test_lists, next_lists}
 use Rattle.sp_tree_circuits.specs.Circuits.{Circuit}
 use Rattle.sp_tree_circuits.specs.Acts.{AreEventsOf, Acts}
 use Rattle.sp_tree_circuits.proofs.Alike.{of_part}

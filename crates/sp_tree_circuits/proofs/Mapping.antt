@@ -12,10 +12,10 @@ use Rattle.sp_plan.specs.PlainPlan.{PlainPlan, node_plan}
 use Rattle.sp_time.specs.Beats.{slot_at}
 use Rattle.sp_machine.specs.Timeline.{slots_of}
 use Rattle.sp_machine.specs.Transfers.{Delays}
-use Rattle.sp_node_bodies.specs.Given.{Nets}
-use Rattle.sp_node_bodies.specs.Laws.{own_near}
-use Rattle.sp_node_bodies.specs.Spans.{SpanNets, one_net, two_nets}
-use Rattle.sp_tree_bodies.specs.Scoped.{Scoped, scoped_sides, scoped_bodies, scoped_stages}
+use Rattle.sp_node_runs.specs.BodiesGiven.{Nets}
+use Rattle.sp_node_runs.specs.BodiesLaws.{own_near}
+use Rattle.sp_node_runs.specs.BodiesSpans.{SpanNets, one_net, two_nets}
+use Rattle.sp_tree_runs.specs.BodiesScoped.{Scoped, scoped_sides, scoped_bodies, scoped_stages}
 use Rattle.sp_tree_circuits.specs.Parts.{BoundCircuits, SpanCircuits, Issued}
 use Rattle.sp_tree_circuits.specs.Circuits.{slot_nets, Circuit, StageCircuits}
 use Rattle.sp_tree_circuits.specs.Answers.{EachBound, EachSpan, EachOfIssue, EachList, EachInLists, EachTransfer, EachInStages}

@@ -19,9 +19,9 @@ use Rattle.sp_machine.specs.Timeline.{timed}
 use Rattle.sp_machine.specs.Transfers.{Delays}
 use Rattle.sp_overlap.specs.Whole.{IsTimed, AreTimed}
 use Rattle.sp_node_runs.specs.Runs.{Placed, events_of}
-use Rattle.sp_node_runs.specs.Told.{all_events}
-use Rattle.sp_node_bodies.specs.Told.{Happens}
-use Rattle.sp_node_bodies.proofs.Listed.{none_there, first_or_later, mapped_to, mapped_from, joined_from}
+use Rattle.sp_node_runs.specs.RunsTold.{all_events}
+use Rattle.sp_node_runs.specs.BodiesTold.{Happens}
+use Rattle.sp_node_runs.proofs.BodiesListed.{none_there, first_or_later, mapped_to, mapped_from, joined_from}
 
 -- events of a list have numbers from one on and below another
 abbrev pub Within : (from until : ℕ) → List Moment → Type 0

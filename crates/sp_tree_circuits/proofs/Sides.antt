@@ -14,25 +14,25 @@ use Rattle.sp_core.specs.PlainCore.{PlainOp, PlainNode, branch, PlainCore}
 use Rattle.sp_core.specs.Scope.{Scope, in_lanes}
 use Rattle.sp_fitting.specs.Fitting.{HistoryFits}
 use Rattle.sp_fitting.proofs.Rules.{here_right}
-use Rattle.sp_control_runs.specs.Branches.{test_run}
-use Rattle.sp_control_runs.specs.Parts.{runs_of}
+use Rattle.sp_part_runs.specs.ControlBranches.{test_run}
+use Rattle.sp_part_runs.specs.ControlParts.{runs_of}
 use Rattle.sp_plan.specs.PlainPlan.{PlainPlan}
 use Rattle.sp_machine.specs.Stamps.{Stamped, later, list_run}
 use Rattle.sp_machine.specs.Timeline.{timed}
 use Rattle.sp_machine.specs.Transfers.{Delays}
 use Rattle.sp_overlap.specs.Whole.{IsTimed}
 use Rattle.sp_node_runs.specs.Runs.{Placed, AreWithin, over_at, list_took, side_in, side_runs}
-use Rattle.sp_node_runs.specs.Told.{all_events, branch_alone}
-use Rattle.sp_node_control.specs.Laws.{Does, IsStarted}
-use Rattle.sp_node_control.specs.Runs.{rans, branch_of}
-use Rattle.sp_node_fits.specs.Laws.{AllFit}
-use Rattle.sp_node_bodies.specs.Given.{Nets, AreStanding}
-use Rattle.sp_node_bodies.specs.Lists.{DidList, ListRun, list_ran, list_events, all_listed}
-use Rattle.sp_node_bodies.specs.Told.{AreAnsweredInTime}
-use Rattle.sp_node_bodies.proofs.Listed.{none_there, mapped_from, joined_from}
-use Rattle.sp_tree_bodies.specs.Done.{AllDone}
-use Rattle.sp_tree_bodies.specs.Scoped.{Scoped, placed, with_scope, AllAreDone, scoped_sides}
-use Rattle.sp_tree_bodies.specs.Scopes.{tested_in, test_list}
+use Rattle.sp_node_runs.specs.RunsTold.{all_events, branch_alone}
+use Rattle.sp_node_runs.specs.ControlLaws.{Does, IsStarted}
+use Rattle.sp_node_runs.specs.ControlRuns.{rans, branch_of}
+use Rattle.sp_node_runs.specs.FitsLaws.{AllFit}
+use Rattle.sp_node_runs.specs.BodiesGiven.{Nets, AreStanding}
+use Rattle.sp_node_runs.specs.BodiesLists.{DidList, ListRun, list_ran, list_events, all_listed}
+use Rattle.sp_node_runs.specs.BodiesTold.{AreAnsweredInTime}
+use Rattle.sp_node_runs.proofs.BodiesListed.{none_there, mapped_from, joined_from}
+use Rattle.sp_tree_runs.specs.BodiesDone.{AllDone}
+use Rattle.sp_tree_runs.specs.BodiesScoped.{Scoped, placed, with_scope, AllAreDone, scoped_sides}
+use Rattle.sp_tree_runs.specs.BodiesScopes.{tested_in, test_list}
 use Rattle.sp_tree_circuits.specs.Circuits.{Circuit}
 use Rattle.sp_tree_circuits.specs.Acts.{AreEventsOf, Acts}
 use Rattle.sp_tree_circuits.proofs.Alike.{weigh, none_like, by_weights, of_part}

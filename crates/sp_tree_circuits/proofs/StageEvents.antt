@@ -19,11 +19,11 @@ use Rattle.sp_machine.specs.Transfers.{Delays}
 use Rattle.sp_machine.proofs.Told.{told_stamped, told_fresh}
 use Rattle.sp_overlap.specs.Whole.{IsTimed, AreTimed}
 use Rattle.sp_node_runs.specs.Runs.{Placed, table, stage_at, node_at, number_at, stage_runs}
-use Rattle.sp_node_runs.specs.Told.{all_events, fresh_from, outer_alone}
-use Rattle.sp_node_bodies.specs.Told.{Happens}
-use Rattle.sp_node_bodies.proofs.Listed.{none_there, mapped_to, mapped_from, joined_from}
-use Rattle.sp_tree_bodies.specs.Done.{AllDone}
-use Rattle.sp_tree_bodies.specs.Scoped.{Scoped, placed, AllAreDone}
+use Rattle.sp_node_runs.specs.RunsTold.{all_events, fresh_from, outer_alone}
+use Rattle.sp_node_runs.specs.BodiesTold.{Happens}
+use Rattle.sp_node_runs.proofs.BodiesListed.{none_there, mapped_to, mapped_from, joined_from}
+use Rattle.sp_tree_runs.specs.BodiesDone.{AllDone}
+use Rattle.sp_tree_runs.specs.BodiesScoped.{Scoped, placed, AllAreDone}
 use Rattle.sp_tree_circuits.specs.Acts.{AreEventsOf}
 use Rattle.sp_tree_circuits.proofs.Alike.{weigh, none_like, by_weights}
 use Rattle.sp_tree_circuits.specs.Given.{Laws}

@@ -8,7 +8,7 @@ use Rattle.sp_core.specs.PlainCore.{PlainNode, PlainStages, no_stage, more_stage
 use Rattle.sp_plan.specs.PlainPlan.{PlainPlan}
 use Rattle.sp_plan.specs.Validity.{stage_count}
 use Rattle.sp_node_runs.specs.Runs.{stage_at, node_at, number_at}
-use Rattle.sp_node_bodies.specs.Given.{Nets}
+use Rattle.sp_node_runs.specs.BodiesGiven.{Nets}
 use Rattle.sp_tree_circuits.specs.Circuits.{Circuit, StageCircuits}
 
 module _ (P : PlainNode → (node number stage : ℕ) → Type 0) where

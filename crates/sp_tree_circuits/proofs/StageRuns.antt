@@ -14,11 +14,11 @@ use Rattle.sp_machine.specs.Stamps.{Stamped}
 use Rattle.sp_machine.specs.Timeline.{slots_of, in_copies, timed, group_runs, stage_runs as row_runs}
 use Rattle.sp_machine.specs.Transfers.{Delays}
 use Rattle.sp_node_runs.specs.Runs.{Placed, stage_at, node_at, number_at, stage_history, told, table, stage_of, groups_from, stage_in, stage_runs}
-use Rattle.sp_node_runs.proofs.Stages.{in_row}
-use Rattle.sp_node_control.specs.Beating.{values_of, groups_of}
-use Rattle.sp_node_bodies.proofs.Listed.{none_there, first_or_later, mapped_to, joined_from}
-use Rattle.sp_tree_bodies.specs.Lanes.{loops_ran}
-use Rattle.sp_tree_bodies.specs.Scoped.{Scoped, placed, with_scope, scoped_groups, scoped_stage_in, scoped_stages}
+use Rattle.sp_node_runs.proofs.RunsStages.{in_row}
+use Rattle.sp_node_runs.specs.ControlBeating.{values_of, groups_of}
+use Rattle.sp_node_runs.proofs.BodiesListed.{none_there, first_or_later, mapped_to, joined_from}
+use Rattle.sp_tree_runs.specs.BodiesLanes.{loops_ran}
+use Rattle.sp_tree_runs.specs.BodiesScoped.{Scoped, placed, with_scope, scoped_groups, scoped_stage_in, scoped_stages}
 
 module _ (core : PlainCore) (plan : PlainPlan) (delays : Delays) (k n : ℕ) (counters : List PlainCounter) (owned : List ℕ) (stages : PlainStages) (s : ℕ) where
   abbrev pub rows_in : Placed → History → List (List (Run Stamped))

@@ -11,11 +11,11 @@ use Rattle.sp_core.specs.Invariant.{IsRight}
 use Rattle.sp_core.specs.Numbering.{counters_size}
 use Rattle.sp_core.specs.PlainCore.{PlainCounter, PlainStages, outer, PlainCore}
 use Rattle.sp_core.specs.Scope.{Scope, group_values, in_group}
-use Rattle.sp_body_runs.specs.Runs.{IsOnAt}
-use Rattle.sp_beat_runs.specs.Runs.{steps_in, step_cycle}
-use Rattle.sp_counted_beats.specs.Laws.{AreInSteps}
-use Rattle.sp_sequence_runs.specs.Chains.{At}
-use Rattle.sp_sequence_runs.specs.Places.{stage_at as stage_in, IsPlace}
+use Rattle.sp_part_runs.specs.BodiesRuns.{IsOnAt}
+use Rattle.sp_part_runs.specs.BeatsRuns.{steps_in, step_cycle}
+use Rattle.sp_part_runs.specs.StepsLaws.{AreInSteps}
+use Rattle.sp_part_runs.specs.SequencesChains.{At}
+use Rattle.sp_part_runs.specs.SequencesPlaces.{stage_at as stage_in, IsPlace}
 use Rattle.sp_plan.specs.PlainPlan.{PlainPlan, node_plan}
 use Rattle.sp_plan.specs.Validity.{stage_count}
 use Rattle.sp_time.specs.Beats.{Slot, slot_at, took_at}
@@ -24,16 +24,16 @@ use Rattle.sp_machine.specs.Timeline.{slots_of}
 use Rattle.sp_machine.specs.Transfers.{Delays}
 use Rattle.sp_overlap.specs.Whole.{IsTimed}
 use Rattle.sp_node_runs.specs.Runs.{Placed, over_at, stage_at, node_at, number_at, stage_runs}
-use Rattle.sp_node_control.specs.Beating.{rows_of}
-use Rattle.sp_node_bodies.specs.Bodies.{group_scope}
-use Rattle.sp_node_bodies.specs.Given.{Nets, with_nets, AreStanding}
-use Rattle.sp_node_bodies.specs.Laws.{own_near}
-use Rattle.sp_node_bodies.specs.Told.{AreAnsweredInTime}
-use Rattle.sp_node_bodies.specs.Rows.{with_row, IsInStage}
-use Rattle.sp_node_bodies.proofs.Listed.{mapped_to, mapped_from}
-use Rattle.sp_tree_bodies.specs.Lanes.{loops_ran}
-use Rattle.sp_tree_bodies.specs.Scoped.{Scoped, placed, scoped_stages}
-use Rattle.sp_tree_bodies.specs.Scopes.{scopes_of}
+use Rattle.sp_node_runs.specs.ControlBeating.{rows_of}
+use Rattle.sp_node_runs.specs.Bodies.{group_scope}
+use Rattle.sp_node_runs.specs.BodiesGiven.{Nets, with_nets, AreStanding}
+use Rattle.sp_node_runs.specs.BodiesLaws.{own_near}
+use Rattle.sp_node_runs.specs.BodiesTold.{AreAnsweredInTime}
+use Rattle.sp_node_runs.specs.BodiesRows.{with_row, IsInStage}
+use Rattle.sp_node_runs.proofs.BodiesListed.{mapped_to, mapped_from}
+use Rattle.sp_tree_runs.specs.BodiesLanes.{loops_ran}
+use Rattle.sp_tree_runs.specs.BodiesScoped.{Scoped, placed, scoped_stages}
+use Rattle.sp_tree_runs.specs.BodiesScopes.{scopes_of}
 use Rattle.sp_tree_circuits.specs.Circuits.{slot_nets, TakesWords, TakeWords, Circuit}
 use Rattle.sp_tree_circuits.specs.Answers.{EachBound}
 use Rattle.sp_tree_circuits.specs.Laws.{StandAround}

@@ -5,10 +5,10 @@ use Rattle.sp_sequence.specs.declared.part.Member.{Member}
 use Rattle.sp_sequence.specs.declared.part.Slot.{Slot}
 use Rattle.sp_time.specs.Beats.{Slot as Place, slot_at, is_slot}
 use Rattle.sp_time.proofs.ListLemmas.{greatest_ge}
-use Rattle.sp_sequence_runs.specs.Chains.{Numbered}
-use Rattle.sp_sequence_runs.specs.Places.{stages_in, stage_at, sizes, IsPlace, AreArranged}
-use Rattle.sp_sequence_runs.specs.Runs.{sizes_of, shape_of}
-use Rattle.sp_sequence_runs.proofs.Placing.{is_same, same_slot, standing}
+use Rattle.sp_part_runs.specs.SequencesChains.{Numbered}
+use Rattle.sp_part_runs.specs.SequencesPlaces.{stages_in, stage_at, sizes, IsPlace, AreArranged}
+use Rattle.sp_part_runs.specs.SequencesRuns.{sizes_of, shape_of}
+use Rattle.sp_part_runs.proofs.SequencesPlacing.{is_same, same_slot, standing}
 
 pub numbered_both : {A : Type 0} (P Q : ℕ → A → Type 0) (n : ℕ) (xs : List A) → Numbered P n xs → Numbered Q n xs → Numbered (λ i x. P i x × Q i x) n xs
 numbered_both P Q n [] h k = tt

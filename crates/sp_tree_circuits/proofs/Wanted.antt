@@ -11,16 +11,16 @@ use Rattle.sp_core.specs.PlainCore.{PlainCounter, PlainStages, outer, PlainCore}
 use Rattle.sp_core.specs.Scope.{Loop, group_values, is_live, is_some_up_to}
 use Rattle.sp_counters.specs.declared.part.Counter.{Counter}
 use Rattle.sp_counters.specs.Laws.{AreAtGroup}
-use Rattle.sp_body_runs.specs.Runs.{IsOnAt}
-use Rattle.sp_beat_runs.specs.Runs.{BeatsRan, Turn, beats, beat_cycle, slot_cycle, slot_found, groups_in, steps_in, step_cycle}
-use Rattle.sp_beat_runs.proofs.Counting.{turns_of_in, group_in_beats}
-use Rattle.sp_counted_beats.specs.Laws.{AreInSteps}
-use Rattle.sp_group_words.specs.Laws.{IsAtWork, HaveWords}
+use Rattle.sp_part_runs.specs.BodiesRuns.{IsOnAt}
+use Rattle.sp_part_runs.specs.BeatsRuns.{BeatsRan, Turn, beats, beat_cycle, slot_cycle, slot_found, groups_in, steps_in, step_cycle}
+use Rattle.sp_part_runs.proofs.BeatsCounting.{turns_of_in, group_in_beats}
+use Rattle.sp_part_runs.specs.StepsLaws.{AreInSteps}
+use Rattle.sp_part_runs.specs.WordsLaws.{IsAtWork, HaveWords}
 use Rattle.sp_sequence.specs.declared.part.Member.{Member}
-use Rattle.sp_sequence_runs.specs.Chains.{At, SaysWanted, turn}
-use Rattle.sp_sequence_runs.specs.Places.{stage_at as stage_in, sizes, IsPlace}
-use Rattle.sp_sequence_runs.specs.Runs.{chain_took}
-use Rattle.sp_sequence_runs.proofs.Placing.{map_length}
+use Rattle.sp_part_runs.specs.SequencesChains.{At, SaysWanted, turn}
+use Rattle.sp_part_runs.specs.SequencesPlaces.{stage_at as stage_in, sizes, IsPlace}
+use Rattle.sp_part_runs.specs.SequencesRuns.{chain_took}
+use Rattle.sp_part_runs.proofs.SequencesPlacing.{map_length}
 use Rattle.sp_plan.specs.PlainPlan.{PlainPlan, node_plan}
 use Rattle.sp_plan.specs.Validity.{stage_count}
 use Rattle.sp_time.specs.Beats.{Slot, took_at}
@@ -29,15 +29,15 @@ use Rattle.sp_machine.specs.Timeline.{slots_of}
 use Rattle.sp_machine.specs.Transfers.{Delays}
 use Rattle.sp_overlap.specs.Whole.{IsTimed}
 use Rattle.sp_node_runs.specs.Runs.{Placed}
-use Rattle.sp_node_control.specs.Beating.{has_lane, groups_of, values_of, rows_of}
-use Rattle.sp_node_control.proofs.BeatRuns.{as_stages, in_time, in_turn}
-use Rattle.sp_node_bodies.specs.Given.{Nets}
-use Rattle.sp_node_bodies.specs.Given as given
-use Rattle.sp_node_bodies.specs.Told.{AreAnsweredInTime}
-use Rattle.sp_node_bodies.specs.Rows.{wires_of}
-use Rattle.sp_node_bodies.proofs.Listed.{mapped_to, mapped_from}
-use Rattle.sp_tree_bodies.specs.Lanes.{loops_ran}
-use Rattle.sp_tree_bodies.specs.Scoped.{Scoped, placed}
+use Rattle.sp_node_runs.specs.ControlBeating.{has_lane, groups_of, values_of, rows_of}
+use Rattle.sp_node_runs.proofs.ControlBeatRuns.{as_stages, in_time, in_turn}
+use Rattle.sp_node_runs.specs.BodiesGiven.{Nets}
+use Rattle.sp_node_runs.specs.BodiesGiven as given
+use Rattle.sp_node_runs.specs.BodiesTold.{AreAnsweredInTime}
+use Rattle.sp_node_runs.specs.BodiesRows.{wires_of}
+use Rattle.sp_node_runs.proofs.BodiesListed.{mapped_to, mapped_from}
+use Rattle.sp_tree_runs.specs.BodiesLanes.{loops_ran}
+use Rattle.sp_tree_runs.specs.BodiesScoped.{Scoped, placed}
 use Rattle.sp_tree_circuits.specs.Circuits.{first_lane, last_lane, row_masks, masks_told, TakesWords, TakeWords, IsToldBy, MemberCircuit, Circuit}
 use Rattle.sp_tree_circuits.specs.Answers.{EachBound}
 use Rattle.sp_tree_circuits.proofs.Bounded.{loops_go_on, lanes_right, lanes_some}

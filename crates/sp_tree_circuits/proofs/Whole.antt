@@ -3,7 +3,7 @@ use Rattle.std.proofs.Common.{ℕ, zero, suc, ◌+◌, ◌≤◌, true, false, L
 use Rattle.sp_netlist.specs.declared.parts.Child.{Child}
 use Rattle.sp_netlist.specs.Signals.{Signals}
 use Rattle.sp_gates.specs.Tested.{is_on}
-use Rattle.sp_control_runs.specs.Parts.{Begins}
+use Rattle.sp_part_runs.specs.ControlParts.{Begins}
 use Rattle.sp_core.specs.Around.{Around, Near, nothing}
 use Rattle.sp_core.specs.Invariant.{IsRight, AreRight}
 use Rattle.sp_core.specs.Numbering.{counters_size, node_count, number_count}
@@ -13,12 +13,12 @@ use Rattle.sp_machine.specs.Stamps.{Stamped}
 use Rattle.sp_machine.specs.Transfers.{Delays}
 use Rattle.sp_overlap.specs.Whole.{IsTimed, AreTimed}
 use Rattle.sp_node_runs.specs.Runs.{over_at}
-use Rattle.sp_node_control.specs.Laws.{IsStarted}
-use Rattle.sp_node_control.specs.Runs.{rans}
-use Rattle.sp_node_bodies.specs.Given.{Nets}
-use Rattle.sp_node_bodies.specs.Laws.{own_near}
-use Rattle.sp_node_bodies.specs.Told.{AreAnsweredInTime}
-use Rattle.sp_tree_bodies.specs.Scoped.{Scoped, placed, scoped_sides, scoped_bodies, scoped_stages}
+use Rattle.sp_node_runs.specs.ControlLaws.{IsStarted}
+use Rattle.sp_node_runs.specs.ControlRuns.{rans}
+use Rattle.sp_node_runs.specs.BodiesGiven.{Nets}
+use Rattle.sp_node_runs.specs.BodiesLaws.{own_near}
+use Rattle.sp_node_runs.specs.BodiesTold.{AreAnsweredInTime}
+use Rattle.sp_tree_runs.specs.BodiesScoped.{Scoped, placed, scoped_sides, scoped_bodies, scoped_stages}
 use Rattle.sp_tree_circuits.specs.Answers.{Answered, EachInLists, TransfersMove, EachInStages, MovesInTime}
 use Rattle.sp_tree_circuits.specs.Acts.{Acts}
 use Rattle.sp_tree_circuits.specs.Circuits.{Circuit, StageCircuits}

@@ -2,10 +2,10 @@
 use Rattle.std.proofs.Common.{◌≡◌, ℕ, zero, suc, ◌+◌, ◌<◌, List, [], ◌∷◌, ◌++◌, map, length, drop, slice_index, refl, ap, subst, ◌∙◌, arith}
 use Rattle.sp_netlist.specs.declared.parts.Wire.{Wire}
 use Rattle.sp_netlist.specs.Signals.{Signals}
-use Rattle.sp_sequence_runs.specs.Chains.{Numbered}
+use Rattle.sp_part_runs.specs.SequencesChains.{Numbered}
 use Rattle.sp_beat_words.specs.declared.part.Row.{Row}
-use Rattle.sp_group_words.specs.Laws.{HaveWords, AreAsLong}
-use Rattle.sp_node_bodies.specs.Rows.{wires_of}
+use Rattle.sp_part_runs.specs.WordsLaws.{HaveWords, AreAsLong}
+use Rattle.sp_node_runs.specs.BodiesRows.{wires_of}
 use Rattle.sp_tree_circuits.specs.Circuits.{row_nets}
 
 module _ (s : Signals) (t u : ℕ) where

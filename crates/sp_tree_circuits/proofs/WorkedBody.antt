@@ -13,10 +13,10 @@ use Rattle.sp_pipe.specs.declared.part.PipeOp.{PipeOp}
 use Rattle.sp_pipe.specs.Issues.{IssuesOne}
 use Rattle.sp_pipe.specs.Right.{IsAt, IsTaken, ActFits, OpFits, OpsFit}
 use Rattle.sp_pipe.specs.Values.{gives_word, time_of, given_width, taken_width, takes}
-use Rattle.sp_body_acts.specs.Circuits.{is_given, of_word, of_write, IsActOf, IsOpOf}
-use Rattle.sp_body_acts.specs.Entries.{IsOpAt, touches_memory}
-use Rattle.sp_node_bodies.specs.Bodies.{AreTimedOps}
-use Rattle.sp_node_bodies.specs.Given.{Nets}
+use Rattle.sp_part_runs.specs.ActsCircuits.{is_given, of_word, of_write, IsActOf, IsOpOf}
+use Rattle.sp_part_runs.specs.ActsEntries.{IsOpAt, touches_memory}
+use Rattle.sp_node_runs.specs.Bodies.{AreTimedOps}
+use Rattle.sp_node_runs.specs.BodiesGiven.{Nets}
 use Rattle.sp_tree_circuits.specs.Circuits.{Circuit}
 use Rattle.sp_tree_circuits.specs.Worked.{ops, body, IsWord, IsWrite}
 

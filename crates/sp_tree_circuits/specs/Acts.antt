@@ -12,24 +12,24 @@ use Rattle.sp_core.specs.PlainCore.{PlainOp, PlainNode, PlainStages, inner, oute
 use Rattle.sp_pipe.specs.declared.part.PipeOp.{PipeOp}
 use Rattle.sp_pipe.specs.Acts.{ActsAt}
 use Rattle.sp_pipe.specs.Right.{IsAt}
-use Rattle.sp_body_acts.specs.Entries.{IsOpAt, touches_memory}
-use Rattle.sp_body_runs.specs.Runs.{IsOnAt}
-use Rattle.sp_control_runs.specs.Parts.{Ends}
+use Rattle.sp_part_runs.specs.ActsEntries.{IsOpAt, touches_memory}
+use Rattle.sp_part_runs.specs.BodiesRuns.{IsOnAt}
+use Rattle.sp_part_runs.specs.ControlParts.{Ends}
 use Rattle.sp_plan.specs.PlainPlan.{PlainPlan, node_plan}
 use Rattle.sp_time.specs.Beats.{slot_at}
 use Rattle.sp_machine.specs.Stamps.{Stamped}
 use Rattle.sp_machine.specs.Timeline.{slots_of}
 use Rattle.sp_machine.specs.Transfers.{Delays}
-use Rattle.sp_node_control.specs.Beating.{LoopGoes}
-use Rattle.sp_node_control.specs.Laws.{IsStarted}
-use Rattle.sp_node_control.specs.Runs.{rans}
-use Rattle.sp_node_bodies.specs.Given.{Nets}
-use Rattle.sp_node_bodies.specs.Laws.{own_near}
-use Rattle.sp_node_bodies.specs.Lists.{ListRun, ListGoes}
-use Rattle.sp_node_bodies.specs.Told.{Happens, ActsInTime}
-use Rattle.sp_tree_bodies.specs.Scoped.{Scoped, placed, scoped_sides, scoped_bodies, scoped_stages}
-use Rattle.sp_tree_bodies.specs.Scopes.{test_list}
-use Rattle.sp_tree_bodies.specs.Turns.{start_list, test_lists, next_lists}
+use Rattle.sp_node_runs.specs.ControlBeating.{LoopGoes}
+use Rattle.sp_node_runs.specs.ControlLaws.{IsStarted}
+use Rattle.sp_node_runs.specs.ControlRuns.{rans}
+use Rattle.sp_node_runs.specs.BodiesGiven.{Nets}
+use Rattle.sp_node_runs.specs.BodiesLaws.{own_near}
+use Rattle.sp_node_runs.specs.BodiesLists.{ListRun, ListGoes}
+use Rattle.sp_node_runs.specs.BodiesTold.{Happens, ActsInTime}
+use Rattle.sp_tree_runs.specs.BodiesScoped.{Scoped, placed, scoped_sides, scoped_bodies, scoped_stages}
+use Rattle.sp_tree_runs.specs.BodiesScopes.{test_list}
+use Rattle.sp_tree_runs.specs.BodiesTurns.{start_list, test_lists, next_lists}
 use Rattle.sp_tree_circuits.specs.Parts.{ListCircuit}
 use Rattle.sp_tree_circuits.specs.Circuits.{slot_nets, Circuit, StageCircuits}
 use Rattle.sp_tree_circuits.specs.Answers.{SlicesStand}

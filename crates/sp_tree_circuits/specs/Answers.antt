@@ -17,15 +17,15 @@ use Rattle.sp_plan.specs.PlainPlan.{PlainPlan, node_plan}
 use Rattle.sp_machine.specs.Stamps.{Stamped}
 use Rattle.sp_machine.specs.Timeline.{slots_of}
 use Rattle.sp_machine.specs.Transfers.{Delays}
-use Rattle.sp_body_runs.specs.Runs.{IsOnAt}
-use Rattle.sp_control_runs.specs.Parts.{Ends}
-use Rattle.sp_node_control.specs.Laws.{IsStarted}
-use Rattle.sp_node_control.specs.Runs.{rans}
-use Rattle.sp_node_bodies.specs.Given.{Nets}
-use Rattle.sp_node_bodies.specs.Laws.{own_near}
-use Rattle.sp_node_bodies.specs.Spans.{SpanNets, one_net, two_nets, HaveSpans}
-use Rattle.sp_node_bodies.specs.Told.{AreAnsweredInTime}
-use Rattle.sp_tree_bodies.specs.Scoped.{Scoped, placed, scoped_sides, scoped_bodies, scoped_stages}
+use Rattle.sp_part_runs.specs.BodiesRuns.{IsOnAt}
+use Rattle.sp_part_runs.specs.ControlParts.{Ends}
+use Rattle.sp_node_runs.specs.ControlLaws.{IsStarted}
+use Rattle.sp_node_runs.specs.ControlRuns.{rans}
+use Rattle.sp_node_runs.specs.BodiesGiven.{Nets}
+use Rattle.sp_node_runs.specs.BodiesLaws.{own_near}
+use Rattle.sp_node_runs.specs.BodiesSpans.{SpanNets, one_net, two_nets, HaveSpans}
+use Rattle.sp_node_runs.specs.BodiesTold.{AreAnsweredInTime}
+use Rattle.sp_tree_runs.specs.BodiesScoped.{Scoped, placed, scoped_sides, scoped_bodies, scoped_stages}
 use Rattle.sp_tree_circuits.specs.Parts.{BoundCircuits, SpanCircuits, Issued}
 use Rattle.sp_tree_circuits.specs.Circuits.{slot_nets, Circuit, StageCircuits}
 

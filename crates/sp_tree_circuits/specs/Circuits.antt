@@ -21,17 +21,17 @@ use Rattle.sp_sequence.specs.declared.part.Slot.{Slot}
 use Rattle.sp_beats.specs.Beats.{RunsBeats}
 use Rattle.sp_beat_words.specs.declared.part.Row.{Row}
 use Rattle.sp_beat_words.specs.Words.{MoveOn}
-use Rattle.sp_group_words.specs.Laws.{AreAsLong}
-use Rattle.sp_sequence_runs.specs.Chains.{Numbered}
-use Rattle.sp_sequence_runs.specs.Places.{stage_at as stage_in, sizes, IsPlace, AreArranged}
-use Rattle.sp_sequence_runs.specs.Runs.{shape_of}
+use Rattle.sp_part_runs.specs.WordsLaws.{AreAsLong}
+use Rattle.sp_part_runs.specs.SequencesChains.{Numbered}
+use Rattle.sp_part_runs.specs.SequencesPlaces.{stage_at as stage_in, sizes, IsPlace, AreArranged}
+use Rattle.sp_part_runs.specs.SequencesRuns.{shape_of}
 use Rattle.sp_plan.specs.PlainPlan.{PlainPlan, node_plan}
 use Rattle.sp_plan.specs.Validity.{stage_count}
 use Rattle.sp_time.specs.Beats.{slot_at}
 use Rattle.sp_machine.specs.Timeline.{slots_of}
-use Rattle.sp_node_bodies.specs.Given.{Nets, with_nets, values_of}
-use Rattle.sp_node_bodies.specs.Laws.{own_near}
-use Rattle.sp_node_bodies.specs.Rows.{wires_of}
+use Rattle.sp_node_runs.specs.BodiesGiven.{Nets, with_nets, values_of}
+use Rattle.sp_node_runs.specs.BodiesLaws.{own_near}
+use Rattle.sp_node_runs.specs.BodiesRows.{wires_of}
 use Rattle.sp_tree_circuits.specs.Parts.{BoundCircuits, SliceCircuit, ListCircuit, InnerCircuit}
 
 -- the first and the last lane of a stage

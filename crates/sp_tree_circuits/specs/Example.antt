@@ -3,7 +3,7 @@ use Rattle.std.specs.Prelude.{◌≡◌, true, [], ◌∷◌, drop, length, None
 use Rattle.sp_beat_words.specs.declared.part.Row.{Row}
 use Rattle.sp_counters.specs.declared.part.Counted.{Counted}
 use Rattle.sp_core.specs.PlainCore.{PlainStages, inner, no_stage, more_stage}
-use Rattle.sp_node_bodies.specs.Rows.{wires_of}
+use Rattle.sp_node_runs.specs.BodiesRows.{wires_of}
 use Rattle.sp_tree_circuits.specs.Circuits.{first_lane, last_lane, masks_told}
 
 -- a stage of both lanes, and one of the second lane

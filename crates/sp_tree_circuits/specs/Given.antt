@@ -1,26 +1,26 @@
 -- The laws of the crates below by which a circuit of a tree is shown to go, together.
 use Rattle.sp_core.specs.PlainCore.{PlainNode, PlainCore}
-use Rattle.sp_beat_runs.specs.Laws.{LoopsAreInTimeline}
-use Rattle.sp_group_words.specs.Laws.{WordsGoAlong}
+use Rattle.sp_part_runs.specs.BeatsLaws.{LoopsAreInTimeline}
+use Rattle.sp_part_runs.specs.WordsLaws.{WordsGoAlong}
 use Rattle.sp_time.specs.Laws.{BeatsInOrder}
 use Rattle.sp_plan.specs.PlainPlan.{PlainPlan}
 use Rattle.sp_machine.specs.Laws.{TellsAll}
 use Rattle.sp_machine.specs.Transfers.{Delays}
-use Rattle.sp_node_runs.specs.Laws.{SidesComeInTurn, BodiesComeInTurn, StagesComeInTurn}
-use Rattle.sp_node_runs.specs.Told.{SidesAreTold, BodiesAreTold, StagesAreTold}
-use Rattle.sp_node_control.specs.Beating.{LoopsOfNodesWork}
-use Rattle.sp_node_control.specs.Laws.{BranchesOfNodesWork, MachinesOfNodesWork}
-use Rattle.sp_node_fits.specs.Laws.{PartsFit, StagesTakeTime}
-use Rattle.sp_node_bodies.specs.Bounds.{BoundsStand}
-use Rattle.sp_node_bodies.specs.Laws.{CountedInnersWork, SingleInnersWork}
-use Rattle.sp_node_bodies.specs.Lists.{ListsWork}
-use Rattle.sp_node_bodies.specs.Rows.{RowsStand}
-use Rattle.sp_node_bodies.specs.Spans.{SpansStand}
-use Rattle.sp_node_bodies.specs.Steps.{LoopsTell}
-use Rattle.sp_tree_bodies.specs.Lanes.{LoopsHaveGroups}
-use Rattle.sp_tree_bodies.specs.Scoped.{ScopedParts, DoneSo}
-use Rattle.sp_tree_bodies.specs.Scopes.{ScopesAreFound, InnersRunSo, TestsTell}
-use Rattle.sp_tree_bodies.specs.Turns.{TurnsTell}
+use Rattle.sp_node_runs.specs.RunsLaws.{SidesComeInTurn, BodiesComeInTurn, StagesComeInTurn}
+use Rattle.sp_node_runs.specs.RunsTold.{SidesAreTold, BodiesAreTold, StagesAreTold}
+use Rattle.sp_node_runs.specs.ControlBeating.{LoopsOfNodesWork}
+use Rattle.sp_node_runs.specs.ControlLaws.{BranchesOfNodesWork, MachinesOfNodesWork}
+use Rattle.sp_node_runs.specs.FitsLaws.{PartsFit, StagesTakeTime}
+use Rattle.sp_node_runs.specs.BodiesBounds.{BoundsStand}
+use Rattle.sp_node_runs.specs.BodiesLaws.{CountedInnersWork, SingleInnersWork}
+use Rattle.sp_node_runs.specs.BodiesLists.{ListsWork}
+use Rattle.sp_node_runs.specs.BodiesRows.{RowsStand}
+use Rattle.sp_node_runs.specs.BodiesSpans.{SpansStand}
+use Rattle.sp_node_runs.specs.BodiesSteps.{LoopsTell}
+use Rattle.sp_tree_runs.specs.BodiesLanes.{LoopsHaveGroups}
+use Rattle.sp_tree_runs.specs.BodiesScoped.{ScopedParts, DoneSo}
+use Rattle.sp_tree_runs.specs.BodiesScopes.{ScopesAreFound, InnersRunSo, TestsTell}
+use Rattle.sp_tree_runs.specs.BodiesTurns.{TurnsTell}
 
 pub record Laws (core : PlainCore) (plan : PlainPlan) (delays : Delays) : Type 0 where
   pub tells_all : (node : PlainNode) → TellsAll core plan delays node

@@ -15,14 +15,14 @@ use Rattle.sp_machine.specs.Stamps.{Stamped}
 use Rattle.sp_machine.specs.Transfers.{Delays}
 use Rattle.sp_overlap.specs.Whole.{IsTimed}
 use Rattle.sp_node_runs.specs.Runs.{AreWithin, over_at}
-use Rattle.sp_node_runs.specs.Told.{all_events}
-use Rattle.sp_node_control.specs.Laws.{IsStarted}
-use Rattle.sp_node_control.specs.Runs.{rans}
-use Rattle.sp_node_fits.specs.Laws.{AllFit}
-use Rattle.sp_node_bodies.specs.Given.{Nets, AreStanding}
-use Rattle.sp_tree_bodies.specs.Built.{Built}
-use Rattle.sp_tree_bodies.specs.Done.{AllDone}
-use Rattle.sp_tree_bodies.specs.Scoped.{Scoped, placed, AllAreDone}
+use Rattle.sp_node_runs.specs.RunsTold.{all_events}
+use Rattle.sp_node_runs.specs.ControlLaws.{IsStarted}
+use Rattle.sp_node_runs.specs.ControlRuns.{rans}
+use Rattle.sp_node_runs.specs.FitsLaws.{AllFit}
+use Rattle.sp_node_runs.specs.BodiesGiven.{Nets, AreStanding}
+use Rattle.sp_tree_runs.specs.BodiesBuilt.{Built}
+use Rattle.sp_tree_runs.specs.BodiesDone.{AllDone}
+use Rattle.sp_tree_runs.specs.BodiesScoped.{Scoped, placed, AllAreDone}
 use Rattle.sp_tree_circuits.specs.Circuits.{Circuit}
 use Rattle.sp_tree_circuits.specs.Answers.{Answered, TransfersMove}
 use Rattle.sp_tree_circuits.specs.Acts.{AreEventsOf, Acts}

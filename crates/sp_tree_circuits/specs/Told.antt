@@ -10,21 +10,21 @@ use Rattle.sp_core.specs.PlainCore.{PlainCounter, PlainStages, outer, PlainCore}
 use Rattle.sp_sequence.specs.declared.part.Chain.{Chain}
 use Rattle.sp_sequence.specs.declared.part.Member.{Member}
 use Rattle.sp_sequence.specs.declared.part.Slot.{Slot}
-use Rattle.sp_sequence_runs.specs.Chains.{Numbered, SaysWanted, turn}
-use Rattle.sp_sequence_runs.specs.Runs.{shape_of}
-use Rattle.sp_beat_runs.specs.Laws.{TellsMore}
-use Rattle.sp_beat_runs.specs.Runs.{slot_cycle, slot_found, groups_in}
+use Rattle.sp_part_runs.specs.SequencesChains.{Numbered, SaysWanted, turn}
+use Rattle.sp_part_runs.specs.SequencesRuns.{shape_of}
+use Rattle.sp_part_runs.specs.BeatsLaws.{TellsMore}
+use Rattle.sp_part_runs.specs.BeatsRuns.{slot_cycle, slot_found, groups_in}
 use Rattle.sp_plan.specs.PlainPlan.{PlainPlan}
 use Rattle.sp_machine.specs.Stamps.{Stamped}
 use Rattle.sp_machine.specs.Transfers.{Delays}
 use Rattle.sp_overlap.specs.Whole.{IsTimed}
-use Rattle.sp_node_runs.specs.Told.{all_events}
-use Rattle.sp_node_control.specs.Beating.{beats_ran, LoopGoes}
-use Rattle.sp_node_control.specs.Laws.{IsStarted}
-use Rattle.sp_node_control.specs.Runs.{rans}
-use Rattle.sp_node_bodies.specs.Given.{Nets}
-use Rattle.sp_node_bodies.specs.Told.{AreAnsweredInTime}
-use Rattle.sp_tree_bodies.specs.Scoped.{Scoped, placed}
+use Rattle.sp_node_runs.specs.RunsTold.{all_events}
+use Rattle.sp_node_runs.specs.ControlBeating.{beats_ran, LoopGoes}
+use Rattle.sp_node_runs.specs.ControlLaws.{IsStarted}
+use Rattle.sp_node_runs.specs.ControlRuns.{rans}
+use Rattle.sp_node_runs.specs.BodiesGiven.{Nets}
+use Rattle.sp_node_runs.specs.BodiesTold.{AreAnsweredInTime}
+use Rattle.sp_tree_runs.specs.BodiesScoped.{Scoped, placed}
 use Rattle.sp_tree_circuits.specs.Acts.{AreEventsOf}
 use Rattle.sp_tree_circuits.specs.Answers.{EachBound}
 use Rattle.sp_tree_circuits.specs.Circuits.{Circuit}

@@ -11,7 +11,7 @@ use Rattle.sp_core.specs.PlainCore.{PlainOp, PlainNode, inner}
 use Rattle.sp_machine.specs.Examples.{chosen, chosen_plan}
 use Rattle.sp_pipe.specs.declared.part.Act.TheVariants.{Word, Write}
 use Rattle.sp_pipe.specs.declared.part.PipeOp.{PipeOp}
-use Rattle.sp_node_bodies.specs.Given.{Nets}
+use Rattle.sp_node_runs.specs.BodiesGiven.{Nets}
 use Rattle.sp_tree_circuits.specs.Circuits.{Circuit}
 
 abbrev pub ops : List PlainOp

@@ -7,21 +7,16 @@ ghost use Rattle.sp_tree_circuits.specs.Given.{Laws};
 ghost use Rattle.sp_tree_circuits.specs.Laws.{CirclesClose, CircuitsAreBuilt, CircuitsGo, CoresGo};
 ghost use Rattle.sp_tree_circuits.specs.Told.{LoopsAreTold};
 
-use sp_beat_runs::loops_are_in_timeline;
-use sp_group_words::words_go_along;
 use sp_machine::timelines_tell_all;
-use sp_node_bodies::{
-    bounds_stand, counted_inners_work, lists_work, loops_tell, rows_stand, single_inners_work,
-    spans_stand,
-};
-use sp_node_control::{branches_of_nodes_work, loops_of_nodes_work, machines_of_nodes_work};
-use sp_node_fits::{parts_fit, stages_take_time};
 use sp_node_runs::{
-    bodies_are_told, bodies_come_in_turn, sides_are_told, sides_come_in_turn, stages_are_told,
-    stages_come_in_turn,
+    bodies_are_told, bodies_come_in_turn, bounds_stand, branches_of_nodes_work,
+    counted_inners_work, lists_work, loops_of_nodes_work, loops_tell, machines_of_nodes_work,
+    parts_fit, rows_stand, sides_are_told, sides_come_in_turn, single_inners_work, spans_stand,
+    stages_are_told, stages_come_in_turn, stages_take_time,
 };
+use sp_part_runs::{loops_are_in_timeline, words_go_along};
 use sp_time::beats_in_order;
-use sp_tree_bodies::{inners_run_so, loops_have_groups, parts_are_done, tests_tell, turns_tell};
+use sp_tree_runs::{inners_run_so, loops_have_groups, parts_are_done, tests_tell, turns_tell};
 
 /// The laws of the crates below, together.
 fn laws_below()
@@ -73,7 +68,7 @@ pub fn circuits_go_as_told()
     laws_below();
 }
 
-/// Such a circuit is built as the laws of trees ask for it (`bodies_go_as_told` of `sp_tree_bodies`), up to a cycle, where it is started
+/// Such a circuit is built as the laws of trees ask for it (`bodies_go_as_told` of `sp_tree_runs`), up to a cycle, where it is started
 /// in time up to the cycle before.
 pub fn circuits_are_built()
     ensures { (core : PlainCore) (plan : PlainPlan) (delays : Delays) → CircuitsAreBuilt core plan delays }

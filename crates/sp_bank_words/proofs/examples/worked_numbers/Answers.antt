@@ -1,6 +1,6 @@
 -- Each is computed.
 use Rattle.std.proofs.Common.{refl}
-use Rattle.sp_used_ports.specs.Examples.{two_readers}
+use Rattle.sp_core_ports.specs.UsedExamples.{two_readers}
 use Rattle.sp_bank_words.proofs.examples.worked_numbers.Goals as goal
 
 pub returns-clause-accesses : goal.returns-clause-accesses

@@ -8,7 +8,7 @@ use Rattle.sp_core.specs.Operations.{operations_after}
 use Rattle.sp_core.specs.Sequential.{run, run_stages}
 use Rattle.sp_core.specs.Step.{pure, ◌>>=◌, stop, out_of_turns, look, change, in_order, repeated}
 use Rattle.sp_machine.specs.Timeline.{timed, group_runs, stage_runs, turn_runs}
-use Rattle.sp_used_ports.specs.Examples.{two_readers}
+use Rattle.sp_core_ports.specs.UsedExamples.{two_readers}
 use Rattle.sp_bank_words.proofs.examples.worked_run.Goals as goal
 
 pub returns-clause-writes : goal.returns-clause-writes

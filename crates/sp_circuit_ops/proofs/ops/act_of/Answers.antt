@@ -1,6 +1,6 @@
 use Rattle.std.proofs.Common.{sym, subst}
 use Rattle.sp_pipe.specs.declared.part.Act.TheVariants as act
-use Rattle.sp_body_acts.specs.Circuits.{IsActOf, of_word, of_count, of_live, of_read, of_write, of_enq, of_deq, of_reset, of_one, of_two, of_shift, of_mux, of_cast}
+use Rattle.sp_part_runs.specs.ActsCircuits.{IsActOf, of_word, of_count, of_live, of_read, of_write, of_enq, of_deq, of_reset, of_one, of_two, of_shift, of_mux, of_cast}
 use Rattle.sp_circuit_ops.proofs.ops.act_of.Goals as goal
 
 pub returns-in-Word-clause-of : goal.returns-in-Word-clause-of

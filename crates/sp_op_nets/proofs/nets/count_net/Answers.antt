@@ -2,7 +2,7 @@ use Rattle.std.proofs.Common.{◌*◌, ◌%◌, ◌^◌, sym, ap, subst, ◌∙�
 use Rattle.sp_words.specs.Types.{int_type}
 use Rattle.sp_words.specs.Words.{word_add}
 use Rattle.sp_gates.specs.Nets.{HasNet}
-use Rattle.sp_node_bodies.specs.Given.{CounterNets}
+use Rattle.sp_node_runs.specs.BodiesGiven.{CounterNets}
 use Rattle.sp_op_nets.proofs.Making.{found_at}
 use Rattle.sp_op_nets.proofs.nets.count_net.Goals as goal
 

@@ -4,7 +4,7 @@ use Rattle.sp_gates.specs.Tested.{is_on}
 use Rattle.sp_gates.proofs.Growing.{Fills-join}
 use Rattle.sp_gates.proofs.Running.{runs_earlier}
 use Rattle.sp_core.specs.Scope.{is_some_up_to}
-use Rattle.sp_node_bodies.specs.Given.{CounterNets}
+use Rattle.sp_node_runs.specs.BodiesGiven.{CounterNets}
 use Rattle.sp_op_nets.proofs.Making.{found_at, bit_on}
 use Rattle.sp_op_nets.proofs.nets.live_net.Goals as goal
 

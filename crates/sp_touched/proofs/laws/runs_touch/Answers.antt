@@ -7,7 +7,7 @@ use Rattle.sp_core.specs.PlainCore.{PlainCore}
 use Rattle.sp_core.specs.Scope.{in_lanes, no_scope}
 use Rattle.sp_core.specs.Store.{Store}
 use Rattle.sp_fitting.specs.Fitting.{StoreFits, EachStore}
-use Rattle.sp_forms_hold.proofs.Lists.{Known}
+use Rattle.sp_forms_hold.proofs.HoldLists.{Known}
 use Rattle.sp_meets.specs.Around.{changed_in, once}
 use Rattle.sp_patterns.specs.Ranges.{nothing_around}
 use Rattle.sp_touched.proofs.Lists.{IsAround}

@@ -1,5 +1,0 @@
-pub mod Beating
-pub mod Counting
-pub mod Holding
-pub mod Timed
-pub mod Whole

@@ -1,3 +1,0 @@
-pub mod Circuits
-pub mod Entries
-pub mod Laws

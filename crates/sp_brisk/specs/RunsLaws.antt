@@ -1,0 +1,38 @@
+-- Laws of plans and of the limit, as statements.
+use Rattle.std.specs.Prelude.{◌≡◌, ℕ, ◌+◌, ◌≤◌, List}
+use Rattle.sp_core.specs.declared.access.Meet.{Meet}
+use Rattle.sp_core.specs.Cost.{core_cost}
+use Rattle.sp_core.specs.Events.{At}
+use Rattle.sp_core.specs.Forms.{PlainForms}
+use Rattle.sp_core.specs.History.{History}
+use Rattle.sp_core.specs.Invariant.{IsCore}
+use Rattle.sp_core.specs.Latency.{limit}
+use Rattle.sp_core.specs.PlainCore.{PlainCore}
+use Rattle.sp_core.specs.Scope.{in_lanes, Scope}
+use Rattle.sp_core.specs.Sequential.{run}
+use Rattle.sp_core.specs.Shape.{shape_of}
+use Rattle.sp_core.specs.Step.{went}
+use Rattle.sp_core.specs.Store.{Store}
+use Rattle.sp_plan.specs.PlainPlan.{PlainPlan}
+use Rattle.sp_plan.specs.Validity.{IsValid}
+use Rattle.sp_machine.specs.Timeline.{core_timed}
+use Rattle.sp_machine.specs.Told.{plan_timings}
+use Rattle.sp_machine.specs.Transfers.{Delays}
+use Rattle.sp_overlap.specs.Whole.{IsTimed}
+use Rattle.sp_within.specs.Rounds.{rounds}
+use Rattle.sp_brisk.specs.RunsBrisk.{IsBriskPlan}
+
+-- by a valid plan that is brisk, what is done in a run costs no more than the limit, for as many turns as it goes around
+abbrev pub BriskPlansCostWithin : PlainCore → PlainPlan → (delay : ℕ) → Type 0
+BriskPlansCostWithin core plan d =
+    (forms : PlainForms) (meets : List Meet) → IsCore core → IsValid core forms meets plan → IsBriskPlan core plan
+    → (h : History) (n : ℕ) → rounds core.root (shape_of core.root h) ≤ n → core_cost core (plan_timings plan) d (shape_of core.root h) ≤ limit n d core
+
+-- and a run of the core, without `Stream` blocks and sparse transfers, ends within that limit, where no transfer waits longer
+-- than a delay
+abbrev pub BriskRunsEndWithin : PlainCore → PlainPlan → Delays → (delay : ℕ) → Type 0
+BriskRunsEndWithin core plan delays d =
+    ((k : ℕ) (path : List At) (ask : ℕ) → delays k path ask ≤ d)
+    → (forms : PlainForms) (meets : List Meet) → IsCore core → IsTimed core.root → IsValid core forms meets plan → IsBriskPlan core plan
+    → (turns : ℕ) (scope : Scope) (s t : Store) (h : History) → run core in_lanes turns core.root scope s ≡ went h t
+    → (n : ℕ) → rounds core.root (shape_of core.root h) ≤ n → (core_timed core plan delays h).took + 2 ≤ limit n d core

@@ -1,4 +1,0 @@
-pub mod Free
-pub mod Placed
-pub mod Own
-pub mod Tree

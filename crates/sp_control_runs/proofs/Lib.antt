@@ -1,3 +1,0 @@
-mod Branching
-mod Steps
-mod Turning

@@ -1,4 +1,0 @@
-pub mod Branches
-pub mod Laws
-pub mod Machines
-pub mod Parts

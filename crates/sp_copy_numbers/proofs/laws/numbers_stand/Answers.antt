@@ -1,5 +1,0 @@
-use Rattle.sp_copy_numbers.proofs.Going.{numbers_stand}
-use Rattle.sp_copy_numbers.proofs.laws.numbers_stand.Goals as goal
-
-pub returns : goal.returns
-returns c core plan delays = numbers_stand core plan delays c.beats_in_order.ensures c.loops_are_in_timeline.ensures c.numbers_go_round.ensures

@@ -1,5 +1,0 @@
-use Rattle.sp_core_ports.proofs.Whole.{cores_use_no_port_twice}
-use Rattle.sp_core_ports.proofs.laws.cores_use_no_port_twice.Goals as goal
-
-pub returns : goal.returns
-returns c = cores_use_no_port_twice

@@ -1,5 +1,0 @@
-use Rattle.sp_core_ports.proofs.Whole.{reads_have_duplicates}
-use Rattle.sp_core_ports.proofs.laws.reads_have_duplicates.Goals as goal
-
-pub returns : goal.returns
-returns c = reads_have_duplicates

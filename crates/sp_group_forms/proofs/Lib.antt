@@ -1,2 +1,0 @@
-pub mod Inners
-pub mod Symbols

@@ -1,2 +1,0 @@
-pub mod AtForms
-pub mod Laws

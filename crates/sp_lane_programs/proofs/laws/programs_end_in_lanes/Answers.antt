@@ -1,5 +1,0 @@
-use Rattle.sp_lane_programs.proofs.Whole.{program_ends}
-use Rattle.sp_lane_programs.proofs.laws.programs_end_in_lanes.Goals as goal
-
-pub returns : goal.returns
-returns c p h = program_ends p (c.programs_end.ensures p h) (c.programs_go.ensures p h) h

@@ -1,6 +1,0 @@
-pub mod Apart
-pub mod GroupOrder
-pub mod PathOrder
-pub mod Stand
-pub mod Together
-pub mod Traces

@@ -1,5 +1,0 @@
-use Rattle.sp_node_bodies.proofs.Bounds.{bounds_stand}
-use Rattle.sp_node_bodies.proofs.laws.bounds_stand.Goals as goal
-
-pub returns : goal.returns
-returns c = bounds_stand c.lanes_have_words.ensures c.words_agree.ensures

@@ -1,5 +1,0 @@
-use Rattle.sp_node_bodies.proofs.Lists.{lists_work}
-use Rattle.sp_node_bodies.proofs.laws.lists_work.Goals as goal
-
-pub returns : goal.returns
-returns c core = lists_work core c.lanes_have_words.ensures c.singles_work.ensures c.words_agree.ensures

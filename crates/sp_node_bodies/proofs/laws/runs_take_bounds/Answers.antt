@@ -1,5 +1,0 @@
-use Rattle.sp_node_bodies.proofs.Bounds.{runs_take_bounds}
-use Rattle.sp_node_bodies.proofs.laws.runs_take_bounds.Goals as goal
-
-pub returns : goal.returns
-returns c core = runs_take_bounds core (c.lists_fit.ensures core)

@@ -1,6 +1,0 @@
-pub mod BeatRuns
-pub mod Beating
-pub mod Branching
-pub mod Children
-pub mod Numbering
-pub mod Turning

@@ -1,5 +1,0 @@
-use Rattle.sp_node_control.proofs.Turning.{machines_of_nodes_work}
-use Rattle.sp_node_control.proofs.laws.machines_of_nodes_work.Goals as goal
-
-pub returns : goal.returns
-returns c core plan delays = machines_of_nodes_work core plan delays c.machines_work.ensures

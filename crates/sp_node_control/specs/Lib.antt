@@ -1,3 +1,0 @@
-pub mod Beating
-pub mod Laws
-pub mod Runs

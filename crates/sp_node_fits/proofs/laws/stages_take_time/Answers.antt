@@ -1,5 +1,0 @@
-use Rattle.sp_node_fits.proofs.Takes.{stages_take_time}
-use Rattle.sp_node_fits.proofs.laws.stages_take_time.Goals as goal
-
-pub returns : goal.returns
-returns c core plan delays = stages_take_time core plan delays

@@ -1,5 +1,0 @@
-use Rattle.sp_node_runs.proofs.SidesTold.{bodies_are_told}
-use Rattle.sp_node_runs.proofs.laws.bodies_are_told.Goals as goal
-
-pub returns : goal.returns
-returns c core plan delays = bodies_are_told core plan delays

@@ -1,5 +1,0 @@
-use Rattle.sp_node_runs.proofs.Sides.{bodies_come_in_turn}
-use Rattle.sp_node_runs.proofs.laws.bodies_come_in_turn.Goals as goal
-
-pub returns : goal.returns
-returns c core plan delays = bodies_come_in_turn core plan delays

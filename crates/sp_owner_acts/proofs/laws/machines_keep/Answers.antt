@@ -1,5 +1,0 @@
-use Rattle.sp_owner_acts.proofs.Machines.{machines_keep}
-use Rattle.sp_owner_acts.proofs.laws.machines_keep.Goals as goal
-
-pub returns : goal.returns
-returns c core plan delays = machines_keep core plan delays (c.timelines_tell_all.ensures core plan delays) (c.runs_own.ensures core) (c.bodies_are_told.ensures core plan delays)

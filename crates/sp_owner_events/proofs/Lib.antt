@@ -1,4 +1,0 @@
-pub mod Owners
-pub mod Weighing
-pub mod Parting
-pub mod Working

@@ -1,5 +1,0 @@
-use Rattle.sp_part_events.proofs.Stepping.{sides_agree}
-use Rattle.sp_part_events.proofs.laws.sides_agree.Goals as goal
-
-pub returns : goal.returns
-returns c core plan delays = sides_agree core plan delays (c.timelines_tell_all.ensures core plan delays) (c.numbers_are_within.ensures core) (c.sides_are_told.ensures core plan delays)

@@ -1,5 +1,0 @@
-use Rattle.sp_program_plans.proofs.Sound.{ends_within}
-use Rattle.sp_program_plans.proofs.laws.programs_end_within.Goals as goal
-
-pub returns : goal.returns
-returns c p plan delays delay h = ends_within p plan delays delay (c.programs_stay_cores.ensures p h) (c.brisk_runs_end_within.ensures _ plan delays delay)

@@ -1,5 +1,0 @@
-use Rattle.sp_program_plans.proofs.Sound.{has_plan}
-use Rattle.sp_program_plans.proofs.laws.programs_have_plans.Goals as goal
-
-pub returns : goal.returns
-returns c p h = has_plan p (c.programs_stay_cores.ensures p h) (c.programs_are_by_lane.ensures p h)

@@ -1,6 +1,0 @@
-pub mod Cycles
-pub mod Joining
-pub mod Members
-pub mod Placing
-pub mod Slots
-pub mod Timed

@@ -1,5 +1,0 @@
-pub mod Chains
-pub mod Example
-pub mod Laws
-pub mod Places
-pub mod Runs

@@ -1,3 +1,0 @@
-mod Kept
-mod Leaving
-mod Runs

@@ -1,6 +1,0 @@
-use Rattle.sp_sugar.specs.Core.{core_of}
-use Rattle.sp_timed_programs.proofs.Programs.{program_timed}
-use Rattle.sp_timed_programs.proofs.laws.programs_are_timed.Goals as goal
-
-pub returns : goal.returns
-returns c p h timed = c.nodes_are_timed.ensures (core_of p) (program_timed p h timed)

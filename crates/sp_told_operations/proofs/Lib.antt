@@ -1,4 +1,0 @@
-pub mod Ranges
-pub mod Having
-pub mod Moving
-pub mod Working

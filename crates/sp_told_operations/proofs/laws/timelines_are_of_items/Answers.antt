@@ -1,5 +1,0 @@
-use Rattle.sp_told_operations.proofs.Having.{timelines_are_of_items}
-use Rattle.sp_told_operations.proofs.laws.timelines_are_of_items.Goals as goal
-
-pub returns : goal.returns
-returns c core plan delays = timelines_are_of_items core plan delays (c.timelines_tell_all.ensures core plan delays core.root)

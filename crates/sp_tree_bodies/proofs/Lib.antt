@@ -1,6 +1,0 @@
-mod Building
-mod Finding
-mod Lanes
-mod Scoping
-mod Taking
-mod Turning

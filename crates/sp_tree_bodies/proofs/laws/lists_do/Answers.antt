@@ -1,5 +1,0 @@
-use Rattle.sp_tree_bodies.proofs.Building.{lists_do}
-use Rattle.sp_tree_bodies.proofs.laws.lists_do.Goals as goal
-
-pub returns : goal.returns
-returns c core plan delays = lists_do core plan delays (c.lists_work.ensures core)

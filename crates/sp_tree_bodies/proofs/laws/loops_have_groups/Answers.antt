@@ -1,5 +1,0 @@
-use Rattle.sp_tree_bodies.proofs.Lanes.{loops_have_groups}
-use Rattle.sp_tree_bodies.proofs.laws.loops_have_groups.Goals as goal
-
-pub returns : goal.returns
-returns c core plan delays = loops_have_groups core plan delays

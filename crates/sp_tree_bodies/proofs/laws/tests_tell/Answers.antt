@@ -1,5 +1,0 @@
-use Rattle.sp_tree_bodies.proofs.Finding.{tests_tell}
-use Rattle.sp_tree_bodies.proofs.laws.tests_tell.Goals as goal
-
-pub returns : goal.returns
-returns c core plan delays = tests_tell core plan delays (c.lists_work.ensures core)

@@ -1,4 +1,0 @@
-mod Places
-pub mod Starting
-pub mod Trees
-mod Working

@@ -1,4 +1,0 @@
-pub mod Example
-pub mod Laws
-pub mod Starting
-pub mod Trees

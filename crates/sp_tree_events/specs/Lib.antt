@@ -1,0 +1,14 @@
+pub mod ToldItems
+pub mod ToldLaws
+pub mod ToldExample
+pub mod PartsAgreeing
+pub mod PartsLists
+pub mod PartsExample
+pub mod OwnersOwning
+pub mod OwnersExample
+pub mod CopiesStanding
+pub mod CopiesLaws
+pub mod CopiesExample
+pub mod ActsRenewing
+pub mod ActsKeeping
+pub mod ActsExample

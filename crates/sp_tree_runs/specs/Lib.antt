@@ -1,0 +1,10 @@
+pub mod ControlExample
+pub mod ControlLaws
+pub mod ControlStarting
+pub mod ControlTrees
+pub mod BodiesBuilt
+pub mod BodiesDone
+pub mod BodiesLanes
+pub mod BodiesScoped
+pub mod BodiesScopes
+pub mod BodiesTurns

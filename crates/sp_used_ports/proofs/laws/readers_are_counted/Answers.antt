@@ -1,5 +1,0 @@
-use Rattle.sp_used_ports.proofs.Counted.{readers_are_counted}
-use Rattle.sp_used_ports.proofs.laws.readers_are_counted.Goals as goal
-
-pub returns : goal.returns
-returns c = readers_are_counted
