@@ -1,0 +1,3 @@
+mod Entries
+mod Joining
+pub mod Standing

@@ -1,0 +1,5 @@
+pub mod Bounds
+pub mod Direct
+pub mod Example
+pub mod Laws
+pub mod Spans

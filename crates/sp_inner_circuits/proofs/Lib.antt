@@ -1,0 +1,4 @@
+mod Grouping
+mod Issuing
+mod Kept
+mod Single

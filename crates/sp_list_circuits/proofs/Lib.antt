@@ -1,0 +1,5 @@
+mod Issuing
+pub mod Placing
+pub mod Rules
+mod Summing
+mod Turning
