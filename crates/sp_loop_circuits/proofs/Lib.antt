@@ -1,0 +1,4 @@
+mod Apart
+mod Loops
+mod Parts
+mod Rows

@@ -1,0 +1,4 @@
+pub mod Counted
+pub mod Leaving
+pub mod Promising
+pub mod Standing

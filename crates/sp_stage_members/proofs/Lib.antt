@@ -1,0 +1,7 @@
+mod Circuits
+mod Lanes
+pub mod Making
+mod Once
+mod Paired
+mod Planned
+pub mod Standing

@@ -1,0 +1,5 @@
+pub mod Circuits
+pub mod Example
+pub mod Laws
+pub mod Members
+pub mod Placed
