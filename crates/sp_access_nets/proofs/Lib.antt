@@ -1,0 +1,4 @@
+mod Adding
+mod Picked
+mod Telling
+mod Working

@@ -1,0 +1,4 @@
+pub mod Accesses
+pub mod Example
+pub mod Laws
+pub mod Picking

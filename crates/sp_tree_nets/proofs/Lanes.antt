@@ -1,0 +1,94 @@
+-- Stages as they are emitted, one behind the other.
+use Rattle.std.proofs.Common.{◌≡◌, ℕ, zero, suc, ◌+◌, ◌<◌, Bool, List, [], ◌∷◌, ◌++◌, length, refl, sym, subst, arith}
+use Rattle.sp_netlist.specs.declared.parts.Child.{Child}
+use Rattle.sp_netlist.specs.Draft.{Draft}
+use Rattle.sp_netlist.specs.Signals.{Signals}
+use Rattle.sp_gates.specs.Nets.{HasNet, Awaits}
+use Rattle.sp_gates.proofs.Growing.{HasNet-stays}
+use Rattle.sp_gates.proofs.Running.{runs_earlier}
+use Rattle.sp_core.specs.Around.{Near}
+use Rattle.sp_core.specs.Invariant.{owned_in}
+use Rattle.sp_core.specs.Numbering.{node_count, number_count}
+use Rattle.sp_core.specs.PlainCore.{PlainCounter, PlainNode, PlainStages, no_stage, more_stage, PlainCore}
+use Rattle.sp_plan.specs.PlainPlan.{PlainPlan}
+use Rattle.sp_node_runs.specs.BodiesGiven.{Nets}
+use Rattle.sp_node_runs.specs.BodiesLaws.{own_near}
+use Rattle.sp_op_nets.specs.declared.acted.ActedList.{ActedList}
+use Rattle.sp_op_nets.specs.declared.table.AroundNets.{AroundNets}
+use Rattle.sp_op_nets.specs.Acted.{answers_in}
+use Rattle.sp_op_nets.specs.Table.{nets_at}
+use Rattle.sp_op_nets.proofs.Driving.{stay}
+use Rattle.sp_op_nets.proofs.Reserving.{reserved_join, same_reserved}
+use Rattle.sp_tree_circuits.specs.Circuits.{first_lane, last_lane, slot_nets}
+use Rattle.sp_loop_nets.specs.declared.opening.OpenLoop.{OpenLoop}
+use Rattle.sp_stage_members.specs.declared.part.StagePart.{StagePart}
+use Rattle.sp_stage_members.specs.Members.{part_at, starts_in}
+use Rattle.sp_tree_nets.specs.Emitted.{TreeIn}
+use Rattle.sp_tree_nets.specs.Stages.{IsStage, AreTrees, AreStages, AreDivided, no_more, to_one}
+use Rattle.sp_tree_nets.proofs.Dividing.{others_behind}
+use Rattle.sp_tree_nets.proofs.Later.{stand_later}
+use Rattle.sp_tree_nets.proofs.Sides.{answers_append}
+
+-- no stage
+pub no_stages : (d : Draft) (core : PlainCore) (plan : PlainPlan) (table : List AroundNets) (begun : OpenLoop) (counters : List PlainCounter) (k n : ℕ) → AreStages d d core plan table begun counters no_stage [] k n [] []
+no_stages d core plan table begun counters k n = record {
+  nets = [];
+  reserves = same_reserved d;
+  divided = no_more;
+  each = refl;
+  firsts = λ i. refl;
+  lasts = λ i. refl;
+  awaits = λ i lt. absurd (omega (arith, lt));
+  dones = λ i lt. absurd (omega (arith, lt));
+  trees = λ around earlier owned right stand s run i nets child nets_are child_are. record { circuits = tt; handed = refl };
+}
+
+module _ (core : PlainCore) (plan : PlainPlan) (s : Signals) (near : List Near) (node : PlainNode) (k n : ℕ) (acted : List ActedList) where
+  pub tree_by : (env other : Nets) (c d : Child) → env ≡ other → c ≡ d → TreeIn core plan s near env node k n c acted → TreeIn core plan s near other node k n d acted
+  tree_by env other c d e f t = subst (λ x. TreeIn core plan s near other node k n x acted) f (subst (λ x. TreeIn core plan s near x node k n c acted) e t)
+
+-- one stage before the others
+module _ (a b c : Draft) (core : PlainCore) (plan : PlainPlan) (table : List AroundNets) (begun : OpenLoop) (counters : List PlainCounter) (first last : ℕ) (comb : Bool) (node : PlainNode) (rest : PlainStages) (slot : ℕ) (slots : List ℕ) (k n : ℕ) (part : StagePart)
+    (parts : List StagePart) (xs ys : List ActedList) (one : IsStage a b core plan table begun counters first last node slot k n part xs)
+    (more : AreStages b c core plan table begun counters rest slots (k + node_count node) (n + number_count node) parts ys) where
+  both_trees : AreTrees a c core plan table begun counters (more_stage first last comb node rest) (slot ∷ slots) k n (part ∷ parts) (xs ++ ys)
+  both_trees around earlier owned right stand s run i nets child nets_are child_are =
+      let here = one.tree around earlier owned right.0 stand s (runs_earlier b c s more.reserves.grows run) in
+      let env = sym (nets_are 0 i (omega arith) (omega arith)) in
+      let whole = sym (child_are 0 i (omega arith) (omega arith)) in
+      let own = tree_by core plan s (own_near counters around.counters) node k n xs (slot_nets begun.nets begun.rows.rows.items (nets_at table) counters slot) (nets i) part.child (child i) env whole here in
+      let others = more.trees around (earlier ++ owned_in node) owned right.1 (stand_later a b table around.counters one.reserves.grows stand) s run (suc i) nets child
+      (λ m at e lt. nets_are (suc m) at (omega (arith, e)) (omega (arith, lt))) (λ m at e lt. child_are (suc m) at (omega (arith, e)) (omega (arith, lt))) in
+      record {
+        circuits = (own.circuit, others.circuits);
+        handed = record { one = xs; rest = ys; all = refl; first = own.handed; others = others.handed };
+      }
+
+  pub both_stages : AreStages a c core plan table begun counters (more_stage first last comb node rest) (slot ∷ slots) k n (part ∷ parts) (xs ++ ys)
+  both_stages = record {
+    nets = part.child.start ∷ (answers_in xs ++ more.nets);
+    reserves = reserved_join a b c (part.child.start ∷ answers_in xs) more.nets one.reserves more.reserves;
+    divided = subst (λ ns. AreDivided (part.child.start ∷ (answers_in xs ++ more.nets)) (part.child.start ∷ starts_in parts) ns) (sym (answers_append xs ys)) (to_one (others_behind (answers_in xs) more.nets (starts_in parts) (answers_in ys) more.divided));
+    each = (let e = more.each in omega (arith, e));
+    firsts = first_is;
+    lasts = last_is;
+    awaits = start_is;
+    dones = done_is;
+    trees = both_trees;
+  }
+    where
+      first_is : (i : ℕ) → first_lane (more_stage first last comb node rest) i ≡ (part_at (part ∷ parts) i).first
+      first_is zero = one.first_is
+      first_is (suc i) = more.firsts i
+
+      last_is : (i : ℕ) → last_lane (more_stage first last comb node rest) i ≡ (part_at (part ∷ parts) i).last
+      last_is zero = one.last_is
+      last_is (suc i) = more.lasts i
+
+      start_is : (i : ℕ) → i < length (part ∷ parts) → Awaits c (part_at (part ∷ parts) i).child.start 1
+      start_is zero lt = stay b c part.child.start 1 more.nets one.start more.reserves
+      start_is (suc i) lt = more.awaits i (omega (arith, lt))
+
+      done_is : (i : ℕ) → i < length (part ∷ parts) → HasNet c (part_at (part ∷ parts) i).child.done 1
+      done_is zero lt = HasNet-stays b c part.child.done 1 more.reserves.grows one.done
+      done_is (suc i) lt = more.dones i (omega (arith, lt))

@@ -1,0 +1,11 @@
+mod Arms
+mod Closed
+mod Dividing
+mod Going
+mod Lanes
+mod Later
+mod Opened
+mod Planned
+mod Rounds
+mod Sides
+mod Starts

@@ -1,0 +1,4 @@
+pub mod Emitted
+pub mod Handed
+pub mod Loops
+pub mod Stages

@@ -1,0 +1,11 @@
+//! The circuit of a tree of nodes of a core, put together node by node.
+#![tactic(auto)]
+
+mod branches;
+mod loops;
+mod machines;
+mod nodes;
+mod tree;
+
+pub use nodes::emit_node;
+pub use tree::TreeNets;

@@ -1,0 +1,23 @@
+//! What an emitted tree gives.
+ghost use Rattle.std.specs.Prelude.{◌≡◌, ◌++◌, OnOk};
+
+use sp_netlist::{Child, NoMemory};
+use sp_op_nets::ActedList;
+
+/// The start and the end of a tree of nodes, and the operations of its lists, in the order of their numbers, for the memories that
+/// they name.
+#[derive(Debug, Drop)]
+pub struct TreeNets {
+    pub child: Child,
+    pub acted: Vec<ActedList>,
+}
+
+/// Further lists, behind those before.
+pub(crate) fn append(all: &mut Vec<ActedList>, more: Vec<ActedList>) -> Result<(), NoMemory>
+    ensures { OnOk result (all.new.items ≡ all.old.items ++ more.items) }
+{
+    for list in more {
+        all.push(list)?;
+    }
+    Ok(())
+}
