@@ -8,4 +8,5 @@ mod Opened
 mod Planned
 mod Rounds
 mod Sides
+mod Small
 mod Starts

@@ -2,3 +2,4 @@ pub mod Emitted
 pub mod Handed
 pub mod Loops
 pub mod Stages
+pub mod Whole

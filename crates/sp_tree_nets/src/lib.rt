@@ -6,6 +6,8 @@ mod loops;
 mod machines;
 mod nodes;
 mod tree;
+mod whole;
 
 pub use nodes::emit_node;
 pub use tree::TreeNets;
+pub use whole::emit_core;
