@@ -5,16 +5,16 @@ use Rattle.sp_gates.specs.Grows.{Grows}
 use Rattle.sp_core.specs.PlainCore.{PlainOp}
 use Rattle.sp_op_nets.specs.declared.acted.ActedList.{ActedList}
 use Rattle.sp_bound_nets.specs.Direct.{AreActedLists}
-use Rattle.sp_bound_nets.proofs.Kept.{always_kept}
+use Rattle.sp_bound_nets.proofs.Kept.{list_kept}
 
 -- how many operations there are
 abbrev pub all_length : List (List PlainOp) → ℕ
 all_length [] = 0
 all_length (ops ∷ lists) = length ops + all_length lists
 
-lists_kept : (a b : Draft) → Grows a b → (n : ℕ) (lists : List (List PlainOp)) (acted : List ActedList) → AreActedLists a n lists acted → AreActedLists b n lists acted
+pub lists_kept : (a b : Draft) → Grows a b → (n : ℕ) (lists : List (List PlainOp)) (acted : List ActedList) → AreActedLists a n lists acted → AreActedLists b n lists acted
 lists_kept a b g n [] [] h = tt
-lists_kept a b g n (ops ∷ lists) (x ∷ acted) h = (record { ops_of = h.0.ops_of; acts = always_kept a b g n x.ops.items x h.0.acts }, lists_kept a b g (n + length ops) lists acted h.1)
+lists_kept a b g n (ops ∷ lists) (x ∷ acted) h = (list_kept a b g n ops x h.0, lists_kept a b g (n + length ops) lists acted h.1)
 lists_kept a b g n [] (x ∷ acted) h = absurd h
 lists_kept a b g n (ops ∷ lists) [] h = absurd h
 

@@ -34,7 +34,7 @@ use Rattle.sp_bound_nets.specs.declared.bounds.Bounds.{Bounds}
 use Rattle.sp_bound_nets.specs.Bounds.{AreCountersRight, BoundsActed, BoundsIn, AreBounds, AddsBound, pars_of, own_pars, bound_lists}
 use Rattle.sp_bound_nets.specs.Direct.{IsDirect, IsWordRight, AreActedLists, IsActedList}
 use Rattle.sp_bound_nets.proofs.Acting.{all_length, lists_behind}
-use Rattle.sp_bound_nets.proofs.Kept.{always_kept, around_kept, direct_kept}
+use Rattle.sp_bound_nets.proofs.Kept.{always_kept, list_kept, around_kept, direct_kept}
 
 pub answers_append : (xs ys : List ActedList) → answers_in (xs ++ ys) ≡ answers_in xs ++ answers_in ys
 answers_append [] ys = refl
@@ -153,7 +153,7 @@ module _ (old mid new : Draft) (table : List AroundNets) (n : ℕ) (c : PlainCou
       }
 
   pub one_lists : IsActedList mid n c.from a → IsActedList new (n + length c.from) c.until b → AreActedLists new n (bound_lists (c ∷ [])) (a ∷ b ∷ [])
-  one_lists first second = (record { ops_of = first.ops_of; acts = always_kept mid new g n a.ops.items a first.acts }, (second, tt))
+  one_lists first second = (list_kept mid new g n c.from a first, (second, tt))
 
   pub one_fits : AreCountersRight old table (c ∷ []) → HasNet mid k.from 32 → HasNet new k.until 32 → CountFits new k
   one_fits r first second =

@@ -20,7 +20,7 @@ use Rattle.sp_op_nets.specs.declared.acted.ActedList.{ActedList}
 use Rattle.sp_op_nets.specs.declared.table.AroundNets.{AroundNets}
 use Rattle.sp_op_nets.specs.Table.{StandAround}
 use Rattle.sp_tree_circuits.specs.Parts.{DirectNet}
-use Rattle.sp_bound_nets.specs.Direct.{IsAlwaysActed}
+use Rattle.sp_bound_nets.specs.Direct.{IsActedList, IsAlwaysActed}
 
 module _ (a b : Draft) (g : Grows a b) where
   act_kept : (ty : Ty) (act : Act) → ActFits a ty act → ActFits b ty act
@@ -68,6 +68,14 @@ module _ (a b : Draft) (g : Grows a b) where
     issue = h.issue;
     always = IsOne-stays a b h.issue g h.always;
     acted = record { first = h.acted.first; ops = h.acted.ops; acts = acts_kept h.issue ps ps x.nets.items h.acted.acts };
+  }
+
+  pub list_kept : (number : ℕ) (ops : List PlainOp) (x : ActedList) → IsActedList a number ops x → IsActedList b number ops x
+  list_kept number ops x h = record {
+    ops_of = h.ops_of;
+    acts = always_kept number x.ops.items x h.acts;
+    answers = λ k p at e. HasNet-stays a b _ _ g (h.answers k p at e);
+    at_once = h.at_once;
   }
 
   pub around_kept : (table : List AroundNets) (near : List Near) → StandAround a table near → StandAround b table near

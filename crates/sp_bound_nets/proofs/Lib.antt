@@ -1,6 +1,6 @@
-mod Acting
+pub mod Acting
 mod Bounding
-mod Kept
+pub mod Kept
 mod Spanning
 mod Standing
 mod Walking

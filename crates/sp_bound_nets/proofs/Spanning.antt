@@ -35,7 +35,7 @@ use Rattle.sp_bound_nets.specs.Direct.{AreActedLists, IsActedList, IsDirect, IsW
 use Rattle.sp_bound_nets.specs.Spans.{net_of_span, nets_of_spans, span_lists, HasEnds, AreSpansRight, SpansActed, SpansIn, AreSpans, AddsSpan}
 use Rattle.sp_bound_nets.proofs.Acting.{all_length, lists_behind}
 use Rattle.sp_bound_nets.proofs.Bounding.{answers_append, is_right, is_word}
-use Rattle.sp_bound_nets.proofs.Kept.{always_kept, around_kept, direct_kept}
+use Rattle.sp_bound_nets.proofs.Kept.{always_kept, list_kept, around_kept, direct_kept}
 
 module _ (core : PlainCore) (plan : PlainPlan) (s : Signals) (near : List Near) (env : Nets) where
   -- what stands in a run of a draft, stands where more was added
@@ -106,7 +106,7 @@ module _ (old new : Draft) (table : List AroundNets) (n : ℕ) (ops : List Plain
 -- both ends of a range, of which the other one was emitted behind the first
 module _ (old mid new : Draft) (table : List AroundNets) (n : ℕ) (xs ys : List PlainOp) (from until : ℕ) (a b : ActedList) (f : Grows old mid) (g : Grows mid new) where
   pub range_lists : IsActedList mid n xs a → IsActedList new (n + length xs) ys b → AreActedLists new n (xs ∷ ys ∷ []) (a ∷ b ∷ [])
-  range_lists first second = (record { ops_of = first.ops_of; acts = always_kept mid new g n a.ops.items a first.acts }, (second, tt))
+  range_lists first second = (list_kept mid new g n xs a first, (second, tt))
 
   pub one_range : IsDirect old mid table n xs from a → IsDirect mid new table (n + length xs) ys until b → AreSpans old new table n (range xs ys ∷ []) (two_nets from until ∷ []) (a ∷ b ∷ [])
   one_range first second core plan around right stand s run =

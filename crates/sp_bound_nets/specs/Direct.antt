@@ -18,7 +18,7 @@ use Rattle.sp_circuit_ops.specs.Circuit.{ArePlaced}
 use Rattle.sp_node_runs.specs.BodiesGiven.{Nets}
 use Rattle.sp_op_nets.specs.declared.acted.ActedList.{ActedList}
 use Rattle.sp_op_nets.specs.declared.table.AroundNets.{AroundNets}
-use Rattle.sp_op_nets.specs.Acted.{IsActed}
+use Rattle.sp_op_nets.specs.Acted.{IsActed, AnswersStand, AreAnsweredAfter}
 use Rattle.sp_op_nets.specs.Nets.{AreNetsOf}
 use Rattle.sp_op_nets.specs.Table.{nets_at, StandAround}
 use Rattle.sp_tree_circuits.specs.Parts.{DirectNet}
@@ -44,10 +44,12 @@ pub record IsAlwaysActed (d : Draft) (number : ℕ) (ps : List PipeOp) (a : Acte
   pub always : IsOne d issue
   pub acted : IsActed d issue number ps a
 
--- so it is for the operations of a core's list
+-- so it is for the operations of a core's list, each of which is answered in the cycle itself, on a net of its own
 pub record IsActedList (d : Draft) (number : ℕ) (ops : List PlainOp) (a : ActedList) : Type 0 where
   pub ops_of : AreOpsOf ops a.ops.items
   pub acts : IsAlwaysActed d number a.ops.items a
+  pub answers : AnswersStand d a.ops.items
+  pub at_once : AreAnsweredAfter (λ op. 0) ops a.ops.items
 
 -- and for lists one after the other, numbered in order
 abbrev pub AreActedLists : Draft → (number : ℕ) → List (List PlainOp) → List ActedList → Type 0

@@ -5,7 +5,7 @@ use Rattle.sp_netlist.specs.Draft.{Draft}
 use Rattle.sp_netlist.specs.Signals.{Signals}
 use Rattle.sp_gates.specs.Grows.{Fills, Opens}
 use Rattle.sp_gates.specs.Tested.{is_on}
-use Rattle.sp_gates.proofs.Growing.{Awaits-stays, HasNet-stays, Grows-join}
+use Rattle.sp_gates.proofs.Growing.{Awaits-stays, HasNet-stays, Grows-join, more_gates}
 use Rattle.sp_ctrl.specs.Fits.{IsChild}
 use Rattle.sp_ctrl.specs.Runs.{IsAfter, RunsBranch}
 use Rattle.sp_ctrl.proofs.Waiting.{awaits_open, none_in}
@@ -14,6 +14,7 @@ use Rattle.sp_ctrl.proofs.Waiting.{awaits_open, none_in}
 pub opens_more : (a b c : Draft) (net : ℕ) → Opens a b net → Fills b c [] → Opens a c net
 opens_more a b c net o f = record {
   grows = Grows-join a b c o.grows f.grows;
+  gates = more_gates a b c o.gates f.gates;
   fresh = o.fresh;
   still_open = λ n was. f.still_open n (o.still_open n was) (none_in n);
   no_other = λ n is other. o.no_other n (f.no_other n is).0 other;

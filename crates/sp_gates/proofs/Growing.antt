@@ -9,7 +9,7 @@ use Rattle.sp_netlist.specs.Rules.{is_bank, is_done}
 use Rattle.sp_netlist.specs.Draft.{Draft, IsDraft, IsComplete, Keeps, driver_count, net_count}
 use Rattle.sp_netlist.specs.Parts.{names_bank}
 use Rattle.sp_gates.specs.Nets.{HasNet, IsOpen, Awaits}
-use Rattle.sp_gates.specs.Grows.{Grows, Fills, Opens}
+use Rattle.sp_gates.specs.Grows.{is_no_gate, Grows, AddsGates, Builds, Fills, Opens}
 use Rattle.sp_gates.specs.Bits.{HasBit, IsOne}
 use Rattle.sp_gates.proofs.Running.{none_joined, runs_earlier}
 
@@ -74,6 +74,19 @@ gate_grows old mid new x undone unnamed same last k l d = record {
   apart = λ bank within. rw (unnamed bank) refl;
 }
 
+pub no_gates : (a : Draft) → AddsGates a a
+no_gates a = record { added = []; stands = sym (append-nil a.cells); all = refl }
+
+pub more_gates : (a b c : Draft) → AddsGates a b → AddsGates b c → AddsGates a c
+more_gates a b c g h = record {
+  added = g.added ++ h.added;
+  stands = h.stands ∙ ap (λ xs. xs ++ h.added) g.stands ∙ append_assoc a.cells g.added h.added;
+  all = none_joined is_no_gate g.added h.added g.all h.all;
+}
+
+pub one_gate : (old mid new : Draft) (x : PlainCell) → is_no_gate x ≡ false → mid.cells ≡ old.cells → new.cells ≡ mid.cells ++ x ∷ [] → AddsGates old new
+one_gate old mid new x gate same last = record { added = x ∷ []; stands = last ∙ ap (λ xs. xs ++ x ∷ []) same; all = rw gate refl }
+
 one_net : (r w net : ℕ) → net_count ((r, w) ∷ []) net ≡ cond (r == net) 1 0
 one_net r w net = let step = sum_by-cons (λ (p : ℕ × ℕ). cond (p.0 == net) 1 0) (r, w) [] in step ∙ omega arith
 
@@ -85,20 +98,33 @@ one_in x y (zero, l, e) = sym e
 one_in x y (suc k, l, e) = absurd (omega (arith, l))
 
 pub Fills-none : (a : Draft) → Fills a a []
-Fills-none a = record { grows = Grows-same a; still_open = λ n o out. o; no_other = λ n o. (o, none_in n) }
+Fills-none a = record { grows = Grows-same a; gates = no_gates a; still_open = λ n o out. o; no_other = λ n o. (o, none_in n) }
 
 pub Fills-join : (a b c : Draft) (xs ys : List ℕ) → Fills a b xs → Fills b c ys → Fills a c (xs ++ ys)
 Fills-join a b c xs ys g h = record {
+  gates = more_gates a b c g.gates h.gates;
+  grows = Grows-join a b c g.grows h.grows;
+  still_open = λ n o out. h.still_open n (g.still_open n o (λ k. out (Contains-append_left xs ys n k))) (λ k. out (Contains-append_right xs ys n k));
+  no_other = λ n o. ((g.no_other n (h.no_other n o).0).0, λ k. ⊎_elim (λ l. (g.no_other n (h.no_other n o).0).1 l) (λ r. (h.no_other n o).1 r) (Contains-append_cases xs ys n k));
+}
+
+-- the same of cells that aren't all gates
+pub fills_build : (a b : Draft) (xs : List ℕ) → Fills a b xs → Builds a b xs
+fills_build a b xs f = record { grows = f.grows; still_open = f.still_open; no_other = f.no_other }
+
+pub Builds-join : (a b c : Draft) (xs ys : List ℕ) → Builds a b xs → Builds b c ys → Builds a c (xs ++ ys)
+Builds-join a b c xs ys g h = record {
   grows = Grows-join a b c g.grows h.grows;
   still_open = λ n o out. h.still_open n (g.still_open n o (λ k. out (Contains-append_left xs ys n k))) (λ k. out (Contains-append_right xs ys n k));
   no_other = λ n o. ((g.no_other n (h.no_other n o).0).0, λ k. ⊎_elim (λ l. (g.no_other n (h.no_other n o).0).1 l) (λ r. (h.no_other n o).1 r) (Contains-append_cases xs ys n k));
 }
 
 -- the new net is driven by the cell, and no other
-pub gate_fills : (old mid new : Draft) (x : PlainCell) (r w : ℕ) → is_done x ≡ false → ((bank : ℕ) → names_bank bank x ≡ false) → mid.cells ≡ old.cells → new.cells ≡ mid.cells ++ x ∷ []
+pub gate_fills : (old mid new : Draft) (x : PlainCell) (r w : ℕ) → is_no_gate x ≡ false → is_done x ≡ false → ((bank : ℕ) → names_bank bank x ≡ false) → mid.cells ≡ old.cells → new.cells ≡ mid.cells ++ x ∷ []
     → Keeps old mid → Keeps mid new → IsDraft new → r ≡ length old.promised → length mid.promised ≡ length old.promised + 1 → new.promised ≡ mid.promised
     → ((net : ℕ) → driver_count new.cells net ≡ driver_count mid.cells net + net_count ((r, w) ∷ []) net) → Fills old new []
-gate_fills old mid new x r w undone unnamed same last k l d is more nets counts = record {
+gate_fills old mid new x r w gate undone unnamed same last k l d is more nets counts = record {
+  gates = one_gate old mid new x gate same last;
   grows = gate_grows old mid new x undone unnamed same last k l d;
   still_open = λ net o out. record {
     within = let a = o.within in let n = ap length nets in omega (arith, n, a);
@@ -123,9 +149,10 @@ gate_fills old mid new x r w undone unnamed same last k l d is more nets counts 
         ]
 
 -- a promised net is driven by the cell, and no other
-pub drive_fills : (old new : Draft) (x : PlainCell) (r w : ℕ) → is_done x ≡ false → ((bank : ℕ) → names_bank bank x ≡ false) → new.cells ≡ old.cells ++ x ∷ [] → Keeps old new → IsDraft new
+pub drive_fills : (old new : Draft) (x : PlainCell) (r w : ℕ) → is_no_gate x ≡ false → is_done x ≡ false → ((bank : ℕ) → names_bank bank x ≡ false) → new.cells ≡ old.cells ++ x ∷ [] → Keeps old new → IsDraft new
     → new.promised ≡ old.promised → ((net : ℕ) → driver_count new.cells net ≡ driver_count old.cells net + net_count ((r, w) ∷ []) net) → Fills old new (r ∷ [])
-drive_fills old new x r w undone unnamed last k d nets counts = record {
+drive_fills old new x r w gate undone unnamed last k d nets counts = record {
+  gates = one_gate old old new x gate refl last;
   grows = gate_grows old old new x undone unnamed refl last (Keeps-same old) k d;
   still_open = λ net o out. record {
     within = let n = ap length nets in let a = o.within in omega (arith, n, a);
@@ -155,6 +182,7 @@ promise_opens old new r same k d is more = record {
     no_done = refl;
     apart = λ bank within. refl;
   };
+  gates = record { added = []; stands = same ∙ sym (append-nil old.cells); all = refl };
   fresh = is;
   still_open = λ n o. record { within = let a = o.within in omega (arith, a, more); undriven = ap (λ cells. driver_count cells n) same ∙ o.undriven };
   no_other = λ n o other. record { within = let a = o.within in omega (arith, a, more, other, is); undriven = ap (λ cells. driver_count cells n) (sym same) ∙ o.undriven };
@@ -175,6 +203,7 @@ Awaits-stays a b net width g o h = record { wide = g.keeps.widths net width h.wi
 -- a net that is promised, and then driven
 pub reserved : (a b c : Draft) (net : ℕ) (nets : List ℕ) → Opens a b net → Fills b c (net ∷ nets) → Fills a c nets
 reserved a b c net nets o f = record {
+  gates = more_gates a b c o.gates f.gates;
   grows = Grows-join a b c o.grows f.grows;
   still_open = λ n was out. f.still_open n (o.still_open n was) (λ k. elim (head_or_tail n k) [
     | inl same ↦ let a = was.within in let e = o.fresh in absurd (omega (arith, same, a, e))
@@ -188,8 +217,31 @@ reserved a b c net nets o f = record {
     head_or_tail : (n : ℕ) → Contains (net ∷ nets) n → (n ≡ net) ⊎ Contains nets n
     head_or_tail n k = ⊎_elim (λ l. inl (one_in net n l)) (λ r. inr r) (Contains-append_cases (net ∷ []) nets n k)
 
+pub built_reserved : (a b c : Draft) (net : ℕ) (nets : List ℕ) → Opens a b net → Builds b c (net ∷ nets) → Builds a c nets
+built_reserved a b c net nets o f = record {
+  grows = Grows-join a b c o.grows f.grows;
+  still_open = λ n was out. f.still_open n (o.still_open n was) (λ k. elim (head_or_tail n k) [
+    | inl same ↦ let a = was.within in let e = o.fresh in absurd (omega (arith, same, a, e))
+    | inr there ↦ out there
+  ]);
+  no_other = λ n is.
+      let before = f.no_other n is in
+      (o.no_other n before.0 (λ same. before.1 (0, omega arith, sym same)), λ k. before.1 (Contains-append_right (net ∷ []) nets n k));
+}
+  where
+    head_or_tail : (n : ℕ) → Contains (net ∷ nets) n → (n ≡ net) ⊎ Contains nets n
+    head_or_tail n k = ⊎_elim (λ l. inl (one_in net n l)) (λ r. inr r) (Contains-append_cases (net ∷ []) nets n k)
+
+pub same_built : (a b : Draft) (nets others : List ℕ) → ((net : ℕ) → Contains nets net ↔ Contains others net) → Builds a b nets → Builds a b others
+same_built a b nets others same f = record {
+  grows = f.grows;
+  still_open = λ n was out. f.still_open n was (λ k. out ((same n).0 k));
+  no_other = λ n is. ((f.no_other n is).0, λ k. (f.no_other n is).1 ((same n).1 k));
+}
+
 pub same_nets : (a b : Draft) (nets others : List ℕ) → ((net : ℕ) → Contains nets net ↔ Contains others net) → Fills a b nets → Fills a b others
 same_nets a b nets others same f = record {
+  gates = f.gates;
   grows = f.grows;
   still_open = λ n was out. f.still_open n was (λ k. out ((same n).0 k));
   no_other = λ n is. ((f.no_other n is).0, λ k. (f.no_other n is).1 ((same n).1 k));

@@ -1,4 +1,3 @@
 mod Grouping
 mod Issuing
-mod Kept
 mod Single

@@ -10,6 +10,7 @@ use Rattle.sp_gates.specs.Runs.{RunsOn}
 use Rattle.sp_gates.specs.Tested.{is_on}
 use Rattle.sp_core.specs.declared.operation.Op.{Op}
 use Rattle.sp_core.specs.Around.{Around, within}
+use Rattle.sp_core.specs.Latency.{latency}
 use Rattle.sp_core.specs.NodeRules.{are_counters_right, is_node_right}
 use Rattle.sp_core.specs.OperationRules.{are_operations_right}
 use Rattle.sp_core.specs.Plain.{plain_ops}
@@ -27,7 +28,7 @@ use Rattle.sp_machine.specs.Timeline.{times_of, interval_of, latency_of}
 use Rattle.sp_node_runs.specs.Bodies.{AreTimedOps, IsPaced}
 use Rattle.sp_op_nets.specs.declared.acted.ActedList.{ActedList}
 use Rattle.sp_op_nets.specs.declared.table.AroundNets.{AroundNets}
-use Rattle.sp_op_nets.specs.Acted.{answers_of, answers_in, IsActed}
+use Rattle.sp_op_nets.specs.Acted.{answers_of, answers_in, AnswersStand, AreAnsweredAfter, IsActed}
 use Rattle.sp_op_nets.specs.Reserved.{Reserves}
 use Rattle.sp_op_nets.proofs.Reserving.{none_reserved, reserved_join}
 use Rattle.sp_list_circuits.specs.Timed.{AreRightHere, AreTimed, IsIssuedList}
@@ -63,21 +64,23 @@ module _ (mid : Draft) (core : PlainCore) (table : List AroundNets) (ops : List 
 
 -- the body's own operations are handed on
 pub own_issued : (placed new : Draft) (core : PlainCore) (table : List AroundNets) (ops : List Op) (times : List ℕ) (ps : List PipeOp) (w : AreTimed placed core table ops times ps) (p : PlainNodePlan) (start next : ℕ) (groups : Option Groups) (part : Part)
-    (child : Child) (own : ActedList) → IsPartOf p start groups ps part → IsBody new part next child own → IsIssuedList new next (plain_ops ops) own
-own_issued placed new core table ops times ps w p start next groups part child own is body = record {
+    (child : Child) (own : ActedList) → Grows placed new → IsPartOf p start groups ps part → IsBody new part next child own → IsIssuedList new core next (plain_ops ops) own
+own_issued placed new core table ops times ps w p start next groups part child own grows is body = record {
   issue = body.issue;
   net = body.net;
   ops_of = subst (AreOpsOf (plain_ops ops)) (sym (body.acted.ops ∙ is.does)) w.placed.ops_of;
   acts = record { first = body.acted.first; ops = refl; acts = subst (λ xs. AreActs new body.issue xs xs own.nets.items) (sym body.acted.ops) body.acted.acts };
+  answers = subst (AnswersStand new) (sym (body.acted.ops ∙ is.does)) (placing.answers_stand placed core table ops times ps w new grows);
+  after = subst (AreAnsweredAfter (latency core) (plain_ops ops)) (sym (body.acted.ops ∙ is.does)) (placing.answered_after placed core table ops times ps w);
 }
 
-pub single_acted : (d : Draft) (number : ℕ) (ops : List PlainOp) (own : ActedList) → IsIssuedList d number ops own → IsInnerActed d number [] ops (own ∷ [])
-single_acted d number ops own issued = record {
+pub single_acted : (d : Draft) (core : PlainCore) (number : ℕ) (ops : List PlainOp) (own : ActedList) → IsIssuedList d core number ops own → IsInnerActed d core number [] ops (own ∷ [])
+single_acted d core number ops own issued = record {
   bounds = [];
   own = own;
   are = refl;
   of_bounds = tt;
-  of_own = (let zero : number + 0 ≡ number = omega arith in subst (λ n. IsIssuedList d n ops own) (sym zero) issued);
+  of_own = (let zero : number + 0 ≡ number = omega arith in subst (λ n. IsIssuedList d core n ops own) (sym zero) issued);
 }
 
 -- a body without counters

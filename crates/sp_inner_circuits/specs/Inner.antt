@@ -38,12 +38,12 @@ pub record IsInnerRight (d : Draft) (core : PlainCore) (table : List AroundNets)
   pub stand : StandAround d table around.counters
 
 -- what is handed on of a body, whether or not a run is known: the operations of the bounds of its counters, and then its own
-pub record IsInnerActed (d : Draft) (number : ℕ) (counters : List PlainCounter) (ops : List PlainOp) (acted : List ActedList) : Type 0 where
+pub record IsInnerActed (d : Draft) (core : PlainCore) (number : ℕ) (counters : List PlainCounter) (ops : List PlainOp) (acted : List ActedList) : Type 0 where
   pub bounds : List ActedList
   pub own : ActedList
   pub are : acted ≡ bounds ++ own ∷ []
   pub of_bounds : AreActedLists d number (bound_lists counters) bounds
-  pub of_own : IsIssuedList d (number + counters_size counters) ops own
+  pub of_own : IsIssuedList d core (number + counters_size counters) ops own
 
 module _ (core : PlainCore) (plan : PlainPlan) (s : Signals) (near : List Near) (env : Nets) where
   -- the operations of the bounds of its counters are those that are handed on

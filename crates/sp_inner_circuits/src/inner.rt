@@ -42,7 +42,7 @@ fn emit_single(
     ensures reserves { IfOk result (λ inner. Reserves builder.old builder.new (answers_in inner.acted.items)) }
     ensures start { IfOk result (λ inner. inner.child.start ≡ start) }
     ensures done { IfOk result (λ inner. HasNet builder.new inner.child.done 1) }
-    ensures acted { IfOk result (λ inner. IsInnerActed builder.new number [] (plain_ops ops.now) inner.acted.items) }
+    ensures acted { IfOk result (λ inner. IsInnerActed builder.new (plain_core core.now) number [] (plain_ops ops.now) inner.acted.items) }
     ensures inner { IfOk result (λ inner. IsInner builder.old builder.new (plain_core core.now) around.now (plain_node_plan plan.now) number [] (plain_ops ops.now) inner.child inner.acted.items) }
 {
     let placed = planned_ops(alloc, builder, core, plan, ops, around)?;
@@ -76,7 +76,7 @@ fn emit_counted(
     ensures reserves { IfOk result (λ inner. Reserves builder.old builder.new (answers_in inner.acted.items)) }
     ensures start { IfOk result (λ inner. inner.child.start ≡ start) }
     ensures done { IfOk result (λ inner. HasNet builder.new inner.child.done 1) }
-    ensures acted { IfOk result (λ inner. IsInnerActed builder.new number (map plain_counter counters.now) (plain_ops ops.now) inner.acted.items) }
+    ensures acted { IfOk result (λ inner. IsInnerActed builder.new (plain_core core.now) number (map plain_counter counters.now) (plain_ops ops.now) inner.acted.items) }
     ensures inner { IfOk result (λ inner. IsInner builder.old builder.new (plain_core core.now) around.now (plain_node_plan plan.now) number (map plain_counter counters.now) (plain_ops ops.now) inner.child inner.acted.items) }
 {
     let next = number + counters_size(counters);
@@ -112,7 +112,7 @@ pub fn emit_inner(
     ensures reserves { IfOk result (λ inner. Reserves builder.old builder.new (answers_in inner.acted.items)) }
     ensures start { IfOk result (λ inner. inner.child.start ≡ start) }
     ensures done { IfOk result (λ inner. HasNet builder.new inner.child.done 1) }
-    ensures acted { IfOk result (λ inner. IsInnerActed builder.new number (map plain_counter counters.now) (plain_ops ops.now) inner.acted.items) }
+    ensures acted { IfOk result (λ inner. IsInnerActed builder.new (plain_core core.now) number (map plain_counter counters.now) (plain_ops ops.now) inner.acted.items) }
     ensures inner { IfOk result (λ inner. IsInner builder.old builder.new (plain_core core.now) around.now (plain_node_plan plan.now) number (map plain_counter counters.now) (plain_ops ops.now) inner.child inner.acted.items) }
 {
     if counters.is_empty() {

@@ -22,10 +22,11 @@ use Rattle.sp_circuit_ops.proofs.Fitting as circuit
 use Rattle.sp_node_runs.specs.Bodies.{AreTimedOps}
 use Rattle.sp_node_runs.specs.BodiesGiven.{AreGivenBy}
 use Rattle.sp_op_nets.specs.declared.table.AroundNets.{AroundNets}
-use Rattle.sp_op_nets.specs.Acted.{answers_of}
+use Rattle.sp_op_nets.specs.Acted.{answers_of, AnswersStand, AreAnsweredAfter}
 use Rattle.sp_op_nets.specs.Nets.{AreNetsOf, no_op, more_ops}
 use Rattle.sp_op_nets.specs.Reserved.{Reserves, reserved_of}
 use Rattle.sp_op_nets.specs.Table.{nets_at}
+use Rattle.sp_op_nets.proofs.Answering.{have_nets, come_after}
 use Rattle.sp_op_nets.proofs.Driving.{answers}
 use Rattle.sp_op_nets.proofs.Giving.{are_given, fit_all}
 use Rattle.sp_op_nets.proofs.Reserving.{none_reserved, reserved_join}
@@ -45,9 +46,16 @@ module _ (mid : Draft) (core : PlainCore) (table : List AroundNets) (ops : List 
       let o = op_there (plain_ops ops) k (let lt = at.within in let e = w.placed.ops_of.each in omega (arith, lt, e)) in
       (o.0, o.1, w.placed.ops_of.alike k o.0 p o.1 at)
 
+  -- each answer has its net, whatever the draft becomes, and comes after its operation's latency
+  pub answers_stand : (later : Draft) → Grows mid later → AnswersStand later ps
+  answers_stand later grows = have_nets mid later table ops times w.afters w.nets ps w.nets_of w.placed grows
+
+  pub answered_after : AreAnsweredAfter (latency core) (plain_ops ops) ps
+  answered_after = come_after mid table ops times w.afters w.nets ps (latency core) w.nets_of w.placed w.late
+
   module _ (around : Around) (right : are_operations_right core around (plain_ops ops) ≡ true) (later : Draft) (grows : Grows mid later) where
     pub stands : (k : ℕ) (op : PlainOp) (p : PipeOp) → IsOpAt (plain_ops ops) k op → IsAt ps k p → NetFits core later op p
-    stands k op p here at = fit_all core around mid later table ops times w.afters w.nets ps right w.nets_of w.placed grows (λ i o place e. w.early i o place) k op p here at
+    stands k op p here at = fit_all core around mid later table ops times w.afters w.nets ps right w.nets_of w.placed grows (λ i o place e. (let l = w.late i o place in omega (arith, l))) k op p here at
 
     pub given : (s : Signals) → RunsOn s later.cells → AreGivenBy s around.counters (nets_at table) (plain_ops ops) ps
     given s run = are_given core around mid later table ops times w.afters w.nets ps s right w.nets_of w.placed grows run
@@ -73,7 +81,7 @@ module _ (d : Draft) (core : PlainCore) (table : List AroundNets) (ops : List Op
   all_placed = subst (λ ms. ArePlaced ops times ms ps) same placed
 
   pub are_timed : ((k : ℕ) (op : PlainOp) → IsOpAt (plain_ops ops) k op → slice_index afters k ≡ latency core op) → AreTimed d core table ops times ps
-  are_timed is = record { afters = afters; nets = nets; nets_of = all_of; placed = all_placed; early = λ k op at. (let e = is k op at in omega (arith, e)) }
+  are_timed is = record { afters = afters; nets = nets; nets_of = all_of; placed = all_placed; late = is }
 
   pub answers_reserved : (old : Draft) → Reserves old d (reserved_of (plain_ops ops) nets) → Reserves old d (answers_of ps)
   answers_reserved old r = subst (Reserves old d) (sym (answers d table ops times afters nets ps all_of all_placed)) r

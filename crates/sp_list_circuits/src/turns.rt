@@ -46,7 +46,7 @@ pub fn emit_turns(
     ensures start { IfOk result (λ turns. turns.child.start ≡ start) }
     ensures done { IfOk result (λ turns. HasNet builder.new turns.child.done 1) }
     ensures word { IfOk result (λ turns. HasNet builder.new turns.word (width_of ty)) }
-    ensures acted { IfOk result (λ turns. IsIssuedList builder.new number (plain_ops ops.now) turns.acted) }
+    ensures acted { IfOk result (λ turns. IsIssuedList builder.new (plain_core core.now) number (plain_ops ops.now) turns.acted) }
     ensures turns { IfOk result (λ turns. IsInTurns builder.old builder.new (plain_core core.now) around.now number (plain_ops ops.now) turns.child turns.word turns.acted) }
 {
     let turns = turn_times(alloc, core, ops)?;

@@ -1,6 +1,6 @@
 -- Reserved nets of which some are left.
 use Rattle.std.proofs.Common.{ℕ, zero, suc, ◌≤◌, ⊎_elim, List, [], ◌∷◌, length, Contains, arith}
-use Rattle.sp_gates.proofs.Growing.{Grows-join}
+use Rattle.sp_gates.proofs.Growing.{Grows-join, more_gates}
 use Rattle.sp_op_nets.specs.Reserved.{Rise}
 use Rattle.sp_op_nets.proofs.Giving.{above}
 use Rattle.sp_loop_nets.specs.Laws.{IsPart, no_net, kept, left_out, LeftAreReserved}
@@ -23,6 +23,7 @@ part_within _ _ (left_out {n = x} {some = some} {all = all} p) n k = (let r = pa
 pub left_reserved : LeftAreReserved
 left_reserved a b c nets driven left r f part each within apart = record {
   grows = Grows-join a b c r.grows f.grows;
+  gates = more_gates a b c r.gates f.gates;
   rise = part_rises (length a.promised) left nets part r.rise;
   are_open = λ n k. f.still_open n (r.are_open n (part_within left nets part n k)) (λ d. apart n d k);
   still_open = λ n o. f.still_open n (r.still_open n o) (λ d. (let low = o.within in let up = above (length a.promised) nets n r.rise (within n d) in omega (arith, low, up)));

@@ -2,7 +2,7 @@
 use Rattle.std.proofs.Common.{◌≡◌, ℕ, zero, suc, ◌≤◌, ⊎_elim, Bool, true, false, if◌then◌else◌, List, [], ◌∷◌, ◌++◌, length, Contains, refl, ◌∙◌, ap, arith}
 use Rattle.std.proofs.lemmas.List.Elements.{Contains-append_right, Contains-append_left, Contains-append_cases}
 use Rattle.sp_netlist.specs.Draft.{Draft}
-use Rattle.sp_gates.proofs.Growing.{Grows-join, Awaits-stays}
+use Rattle.sp_gates.proofs.Growing.{Grows-join, Awaits-stays, more_gates}
 use Rattle.sp_core.specs.declared.operation.OpKind.{OpKind}
 use Rattle.sp_core.specs.Plain.{plain_ops}
 use Rattle.sp_core.specs.PlainCore.{PlainOp}
@@ -35,6 +35,7 @@ apart from (x ∷ xs) ys n r (suc k, l, e) m = apart (suc x) xs ys n r.1 (k, ome
 pub some_driven : SomeReservedAreDriven
 some_driven a b c nets left driven r f there back = record {
   grows = Grows-join a b c r.grows f.grows;
+  gates = more_gates a b c r.gates f.gates;
   rise = rise_right (length a.promised) nets left r.rise (length a.promised) (omega arith);
   are_open = λ n k. f.still_open n (r.are_open n (Contains-append_right nets left n k)) (λ d. apart (length a.promised) nets left n r.rise (back n d) k);
   still_open = λ n o.

@@ -11,7 +11,7 @@ use Rattle.sp_netlist.specs.Draft.{Draft}
 use Rattle.sp_netlist.specs.Signals.{Signals}
 use Rattle.sp_gates.specs.Nets.{HasNet}
 use Rattle.sp_gates.specs.Tested.{is_on}
-use Rattle.sp_gates.proofs.Growing.{HasNet-stays, Grows-join}
+use Rattle.sp_gates.proofs.Growing.{HasNet-stays, Grows-join, more_gates}
 use Rattle.sp_gates.proofs.Running.{runs_earlier}
 use Rattle.sp_core.specs.declared.operation.Op.{Op}
 use Rattle.sp_core.specs.declared.operation.OpKind.{OpKind}
@@ -96,7 +96,7 @@ given_right _ _ ty around (of_shift left by) r e = absurd (true≢false (sym e))
 given_right _ _ ty around of_mux r e = absurd (true≢false (sym e))
 given_right _ _ ty around (of_cast to) r e = absurd (true≢false (sym e))
 
-answered_right : (kind : OpKind) (a : Act) → IsActOf kind a → is_answered a ≡ true → is_reserved kind ≡ true
+pub answered_right : (kind : OpKind) (a : Act) → IsActOf kind a → is_answered a ≡ true → is_reserved kind ≡ true
 answered_right _ _ (of_word w) e = absurd (true≢false (sym e))
 answered_right _ _ (of_count c lane net) e = absurd (true≢false (sym e))
 answered_right _ _ (of_live c first last net) e = absurd (true≢false (sym e))
@@ -122,7 +122,7 @@ range_at core around earlier (o ∷ ops) r (suc k) op at =
     range_at core around (earlier ++ given_type o.kind o.ty ∷ []) ops (and_parts (is_operation_right core around earlier o) _ r).1 k op (record { within = (let lt = at.within in omega (arith, lt)); is = at.is })
 
 -- and so is its net
-net_here : (d : Draft) (table : List AroundNets) (ops : List PlainOp) (afters : List ℕ) (ns : List WordNet) (k : ℕ) (op : PlainOp) → AreNetsOf d table ops afters ns → IsOpAt ops k op
+pub net_here : (d : Draft) (table : List AroundNets) (ops : List PlainOp) (afters : List ℕ) (ns : List WordNet) (k : ℕ) (op : PlainOp) → AreNetsOf d table ops afters ns → IsOpAt ops k op
     → IsNetOf d table op (slice_index afters k) (slice_index_or ns k (record { net = 0; after = 0 }))
 net_here d table _ _ _ k op no_op at = absurd (let lt = at.within in omega (arith, lt))
 net_here d table _ _ _ zero op (more_ops o ops a afters n ns here rest) at = subst (λ (x : PlainOp). IsNetOf d table x a n) (at.is o) here
@@ -178,6 +178,7 @@ above from (m ∷ ns) n r (suc k, l, e) = (let a = r.0 in let b = above (suc m) 
 pub driven_all : ReservedAreDriven
 driven_all a b c nets more r f = record {
   grows = Grows-join a b c r.grows f.grows;
+  gates = more_gates a b c r.gates f.gates;
   still_open = λ n was out. f.still_open n (r.still_open n was) (λ k. ⊎_elim (λ l. (let low = was.within in let up = above (length a.promised) nets n r.rise l in absurd (omega (arith, low, up)))) (λ m. out m) (Contains-append_cases nets more n k));
   no_other = λ n is.
       let before = f.no_other n is in

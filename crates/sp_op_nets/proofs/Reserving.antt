@@ -5,7 +5,7 @@ use Rattle.std.proofs.lemmas.Option.{slice_get_within}
 use Rattle.sp_netlist.specs.Draft.{Draft}
 use Rattle.sp_gates.specs.Grows.{Grows, Fills, Opens}
 use Rattle.sp_gates.specs.Nets.{IsOpen, Awaits}
-use Rattle.sp_gates.proofs.Growing.{Grows-same, Grows-join}
+use Rattle.sp_gates.proofs.Growing.{Grows-same, Grows-join, more_gates, no_gates}
 use Rattle.sp_op_nets.specs.Reserved.{Rise, Reserves}
 
 none_in : (x : ℕ) → Contains [] x → ⊥
@@ -48,6 +48,7 @@ none_reserved a b f = record {
   grows = f.grows;
   rise = tt;
   are_open = λ n k. absurd (none_in n k);
+  gates = f.gates;
   still_open = λ n o. f.still_open n o (none_in n);
   no_other = λ n o out. (f.no_other n o).0;
 }
@@ -57,6 +58,7 @@ one_reserved a b net width o w = record {
   grows = o.grows;
   rise = ((let e = o.fresh in omega (arith, e)), tt);
   are_open = λ n k. (let here = awaits_open b net width w in rw (one_in net n k) here);
+  gates = o.gates;
   still_open = o.still_open;
   no_other = λ n is out. o.no_other n is (λ e. out (0, omega arith, sym e));
 }
@@ -66,9 +68,10 @@ reserved_join a b c xs ys r q = record {
   grows = Grows-join a b c r.grows q.grows;
   rise = rise_join (length a.promised) (length b.promised) xs ys (longer a b r.grows) r.rise (λ n k. (r.are_open n k).within) q.rise;
   are_open = λ n k. ⊎_elim (λ l. q.still_open n (r.are_open n l)) (λ m. q.are_open n m) (Contains-append_cases xs ys n k);
+  gates = more_gates a b c r.gates q.gates;
   still_open = λ n o. q.still_open n (r.still_open n o);
   no_other = λ n o out. r.no_other n (q.no_other n o (λ k. out (Contains-append_right xs ys n k))) (λ k. out (Contains-append_left xs ys n k));
 }
 
 pub same_reserved : (a : Draft) → Reserves a a []
-same_reserved a = record { grows = Grows-same a; rise = tt; are_open = λ n k. absurd (none_in n k); still_open = λ n o. o; no_other = λ n o out. o }
+same_reserved a = record { grows = Grows-same a; gates = no_gates a; rise = tt; are_open = λ n k. absurd (none_in n k); still_open = λ n o. o; no_other = λ n o out. o }

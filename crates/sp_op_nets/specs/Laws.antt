@@ -19,7 +19,7 @@ use Rattle.sp_circuit_ops.specs.Circuit.{ArePlaced}
 use Rattle.sp_circuit_ops.specs.Fitting.{NetFits}
 use Rattle.sp_node_runs.specs.BodiesGiven.{Nets, AreGivenBy}
 use Rattle.sp_op_nets.specs.declared.table.AroundNets.{AroundNets}
-use Rattle.sp_op_nets.specs.Acted.{answers_of}
+use Rattle.sp_op_nets.specs.Acted.{answers_of, AnswersStand, AreAnsweredAfter}
 use Rattle.sp_op_nets.specs.Nets.{AreNetsOf}
 use Rattle.sp_op_nets.specs.Reserved.{is_reserved, Reserves, reserved_of}
 use Rattle.sp_op_nets.specs.Table.{nets_at, StandsAt, StandAround}
@@ -76,3 +76,14 @@ AnswersAreReserved =
 -- a reserved net still awaits what drives it, whatever is reserved behind it
 abbrev pub ReservedStay : Type 0
 ReservedStay = (first second : Draft) (net width : ℕ) (nets : List ℕ) → Awaits first net width → Reserves first second nets → Awaits second net width
+
+-- each net on which operations are answered stands, whatever the draft becomes
+abbrev pub AnswersHaveNets : Type 0
+AnswersHaveNets =
+    (d later : Draft) (table : List AroundNets) (ops : List Op) (times afters : List ℕ) (nets : List WordNet) (ps : List PipeOp) → AreNetsOf d table (plain_ops ops) afters nets → ArePlaced ops times nets ps → Grows d later → AnswersStand later ps
+
+-- and each answer comes as late as its net was given
+abbrev pub AnswersComeAfter : Type 0
+AnswersComeAfter =
+    (d : Draft) (table : List AroundNets) (ops : List Op) (times afters : List ℕ) (nets : List WordNet) (ps : List PipeOp) (after : PlainOp → ℕ) → AreNetsOf d table (plain_ops ops) afters nets → ArePlaced ops times nets ps
+    → ((k : ℕ) (op : PlainOp) → IsOpAt (plain_ops ops) k op → slice_index afters k ≡ after op) → AreAnsweredAfter after (plain_ops ops) ps

@@ -1,7 +1,7 @@
 //! Laws of operations with their nets. The functions do nothing: what they ensure are the laws.
 
 ghost use Rattle.sp_op_nets.specs.Example.{WorkedNets};
-ghost use Rattle.sp_op_nets.specs.Laws.{CountersStand, OperationsAreGiven, SameNetsGive, NetsFit, ReservedAreDriven, SomeReservedAreDriven, ReservedComeTogether, PromisedAreReserved, FillsAreReserved, AnswersAreReserved, ReservedStay};
+ghost use Rattle.sp_op_nets.specs.Laws.{CountersStand, OperationsAreGiven, SameNetsGive, NetsFit, ReservedAreDriven, SomeReservedAreDriven, ReservedComeTogether, PromisedAreReserved, FillsAreReserved, AnswersAreReserved, ReservedStay, AnswersHaveNets, AnswersComeAfter};
 
 /// Where each counter around stands in the table, so does what operations that keep their rules take their words from.
 pub fn counters_stand()
@@ -56,6 +56,16 @@ pub fn answers_are_reserved()
 /// A reserved net awaits its driver, whatever is reserved behind it.
 pub fn reserved_stay()
     ensures { ReservedStay }
+{}
+
+/// The nets on which operations are answered stand.
+pub fn answers_have_nets()
+    ensures { AnswersHaveNets }
+{}
+
+/// Each answer comes as late as its net was given.
+pub fn answers_come_after()
+    ensures { AnswersComeAfter }
 {}
 
 /// The nets that worked operations reserve.

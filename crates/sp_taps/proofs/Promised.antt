@@ -4,7 +4,7 @@ use Rattle.std.proofs.lemmas.List.Elements.{Contains-append_right, Contains-appe
 use Rattle.std.proofs.lemmas.List.Sums.{sum_by-cons, sum_by-append}
 use Rattle.sp_netlist.specs.Draft.{Draft, net_count}
 use Rattle.sp_gates.specs.Nets.{IsOpen}
-use Rattle.sp_gates.specs.Grows.{Grows, Fills}
+use Rattle.sp_gates.specs.Grows.{Grows, Builds, Fills}
 use Rattle.sp_gates.proofs.Growing.{HasNet-stays, Grows-join}
 use Rattle.sp_gates.specs.Runs.{RunsOn}
 use Rattle.sp_gates.proofs.Running.{runs_earlier, none_joined}
@@ -25,7 +25,7 @@ at_back (x ∷ xs) ys (suc n) k e = at_back xs ys n k (omega (arith, e))
 pub one_net : (r w net : ℕ) → net_count ((r, w) ∷ []) net ≡ cond (r == net) 1 0
 one_net r w net = let step = sum_by-cons (λ (p : ℕ × ℕ). cond (p.0 == net) 1 0) (r, w) [] in step ∙ omega arith
 
-pub driven : (a b c : Draft) (nets others : List ℕ) → Promises a b nets → Fills b c (nets ++ others) → Fills a c others
+pub driven : (a b c : Draft) (nets others : List ℕ) → Promises a b nets → Fills b c (nets ++ others) → Builds a c others
 driven a b c nets others p f = record {
   grows = joined;
   still_open = λ n was out. f.still_open n (p.still_open n was) (λ k. ⊎_elim (λ l. past n was l) (λ r. out r) (Contains-append_cases nets others n k));

@@ -4,7 +4,7 @@ use Rattle.sp_netlist.specs.declared.parts.Child.{Child}
 use Rattle.sp_netlist.specs.Draft.{Draft}
 use Rattle.sp_gates.specs.Grows.{Fills, Opens}
 use Rattle.sp_gates.specs.Nets.{HasNet, Awaits}
-use Rattle.sp_gates.proofs.Growing.{Awaits-stays, Grows-join, same_nets}
+use Rattle.sp_gates.proofs.Growing.{Awaits-stays, Grows-join, more_gates, same_nets}
 use Rattle.sp_sequence.specs.declared.part.Slot.{Slot}
 use Rattle.sp_sequence.specs.Fits.{starts_of, chain_starts, slot_starts, AreApart, AreMembers, no_member, one_member, AreChains, no_chain, one_chain, AreSlots, no_slot, one_slot}
 use Rattle.sp_sequence.proofs.Waiting.{awaits_open, none_in, one_net}
@@ -14,6 +14,7 @@ use Rattle.sp_worked_beats.specs.Rows.{IsAlone, AreTwo}
 pub opens_more : (a b c : Draft) (net : ℕ) → Opens a b net → Fills b c [] → Opens a c net
 opens_more a b c net o f = record {
   grows = Grows-join a b c o.grows f.grows;
+  gates = more_gates a b c o.gates f.gates;
   fresh = o.fresh;
   still_open = λ n was. f.still_open n (o.still_open n was) (none_in n);
   no_other = λ n is other. o.no_other n (f.no_other n is).0 other;

@@ -8,7 +8,7 @@ use Rattle.sp_words.specs.Types.{int_type}
 use Rattle.sp_netlist.specs.Cells.{PlainCell, done_cell, out_cell}
 use Rattle.sp_netlist.specs.Draft.{Draft, CanAdd, IsComplete, IsDraft, driver_count}
 use Rattle.sp_netlist.specs.Rules.{is_done, out_name}
-use Rattle.sp_gates.specs.Grows.{Fills}
+use Rattle.sp_gates.specs.Grows.{Builds}
 use Rattle.sp_gates.specs.Nets.{Awaits, HasNet, IsOpen}
 use Rattle.sp_gates.proofs.Growing.{complete, Awaits-stays}
 use Rattle.sp_mem.proofs.Waiting.{awaits_open}
@@ -22,16 +22,16 @@ none_counts (x ∷ cells) h = by (is_done x) refl h (none_counts cells)
     by true e h rest = absurd (cc)
     by false e h rest = let r = rest h in let one_if : Bool → ℕ = λ b. cond b 1 0 in let g : one_if (is_done x) ≡ 0 = ap one_if e in sum_by-append (λ y. cond (is_done y) 1 0) (x ∷ []) cells ∙ (omega (arith, r, g))
 
-no_done : (begun d : Draft) (nets : List ℕ) → count_by is_done begun.cells ≡ 0 → Fills begun d nets → count_by is_done d.cells ≡ 0
+no_done : (begun d : Draft) (nets : List ℕ) → count_by is_done begun.cells ≡ 0 → Builds begun d nets → count_by is_done d.cells ≡ 0
 no_done begun d nets none f =
     let rest = none_counts f.grows.added f.grows.no_done in
     let sum = sum_by-append (λ x. cond (is_done x) 1 0) begun.cells f.grows.added in
     ap (count_by is_done) f.grows.stands ∙ sum ∙ omega (arith, none, rest)
 
-pub can_end : (begun d : Draft) (nets : List ℕ) (net : ℕ) → count_by is_done begun.cells ≡ 0 → Fills begun d nets → HasNet d net 1 → CanAdd d (done_cell net)
+pub can_end : (begun d : Draft) (nets : List ℕ) (net : ℕ) → count_by is_done begun.cells ≡ 0 → Builds begun d nets → HasNet d net 1 → CanAdd d (done_cell net)
 can_end begun d nets net none f h = record { right = no_done begun d nets none f; drives_promised = tt; drives_new = tt; drives_apart = tt; reads_promised = (h.wide, tt); operands_ready = λ x. (h.ready, tt) }
 
-pub finished : (begun d whole : Draft) (nets : List ℕ) (net : ℕ) → count_by is_done begun.cells ≡ 0 → ((n : ℕ) → IsOpen begun n → Contains nets n) → Fills begun d nets → IsDraft whole → whole.promised ≡ d.promised
+pub finished : (begun d whole : Draft) (nets : List ℕ) (net : ℕ) → count_by is_done begun.cells ≡ 0 → ((n : ℕ) → IsOpen begun n → Contains nets n) → Builds begun d nets → IsDraft whole → whole.promised ≡ d.promised
     → whole.cells ≡ d.cells ++ done_cell net ∷ [] → ((n : ℕ) → driver_count whole.cells n ≡ driver_count d.cells n + 0) → IsComplete whole
 finished begun d whole nets net none stands f draft same cells drivers =
     complete whole draft no_open (ap (count_by is_done) cells ∙ sum_by-append (λ x. cond (is_done x) 1 0) d.cells (done_cell net ∷ []) ∙ ap (λ n. n + 1) (no_done begun d nets none f))

@@ -6,7 +6,7 @@ use Rattle.sp_bank.specs.Places.{bank_length}
 use Rattle.sp_bank.proofs.Gcd.{divides_multiple}
 use Rattle.sp_netlist.specs.Rules.{IsLength}
 use Rattle.sp_netlist.specs.Draft.{Draft}
-use Rattle.sp_gates.specs.Grows.{Fills}
+use Rattle.sp_gates.specs.Grows.{Builds, Fills}
 use Rattle.sp_gates.specs.Nets.{HasNet, Awaits}
 use Rattle.sp_gates.proofs.Growing.{Fills-join}
 use Rattle.sp_mem.specs.Fits.{words_of}
@@ -82,8 +82,8 @@ module _ (stored : Stored) (place y : ℕ) (part : Banked) (h : IsStored stored 
         banks = rw (h.bank, wide, size_is) (stores_kept a d 0 32 2 stores f.grows banks);
       }
 
-  pub store_drives : (a b c d : Draft) (stores : List Store) → Promises a b (flat_map wires_of stores) → Fills b c [] → Fills c d (flat_map wires_of stores ++ words_of part.reads.items) → Fills a d (y ∷ [])
+  pub store_drives : (a b c d : Draft) (stores : List Store) → Promises a b (flat_map wires_of stores) → Fills b c [] → Fills c d (flat_map wires_of stores ++ words_of part.reads.items) → Builds a d (y ∷ [])
   store_drives a b c d stores p f g =
       let r = h.reads in
       let words : words_of part.reads.items ≡ y ∷ [] = ap words_of r.are ∙ rw r.is.word_is refl in
-      subst (Fills a d) words (driven a b d (flat_map wires_of stores) (words_of part.reads.items) p (Fills-join b c d [] (flat_map wires_of stores ++ words_of part.reads.items) f g))
+      subst (Builds a d) words (driven a b d (flat_map wires_of stores) (words_of part.reads.items) p (Fills-join b c d [] (flat_map wires_of stores ++ words_of part.reads.items) f g))

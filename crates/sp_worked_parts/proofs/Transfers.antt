@@ -1,7 +1,7 @@
 -- That the worked transfers can be emitted.
 use Rattle.std.proofs.Common.{◌≡◌, ◌≢◌, ℕ, zero, suc, ◌++◌, List, [], ◌∷◌, length, Contains, refl, sym, ap, subst, ◌∙◌, arith}
 use Rattle.sp_netlist.specs.Draft.{Draft}
-use Rattle.sp_gates.specs.Grows.{Fills}
+use Rattle.sp_gates.specs.Grows.{Builds, Fills}
 use Rattle.sp_gates.specs.Nets.{HasNet, Awaits}
 use Rattle.sp_gates.proofs.Growing.{Fills-join}
 use Rattle.sp_mem.proofs.Waiting.{awaits_open, awaits_beside, awaits_kept}
@@ -76,7 +76,7 @@ awaits_unit a b c d net nets p f g h = awaits_beside c d net 32 nets g not_one (
     not_one : Contains nets net → ⊥
     not_one c = let k = p.fresh net c in let l = (awaits_open a net 32 h).within in absurd (omega (arith, k, l))
 
-pub unit_driven : (a b c d e : Draft) (nets others : List ℕ) → Promises a b nets → Fills b c [] → Fills c d nets → Fills d e others → Fills a e others
+pub unit_driven : (a b c d e : Draft) (nets others : List ℕ) → Promises a b nets → Fills b c [] → Fills c d nets → Fills d e others → Builds a e others
 unit_driven a b c d e nets others p f g h = driven a b e nets others p (Fills-join b c e [] (nets ++ others) f (Fills-join c d e nets others g h))
 
 pub not_other : (y z : ℕ) → y ≢ z → Contains (y ∷ []) z → ⊥

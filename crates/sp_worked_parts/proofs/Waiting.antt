@@ -4,7 +4,7 @@ use Rattle.sp_netlist.specs.declared.parts.Child.{Child}
 use Rattle.sp_netlist.specs.Draft.{Draft}
 use Rattle.sp_gates.specs.Grows.{Fills, Opens}
 use Rattle.sp_gates.specs.Nets.{Awaits, HasNet}
-use Rattle.sp_gates.proofs.Growing.{Awaits-stays, Grows-join, HasNet-stays}
+use Rattle.sp_gates.proofs.Growing.{Awaits-stays, Grows-join, HasNet-stays, more_gates}
 use Rattle.sp_mem.proofs.Waiting.{awaits_open}
 use Rattle.sp_ctrl.specs.Fits.{IsChild}
 
@@ -28,6 +28,7 @@ none_of_four a b c d net p q r s (suc (suc (suc (suc k))), l, e) = absurd (omega
 pub opens_more : (a b c : Draft) (net : ℕ) → Opens a b net → Fills b c [] → Opens a c net
 opens_more a b c net o f = record {
   grows = Grows-join a b c o.grows f.grows;
+  gates = more_gates a b c o.gates f.gates;
   fresh = o.fresh;
   still_open = λ n was. f.still_open n (o.still_open n was) (none_in n);
   no_other = λ n is other. o.no_other n (f.no_other n is).0 other;

@@ -2,7 +2,7 @@
 ghost use Rattle.std.specs.Prelude.{◌≡◌, ℕ, ◌∷◌, [], count_by, All, IfOk, OnOk};
 ghost use Rattle.sp_netlist.specs.Draft.{Draft, IsDraft};
 ghost use Rattle.sp_netlist.specs.Rules.{is_bank};
-ghost use Rattle.sp_gates.specs.Grows.{Fills};
+ghost use Rattle.sp_gates.specs.Grows.{Builds, Fills};
 ghost use Rattle.sp_gates.specs.Nets.{Awaits, HasNet};
 ghost use Rattle.sp_counters.specs.Fits.{IsCounter};
 ghost use Rattle.sp_pipe.specs.Acts.{AreActs};
@@ -164,7 +164,7 @@ fn emit(alloc: Global, builder: &mut Builder, y: NetId, bound: u32) -> Result<Ne
     requires draft { IsDraft builder.old }
     requires banks { count_by is_bank builder.old.cells ≡ 0 }
     requires y { Awaits builder.old y 32 }
-    ensures fills { OnOk result (Fills builder.old builder.new (y ∷ [])) }
+    ensures fills { OnOk result (Builds builder.old builder.new (y ∷ [])) }
     ensures done { IfOk result (λ done. HasNet builder.new done 1) }
 {
     let stores = add_stores(alloc, builder, 0, 2, 32, 2)?;

@@ -2,7 +2,7 @@
 ghost use Rattle.std.specs.Prelude.{◌≡◌, ◌∷◌, [], count_by, IfOk, OnOk};
 ghost use Rattle.sp_netlist.specs.Rules.{dram_width, is_dram, is_unit};
 ghost use Rattle.sp_netlist.specs.Draft.{Draft, IsDraft};
-ghost use Rattle.sp_gates.specs.Grows.{Fills};
+ghost use Rattle.sp_gates.specs.Grows.{Builds};
 ghost use Rattle.sp_gates.specs.Nets.{Awaits, HasNet};
 ghost use Rattle.sp_xfer.specs.Fits.{IsLoaded};
 ghost use Rattle.sp_worked_parts.specs.Slices.{IsLoad, LoadSeen};
@@ -75,7 +75,7 @@ fn emit(
     requires drams { count_by is_dram builder.old.cells ≡ 1 }
     requires words { dram_width builder.old.cells 0 ≡ 32 }
     requires y { Awaits builder.old y 32 }
-    ensures fills { OnOk result (Fills builder.old builder.new (y ∷ [])) }
+    ensures fills { OnOk result (Builds builder.old builder.new (y ∷ [])) }
     ensures done { IfOk result (λ done. HasNet builder.new done 1) }
 {
     let port = add_load(builder, 0, 0, 32)?;

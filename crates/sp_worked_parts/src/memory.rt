@@ -2,7 +2,7 @@
 ghost use Rattle.std.specs.Prelude.{◌≡◌, ◌≢◌, ◌∷◌, [], count_by, IfOk, OnOk};
 ghost use Rattle.sp_netlist.specs.Rules.{is_bank};
 ghost use Rattle.sp_netlist.specs.Draft.{IsDraft};
-ghost use Rattle.sp_gates.specs.Grows.{Fills};
+ghost use Rattle.sp_gates.specs.Grows.{Builds, Fills};
 ghost use Rattle.sp_gates.specs.Nets.{Awaits, HasNet};
 ghost use Rattle.sp_worked_parts.specs.Memory.{AskedFits, IsMemory};
 
@@ -108,7 +108,7 @@ fn emit(
     requires y { Awaits builder.old y 32 }
     requires z { Awaits builder.old z 32 }
     requires apart { y ≢ z }
-    ensures fills { OnOk result (Fills builder.old builder.new (y ∷ z ∷ [])) }
+    ensures fills { OnOk result (Builds builder.old builder.new (y ∷ z ∷ [])) }
     ensures done { IfOk result (λ done. HasNet builder.new done 1) }
 {
     let stores = add_stores(alloc, builder, 0, 4, 32, 2)?;

@@ -2,7 +2,7 @@
 ghost use Rattle.std.specs.Prelude.{◌≡◌, ◌∷◌, [], count_by, IfOk, OnOk};
 ghost use Rattle.sp_netlist.specs.Rules.{is_bank};
 ghost use Rattle.sp_netlist.specs.Draft.{IsDraft};
-ghost use Rattle.sp_gates.specs.Grows.{Fills};
+ghost use Rattle.sp_gates.specs.Grows.{Builds, Fills};
 ghost use Rattle.sp_gates.specs.Nets.{Awaits, HasNet};
 ghost use Rattle.sp_worked_parts.specs.Queue.{AskedFits, IsQueue};
 
@@ -70,7 +70,7 @@ fn emit(alloc: Global, builder: &mut Builder, y: NetId, last: u32) -> Result<Net
     requires draft { IsDraft builder.old }
     requires banks { count_by is_bank builder.old.cells ≡ 0 }
     requires y { Awaits builder.old y 32 }
-    ensures fills { OnOk result (Fills builder.old builder.new (y ∷ [])) }
+    ensures fills { OnOk result (Builds builder.old builder.new (y ∷ [])) }
     ensures done { IfOk result (λ done. HasNet builder.new done 1) }
 {
     let stores = add_stores(alloc, builder, 0, 1, 32, 4)?;

@@ -4,6 +4,7 @@ use Rattle.sp_core.specs.Plain.{plain_ops}
 use Rattle.sp_pipe.specs.Acts.{AreActs, HasWord}
 use Rattle.sp_pipe.specs.Right.{IsTaken, OpsFit}
 use Rattle.sp_op_nets.specs.Acted.{answers_of}
+use Rattle.sp_op_nets.proofs.Answering.{have_nets, come_after}
 use Rattle.sp_bound_nets.proofs.Standing.{fits, is_direct, reserves_on, right_of, some_there, taken}
 use Rattle.sp_bound_nets.proofs.direct.emit_direct.Goals as goal
 
@@ -26,6 +27,8 @@ returns-clause-reserves c = reserves_on _ _ _ _ (answers_of c.in_ok-placed.place
 
 pub returns-clause-acted : goal.returns-clause-acted
 returns-clause-acted c =
+    let mid = c.ops_at_once.new.builder in
+    let w = c.in_ok-placed.ensures.placed in
     let new = c.emit_list.new.builder in
     let grown = c.in_ok-list.ensures.fills.grows in
     let acts = subst (λ ps. AreActs new c.in_ok-always.always ps ps c.in_ok-list.list.nets.items) c.deref.ensures.value c.in_ok-list.ensures.acts in
@@ -36,6 +39,8 @@ returns-clause-acted c =
         always = IsOne-stays c.one.new.builder new c.in_ok-always.always grown c.in_ok-always.ensures.one;
         acted = record { first = refl; ops = refl; acts = acts };
       };
+      answers = have_nets mid new c.args.around.now c.args.ops.now w.zeros w.zeros w.nets c.in_ok-placed.placed.items w.nets_of w.placed (Grows-join mid c.one.new.builder new c.in_ok-always.ensures.fills.grows grown);
+      at_once = come_after mid c.args.around.now c.args.ops.now w.zeros w.zeros w.nets c.in_ok-placed.placed.items (λ op. 0) w.nets_of w.placed (λ k op there. w.each_zero k);
     }
 
 pub returns-clause-direct : goal.returns-clause-direct

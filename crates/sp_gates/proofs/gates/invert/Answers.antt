@@ -7,7 +7,7 @@ pub returns-clause-fills : goal.returns-clause-fills
 returns-clause-fills c =
     let p = c.in_ok-net.ensures in
     let a = c.in_ok-add.ensures in
-    gate_fills _ c.promise.new.self c.add.new.self _ _ c.width.result refl (λ bank. refl) p.same_cells a.added p.keeps a.keeps a.draft p.net p.one_more a.same_nets a.drivers
+    gate_fills _ c.promise.new.self c.add.new.self _ _ c.width.result refl refl (λ bank. refl) p.same_cells a.added p.keeps a.keeps a.draft p.net p.one_more a.same_nets a.drivers
 
 pub returns-clause-word : goal.returns-clause-word
 returns-clause-word c = λ s run. last_obeyed s _ _ _ c.in_ok-add.ensures.added run

@@ -3,7 +3,7 @@ use Rattle.sp_core.specs.Plain.{plain_counter}
 use Rattle.sp_node_runs.specs.BodiesGiven.{values_of}
 use Rattle.sp_around_tables.specs.Inside.{IsInside}
 use Rattle.sp_bound_nets.specs.Bounds.{bound_lists}
-use Rattle.sp_inner_circuits.proofs.Kept.{lists_kept}
+use Rattle.sp_bound_nets.proofs.Acting.{lists_kept}
 use Rattle.sp_inner_circuits.proofs.Grouping.{right_opened, awaits_new, all_reserved, stands, is_counting, some_plain}
 use Rattle.sp_inner_circuits.proofs.counting.count_groups.Goals as goal
 

@@ -13,7 +13,7 @@ use Rattle.sp_op_nets.proofs.Driving.{stay}
 use Rattle.sp_list_circuits.specs.Timed.{AreRightHere, AreTimed, IsIssuedList}
 use Rattle.sp_inner_circuits.specs.Inner.{IsInner, IsInnerActed}
 use Rattle.sp_bound_nets.specs.Bounds.{bound_lists}
-use Rattle.sp_inner_circuits.proofs.Kept.{lists_kept}
+use Rattle.sp_bound_nets.proofs.Acting.{lists_kept}
 use Rattle.sp_inner_circuits.proofs.Grouping.{some_plain}
 use Rattle.sp_inner_circuits.proofs.Issuing.{right_inside, right_counters, counted_reserves, counted_inner}
 use Rattle.sp_inner_circuits.proofs.Single.{own_issued, ops_right, part_fits, fit}
@@ -75,14 +75,14 @@ returns-clause-acted c =
     let new = c.emit_body.new.builder in
     let next = c.args.number + c.counters_size.result in
     let own = c.in_ok-body.body.acted in
-    let issued : IsIssuedList new next ops own =
-    own_issued c.planned_ops.new.builder new core c.deref.result.now c.args.ops.now (times_of p) c.in_ok-placed.placed.items c.in_ok-placed.ensures.timed p c.args.start next (Some c.in_ok-counting.counting.groups) c.in_ok-part.part c.in_ok-body.body.child own c.in_ok-part.ensures
+    let issued : IsIssuedList new core next ops own =
+    own_issued c.planned_ops.new.builder new core c.deref.result.now c.args.ops.now (times_of p) c.in_ok-placed.placed.items c.in_ok-placed.ensures.timed p c.args.start next (Some c.in_ok-counting.counting.groups) c.in_ok-part.part c.in_ok-body.body.child own c.in_ok-body.ensures.fills.grows c.in_ok-part.ensures
     c.in_ok-body.ensures.body in
-    subst (IsInnerActed new c.args.number counters ops) (sym c.in_ok-push.ensures.items)
+    subst (IsInnerActed new core c.args.number counters ops) (sym c.in_ok-push.ensures.items)
     (record {
       bounds = c.in_ok-counting.counting.acted.items;
       own = own;
       are = refl;
       of_bounds = lists_kept c.count_groups.new.builder new (Grows-join _ _ _ c.in_ok-placed.ensures.reserves.grows c.in_ok-body.ensures.fills.grows) c.args.number (bound_lists counters) c.in_ok-counting.counting.acted.items c.in_ok-counting.ensures.acted;
-      of_own = subst (λ n. IsIssuedList new n ops own) (ap (λ n. c.args.number + n) c.counters_size.ensures) issued;
+      of_own = subst (λ n. IsIssuedList new core n ops own) (ap (λ n. c.args.number + n) c.counters_size.ensures) issued;
     })

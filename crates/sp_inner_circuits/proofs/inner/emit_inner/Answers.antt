@@ -15,4 +15,4 @@ returns-then-is_empty-clause-inner c =
 
 pub returns-then-is_empty-clause-acted : goal.returns-then-is_empty-clause-acted
 returns-then-is_empty-clause-acted c =
-    subst (λ (cs : List PlainCounter). IsInnerActed c.emit_single.new.builder c.args.number cs (plain_ops c.args.ops.now) c.in_ok-inner.inner.acted.items) (sym (no_plain c.args.counters.now c.if-is_empty.ensures)) c.in_ok-inner.ensures.acted
+    subst (λ (cs : List PlainCounter). IsInnerActed c.emit_single.new.builder (plain_core c.args.core.now) c.args.number cs (plain_ops c.args.ops.now) c.in_ok-inner.inner.acted.items) (sym (no_plain c.args.counters.now c.if-is_empty.ensures)) c.in_ok-inner.ensures.acted

@@ -46,7 +46,7 @@ returns-clause-acted c =
     let ops = plain_ops c.args.ops.now in
     let p = plain_node_plan c.args.plan.now in
     let one = c.in_ok-push.ensures.items ∙ ap (λ (xs : List ActedList). xs ++ c.in_ok-body.body.acted ∷ []) c.new-acted.ensures.items in
-    subst (IsInnerActed c.emit_body.new.builder c.args.number [] ops) (sym one)
-    (single_acted c.emit_body.new.builder c.args.number ops c.in_ok-body.body.acted
+    subst (IsInnerActed c.emit_body.new.builder core c.args.number [] ops) (sym one)
+    (single_acted c.emit_body.new.builder core c.args.number ops c.in_ok-body.body.acted
     (own_issued c.planned_ops.new.builder c.emit_body.new.builder core c.args.around.now c.args.ops.now (times_of p) c.in_ok-placed.placed.items c.in_ok-placed.ensures.timed p c.args.start c.args.number None c.in_ok-part.part c.in_ok-body.body.child
-    c.in_ok-body.body.acted c.in_ok-part.ensures c.in_ok-body.ensures.body))
+    c.in_ok-body.body.acted c.in_ok-body.ensures.fills.grows c.in_ok-part.ensures c.in_ok-body.ensures.body))

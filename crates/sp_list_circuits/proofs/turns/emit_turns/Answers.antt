@@ -13,7 +13,7 @@ use Rattle.sp_pipe.specs.Issues.{IssuesOne}
 use Rattle.sp_pipe.specs.Right.{IsTaken, OpsFit}
 use Rattle.sp_node_runs.specs.BodiesLists.{turn_time}
 use Rattle.sp_op_nets.specs.Acted.{answers_of}
-use Rattle.sp_list_circuits.proofs.Placing.{fits, reserves_on}
+use Rattle.sp_list_circuits.proofs.Placing.{answered_after, answers_stand, fits, reserves_on}
 use Rattle.sp_list_circuits.proofs.Turning.{right_of, some_there, turns_leave, taken, in_turns}
 use Rattle.sp_list_circuits.proofs.turns.emit_turns.Goals as goal
 
@@ -76,4 +76,8 @@ returns-clause-acted c =
       net = HasNet-stays _ _ _ _ c.in_ok-list.ensures.fills.grows c.in_ok-nets.ensures.issue;
       ops_of = c.in_ok-placed.ensures.timed.placed.ops_of;
       acts = record { first = refl; ops = refl; acts = acts };
+      answers =
+          answers_stand c.timed_ops.new.builder (plain_core c.args.core.now) c.args.around.now c.args.ops.now c.deref.result.now c.in_ok-placed.placed.items c.in_ok-placed.ensures.timed c.emit_list.new.builder
+          (Grows-join _ _ _ c.in_ok-nets.ensures.fills.grows c.in_ok-list.ensures.fills.grows);
+      after = answered_after c.timed_ops.new.builder (plain_core c.args.core.now) c.args.around.now c.args.ops.now c.deref.result.now c.in_ok-placed.placed.items c.in_ok-placed.ensures.timed;
     }
