@@ -11,5 +11,5 @@ pub use laws::{
     each_has_access, each_is_of_operation, picks_accesses_to, reserved_are_answers,
     rules_name_memories, worked_accesses,
 };
-pub use picking::accesses_to;
+pub use picking::{accesses_to, is_to};
 pub use splitting::accesses_of;

@@ -21,7 +21,8 @@ fn is_same_access(kind: OpKind, other: OpKind) -> bool
     }
 }
 
-fn is_to(access: &AccessNets, mem: u32, kind: OpKind) -> bool
+/// Whether an access is one of this kind to this memory.
+pub fn is_to(access: &AccessNets, mem: u32, kind: OpKind) -> bool
     ensures { result ≡ is_to mem kind access.now }
 {
     access.mem == mem && is_same_access(kind, access.kind)

@@ -208,7 +208,7 @@ module _ (core : PlainCore) (plan : PlainPlan) (delays : Delays) (tells : (node 
   run_of : (q : Scoped) → Contains qs q → Contains (placed qs) q.run
   run_of q c = mapped_to (λ (q : Scoped). q.run) qs q c
 
-  made : (t c w : ℕ) → t ≤ last → Shows whole t c (kept state w) → ((is_on s one t ≡ true) × (copy_at s t copy ≡ c)) ⊎ ((is_on s other t ≡ true) × (copy_at s t next_copy ≡ c))
+  made : (t c w : ℕ) → t ≤ last → Shows whole t c (kept state w) → ((is_on s one t ≡ true) × (copy_at s t copy ≡ c) × (s.net t word ≡ w)) ⊎ ((is_on s other t ≡ true) × (copy_at s t next_copy ≡ c) × (s.net t next_word ≡ w))
   made t c w late h =
       let x = some_weigh t c (kept state w) _ h in
       let e = same_weight t c w in
@@ -218,17 +218,19 @@ module _ (core : PlainCore) (plan : PlainPlan) (delays : Delays) (tells : (node 
       by q.0 q.1 (alone_are core state plan delays k n start test body next q.0 q.0.run.history refl (machine_at core plan delays (placed qs) machines q.0.run (run_of q.0 q.1)) t c w shown)
     where
       by : (q : Scoped) → Contains qs q → IsEnd core state start (start_list core plan delays k n start test body next q ∷ []) t c w ⊎ IsEnd core state next (next_lists_in core plan delays k n start test body next q q.run.history) t c w
-          → ((is_on s one t ≡ true) × (copy_at s t copy ≡ c)) ⊎ ((is_on s other t ≡ true) × (copy_at s t next_copy ≡ c))
+          → ((is_on s one t ≡ true) × (copy_at s t copy ≡ c) × (s.net t word ≡ w)) ⊎ ((is_on s other t ≡ true) × (copy_at s t next_copy ≡ c) × (s.net t next_word ≡ w))
       by q at (inl z) =
           let there : Contains (map (start_list core plan delays k n start test body next) qs) z.run = is_first z.there (mapped_to (start_list core plan delays k n start test body next) qs q at) in
-          inl (first.ends.on t late (list_ran core start z.run, mapped_to (list_ran core start) _ z.run there, z.cycle), (first.gives z.run t there z.cycle late).1 ∙ sym z.copy)
+          let gives = first.gives z.run t there z.cycle late in
+          inl (first.ends.on t late (list_ran core start z.run, mapped_to (list_ran core start) _ z.run there, z.cycle), gives.1 ∙ sym z.copy, gives.0 ∙ sym z.word)
         where
           is_first : Contains (start_list core plan delays k n start test body next q ∷ []) z.run → Contains (map (start_list core plan delays k n start test body next) qs) (start_list core plan delays k n start test body next q) → Contains (map (start_list core plan delays k n start test body next) qs) z.run
           is_first (zero, l, e) d = subst (Contains (map (start_list core plan delays k n start test body next) qs)) e d
           is_first (suc i, l, e) d = absurd (omega (arith, l))
       by q at (inr z) =
           let there : Contains (next_lists core plan delays k n start test body next qs) z.run = joined_to (λ (q : Scoped). next_lists_in core plan delays k n start test body next q q.run.history) qs q z.run at z.there in
-          inr (later_one.ends.on t late (list_ran core next z.run, mapped_to (list_ran core next) _ z.run there, z.cycle), (later_one.gives z.run t there z.cycle late).1 ∙ sym z.copy)
+          let gives = later_one.gives z.run t there z.cycle late in
+          inr (later_one.ends.on t late (list_ran core next z.run, mapped_to (list_ran core next) _ z.run there, z.cycle), gives.1 ∙ sym z.copy, gives.0 ∙ sym z.word)
 
   starts : (t : ℕ) → t ≤ last → is_on s one t ≡ true → Shows whole t (copy_at s t copy) (kept state (s.net t word))
   starts t late h =

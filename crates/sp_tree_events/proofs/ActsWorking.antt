@@ -25,11 +25,19 @@ on_at t e = subst (λ u. is_on waves 0 u ≡ true) (sym e) refl
 shown : (d : Deed) (t : ℕ) → t ≡ 3 → Shows (in_three (moment_of d)) t 0 d
 shown d t e = subst (λ u. Shows (in_three (moment_of d)) u 0 d) (sym e) (0, omega arith, refl)
 
+-- and its word is 5
+is_five : (t c w : ℕ) → Shows (in_three (keeps 4 5)) t c (kept 4 w) → 5 ≡ w
+is_five t c w (zero, l, e) = same_word (ap (λ (y : Stamped). y.moment) e)
+  where
+    same_word : keeps 4 5 ≡ keeps 4 w → 5 ≡ w
+    same_word q = cc (q)
+is_five t c w (suc i, l, e) = absurd (omega (arith, l))
+
 pub worked : WorkedOwners
 worked = record {
   loop = λ last. record { made = λ t c l h. (let e = at_three (renews 2) t c (renewed 2) h in (on_at t e.0, sym e.1)); only = λ t l h. shown (renewed 2) t (on_in t h) };
   machine = λ last. record {
-    made = λ t c w l h. (let e = at_three (keeps 4 5) t c (kept 4 w) h in inl (on_at t e.0, sym e.1));
+    made = λ t c w l h. (let e = at_three (keeps 4 5) t c (kept 4 w) h in inl (on_at t e.0, sym e.1, is_five t c w h));
     first = λ t l h. shown (kept 4 5) t (on_in t h);
     next = λ t l h. absurd (true≢false (sym h));
   };

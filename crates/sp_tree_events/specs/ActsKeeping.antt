@@ -29,7 +29,7 @@ pub record GivesState (core : PlainCore) (s : Signals) (last state : ℕ) (ops :
 
 -- up to a cycle the state is kept where either of two wires is 1 and nowhere else, with their words at their copies
 pub record Keeps (s : Signals) (events : List Stamped) (state : ℕ) (one word : ℕ) (copy : Option ℕ) (other next_word : ℕ) (next_copy : Option ℕ) (last : ℕ) : Type 0 where
-  pub made : (t c w : ℕ) → t ≤ last → Shows events t c (kept state w) → ((is_on s one t ≡ true) × (copy_at s t copy ≡ c)) ⊎ ((is_on s other t ≡ true) × (copy_at s t next_copy ≡ c))
+  pub made : (t c w : ℕ) → t ≤ last → Shows events t c (kept state w) → ((is_on s one t ≡ true) × (copy_at s t copy ≡ c) × (s.net t word ≡ w)) ⊎ ((is_on s other t ≡ true) × (copy_at s t next_copy ≡ c) × (s.net t next_word ≡ w))
   pub first : (t : ℕ) → t ≤ last → is_on s one t ≡ true → Shows events t (copy_at s t copy) (kept state (s.net t word))
   pub next : (t : ℕ) → t ≤ last → is_on s other t ≡ true → Shows events t (copy_at s t next_copy) (kept state (s.net t next_word))
 

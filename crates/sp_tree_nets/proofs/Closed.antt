@@ -48,6 +48,9 @@ use Rattle.sp_stage_members.specs.Circuits.{MembersAreCircuits, SingleLanesAreFi
 use Rattle.sp_stage_members.specs.Members.{part_at, starts_in}
 use Rattle.sp_loop_circuits.specs.Laws.{ArePartsOf}
 use Rattle.sp_loop_circuits.specs.Loops.{IsClosed}
+use Rattle.sp_tree_handed.specs.declared.owners.Keeping.{Keeping}
+use Rattle.sp_tree_handed.specs.declared.owners.Renewal.{Renewal}
+use Rattle.sp_tree_handed.specs.Owners.{renewed_by}
 use Rattle.sp_tree_nets.specs.Emitted.{CanEmit, IsTree}
 use Rattle.sp_tree_nets.specs.Stages.{AreStages, CanEmitStages, StagesIn, AreDivided, to_one}
 use Rattle.sp_tree_nets.proofs.Dividing.{ones_behind, others_behind, is_other, one_there, each_there, none_in_both}
@@ -121,8 +124,8 @@ own_masks : (counters : List PlainCounter) (begun : OpenLoop) → AreMasksOf cou
 own_masks [] begun = tt
 own_masks (c ∷ counters) begun = refl
 
-module _ (a b c : Draft) (core : PlainCore) (plan : PlainPlan) (table : List AroundNets) (begun : OpenLoop) (counters : List PlainCounter) (stages : PlainStages) (slots : List ℕ) (k n : ℕ) (bs : List ActedList) (parts : List StagePart) (xs : List ActedList)
-    (was : Reserves a b (begun.part.step ∷ (answers_in bs ++ row_nets begun.rows.rows.items))) (st : AreStages b c core plan table begun counters stages slots (k + 1) (n + counters_size counters) parts xs) where
+module _ (a b c : Draft) (core : PlainCore) (plan : PlainPlan) (table : List AroundNets) (begun : OpenLoop) (counters : List PlainCounter) (stages : PlainStages) (slots : List ℕ) (k n : ℕ) (bs : List ActedList) (parts : List StagePart) (xs : List ActedList) (rs : List Renewal) (ks : List Keeping)
+    (was : Reserves a b (begun.part.step ∷ (answers_in bs ++ row_nets begun.rows.rows.items))) (st : AreStages b c core plan table begun counters stages slots (k + 1) (n + counters_size counters) parts xs rs ks) where
   pub all_reserved : Reserves a c (begun.part.step ∷ (answers_in bs ++ (row_nets begun.rows.rows.items ++ st.nets)))
   all_reserved =
       subst (λ ns. Reserves a c (begun.part.step ∷ ns)) (append_assoc (answers_in bs) (row_nets begun.rows.rows.items) st.nets)
@@ -178,6 +181,7 @@ module _ (a b c : Draft) (core : PlainCore) (plan : PlainPlan) (table : List Aro
       pub loop_is : (d : Draft) (places : List (List (List ℕ))) (firsts : List ℕ) (done : ℕ) (style : Style) (owned : List ℕ) → Grows c d → IsClosed d begun parts places firsts done → ((s : Signals) → RunsOn s b.cells → CountsGroups s begun.part begun.nets)
           → HasBounds a b table n counters begun.part.counters.items bs → length begun.rows.rows.items ≡ length places → AreArranged places (slots_of (node_plan plan k)) → length (slots_of (node_plan plan k)) ≡ stage_count stages
           → slots ≡ slot_numbers (node_plan plan k) → MembersAreCircuits → RowsTakeWords → IsTree a d core plan table (outer counters style owned stages) k n (record { start = begun.part.start; done = done }) (bs ++ xs)
+          (renewed_by core (node_plan plan k) stages firsts owned ++ rs) ks
       loop_is d places firsts done style owned g closed counts has each arranged size slots_are members taken around earlier is stand s run =
           let p = node_plan plan k in
           let at_c = runs_earlier c d s g run in
@@ -189,7 +193,7 @@ module _ (a b c : Draft) (core : PlainCore) (plan : PlainPlan) (table : List Aro
           let nets = λ (i : ℕ). slot_nets begun.nets begun.rows.rows.items (nets_at table) counters (slot_at (slots_of p) i).slot in
           let child = λ (i : ℕ). (part_at parts i).child in
           let inside =
-          subst (λ j. StagesIn core plan s (own_near counters around.counters) stages j (n + counters_size counters) 0 nets child xs) (omega arith)
+          subst (λ j. StagesIn core plan s (own_near counters around.counters) stages j (n + counters_size counters) 0 nets child xs rs ks) (omega arith)
           (st.trees around (earlier ++ owned) owned is.1 (stand_later a b table around.counters was.grows stand) s at_c 0 nets child
           (λ m at e lt. ap (λ x. slot_nets begun.nets begun.rows.rows.items (nets_at table) counters x) (ap (λ q. (slot_at (slots_of p) q).slot) (plain_at m at e) ∙ plan_slot p m (let z = size in omega (arith, lt, z)) ∙ ap (λ ss. slice_index ss m) (sym slots_are)))
           (λ m at e lt. ap child (plain_at m at e))) in
@@ -217,6 +221,7 @@ module _ (a b c : Draft) (core : PlainCore) (plan : PlainPlan) (table : List Aro
               parts = inside.circuits;
             };
             handed = record { bounds = bs; inside = xs; all = refl; bound = bounds.acts; stand = inside.handed };
+            owners = record { rest = rs; renewed_are = refl; stages = inside.owners };
           }
         where
           plain_at : (m at : ℕ) → at ≡ 0 + m → at ≡ m

@@ -4,8 +4,10 @@ mod Dividing
 mod Going
 mod Lanes
 mod Later
+mod Listed
 mod Opened
 mod Planned
+mod Renewing
 mod Rounds
 mod Sides
 mod Small

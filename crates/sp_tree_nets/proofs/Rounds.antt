@@ -31,6 +31,9 @@ use Rattle.sp_op_nets.proofs.Driving.{some_driven, stay}
 use Rattle.sp_op_nets.proofs.Reserving.{reserved_join}
 use Rattle.sp_list_circuits.specs.Turns.{IsInTurns, IsWordRight}
 use Rattle.sp_inner_circuits.specs.Inner.{IsInner, IsInnerRight, IsPlanned}
+use Rattle.sp_tree_handed.specs.declared.owners.Keeping.{Keeping}
+use Rattle.sp_tree_handed.specs.declared.owners.Renewal.{Renewal}
+use Rattle.sp_tree_handed.specs.Owners.{keeping}
 use Rattle.sp_tree_nets.specs.Emitted.{CanEmit, IsTree}
 use Rattle.sp_tree_nets.proofs.Later.{stand_later}
 use Rattle.sp_tree_nets.proofs.Sides.{answers_append, list_right, node_right, one_more}
@@ -112,10 +115,11 @@ machine_answers first test body next =
     ∙ ap (λ ns. answers_of first.ops.items ++ (answers_of test.ops.items ++ ns)) (ap (λ ns. answers_in body ++ ns) (sym (append-nil (answers_of next.ops.items))) ∙ sym (answers_append body (next ∷ [])))
 
 module _ (a b c d e : Draft) (core : PlainCore) (plan : PlainPlan) (table : List AroundNets) (start : List PlainOp) (state : ℕ) (test : List PlainOp) (body : PlainNode) (next : List PlainOp) (k n : ℕ) (begin done : ℕ) (first : Child) (begun : ℕ)
-    (check : Child) (tested : ℕ) (work : Child) (step : Child) (stepped : ℕ) (x y : ActedList) (xs : List ActedList) (z : ActedList) where
+    (check : Child) (tested : ℕ) (work : Child) (step : Child) (stepped : ℕ) (x y : ActedList) (xs : List ActedList) (z : ActedList) (rs : List Renewal) (ps : List Keeping) where
   pub machine_is : Grows a b → Grows b c → Grows c d → Grows d e → IsInTurns a b core table n start first begun x → IsInTurns a b core table (n + length start) test check tested y
-      → IsTree b c core plan table body (k + 1) (n + (length start + length test)) work xs → IsInTurns c d core table (n + (length start + length test) + number_count body) next step stepped z
-      → ((s : Signals) → RunsOn s e.cells → RunsFsm s begin first check tested work step done) → IsTree a e core plan table (fsm start state test body next) k n (record { start = begin; done = done }) (x ∷ y ∷ (xs ++ z ∷ []))
+      → IsTree b c core plan table body (k + 1) (n + (length start + length test)) work xs rs ps → IsInTurns c d core table (n + (length start + length test) + number_count body) next step stepped z
+      → ((s : Signals) → RunsOn s e.cells → RunsFsm s begin first check tested work step done) → IsTree a e core plan table (fsm start state test body next) k n (record { start = begin; done = done }) (x ∷ y ∷ (xs ++ z ∷ [])) rs
+      ((keeping state first.done begun ∷ keeping state step.done stepped ∷ []) ++ ps)
   machine_is g h i j firsts tests tree nexts runs around earlier is stand s run =
       let right = machine_right core around earlier start state test body next is.0 in
       let inside = with_state core around state in
@@ -124,7 +128,7 @@ module _ (a b c d e : Draft) (core : PlainCore) (plan : PlainPlan) (table : List
       let at_b = runs_earlier b c s h at_c in
       let first_is = firsts plan around (list_right core around start (mem core state).ty right.0) stand s at_b in
       let test_is = tests plan inside (list_right core inside test Bit right.1) stand s at_b in
-      let body_is = subst (λ m. IsTree b c core plan table body m (n + (length start + length test)) work xs) (sym (one_more k)) tree inside (earlier ++ state ∷ []) is.1 (stand_later a b table around.counters g stand) s at_c in
+      let body_is = subst (λ m. IsTree b c core plan table body m (n + (length start + length test)) work xs rs ps) (sym (one_more k)) tree inside (earlier ++ state ∷ []) is.1 (stand_later a b table around.counters g stand) s at_c in
       let next_is = subst (λ m. IsInTurns c d core table m next step stepped z) (omega arith) nexts plan inside (list_right core inside next (mem core state).ty right.2) (stand_later a c table around.counters (Grows-join a b c g h) stand) s at_d in
       record {
         circuit = record {
@@ -142,6 +146,7 @@ module _ (a b c d e : Draft) (core : PlainCore) (plan : PlainPlan) (table : List
           goes = body_is.circuit;
         };
         handed = record { first = x; test = y; body = xs; next = z; all = refl; begins = first_is.acted; tests = test_is.acted; goes = body_is.handed; steps = next_is.acted };
+        owners = record { rest = ps; kept_are = refl; body = body_is.owners };
       }
 
 module _ (a b : Draft) (core : PlainCore) (plan : PlainPlan) (table : List AroundNets) (counters : List PlainCounter) (owned : List ℕ) (ops : List PlainOp) (comb : Option ℕ) (k n : ℕ) where
@@ -151,7 +156,15 @@ module _ (a b : Draft) (core : PlainCore) (plan : PlainPlan) (table : List Aroun
   pub inner_planned : (p : PlainNodePlan) → p ≡ node_plan plan k → CanEmit a core plan table (inner counters owned ops comb) k n → IsPlanned core ops p
   inner_planned p e can = subst (IsPlanned core ops) (sym e) (record { many = can.times.each; paced = can.times.paced; leave = can.times.leaves })
 
-  pub inner_is : (p : PlainNodePlan) (child : Child) (acted : List ActedList) → p ≡ node_plan plan k → IsInner a b core table p n counters ops child acted → IsTree a b core plan table (inner counters owned ops comb) k n child acted
+  pub inner_is : (p : PlainNodePlan) (child : Child) (acted : List ActedList) → p ≡ node_plan plan k → IsInner a b core table p n counters ops child acted → IsTree a b core plan table (inner counters owned ops comb) k n child acted [] []
   inner_is p child acted e body around earlier right stand s run =
       let w = body plan k around owned comb (sym e) (node_right core around earlier (inner counters owned ops comb) right) stand s run in
-      record { circuit = w.circuit; handed = record { bounds = w.bounds; inside = w.own ∷ []; all = w.are; bound = w.of_bounds; stand = w.of_own } }
+      record { circuit = w.circuit; handed = record { bounds = w.bounds; inside = w.own ∷ []; all = w.are; bound = w.of_bounds; stand = w.of_own }; owners = (refl, refl) }
+
+  -- by the node as its function takes it
+  pub inner_tree : (node : PlainNode) → node ≡ inner counters owned ops comb → (renewed : List Renewal) (kept : List Keeping) → renewed ≡ [] → kept ≡ [] → (p : PlainNodePlan) (child : Child) (acted : List ActedList) → p ≡ node_plan plan k
+      → IsInner a b core table p n counters ops child acted → IsTree a b core plan table node k n child acted renewed kept
+  inner_tree node is renewed kept renewed_is kept_is p child acted e body =
+      subst (λ v. IsTree a b core plan table v k n child acted renewed kept) (sym is)
+      (subst (λ v. IsTree a b core plan table (inner counters owned ops comb) k n child acted v kept) (sym renewed_is)
+      (subst (λ v. IsTree a b core plan table (inner counters owned ops comb) k n child acted [] v) (sym kept_is) (inner_is p child acted e body)))

@@ -31,6 +31,8 @@ use Rattle.sp_op_nets.specs.Reserved.{Reserves}
 use Rattle.sp_op_nets.proofs.Driving.{some_driven, stay}
 use Rattle.sp_op_nets.proofs.Reserving.{reserved_join}
 use Rattle.sp_list_circuits.specs.Turns.{IsInTurns, IsWordRight}
+use Rattle.sp_tree_handed.specs.declared.owners.Keeping.{Keeping}
+use Rattle.sp_tree_handed.specs.declared.owners.Renewal.{Renewal}
 use Rattle.sp_tree_nets.specs.Emitted.{CanEmit, IsTree}
 use Rattle.sp_tree_nets.proofs.Later.{stand_later}
 
@@ -111,18 +113,20 @@ module _ (a b c d : Draft) (start : ℕ) (test : Child) (tested : ℕ) (one othe
       some_driven a d e (test.start ∷ first ∷ second ∷ []) (xs ++ (ys ++ zs)) (test.start ∷ first ∷ second ∷ []) (subst (λ ns. Reserves a d (test.start ∷ first ∷ second ∷ ns)) (append_assoc xs ys zs) all)
       (subst (λ ns. Fills d e ns) same fills) (λ n h. h) (λ n h. h)
 
-module _ (a b c d e : Draft) (core : PlainCore) (plan : PlainPlan) (table : List AroundNets) (ops : List PlainOp) (first second : PlainNode) (k n : ℕ) (start done : ℕ) (test : Child) (tested : ℕ) (one other : Child) (list : ActedList) (xs ys : List ActedList) where
-  pub branch_is : Grows a b → Grows b c → Grows c d → Grows d e → IsInTurns a b core table n ops test tested list → IsTree b c core plan table first (k + 1) (n + length ops) one xs
-      → IsTree c d core plan table second (k + 1 + node_count first) (n + length ops + number_count first) other ys → ((s : Signals) → RunsOn s e.cells → RunsBranch s start test tested one other done)
-      → IsTree a e core plan table (branch ops first second) k n (record { start = start; done = done }) (list ∷ (xs ++ ys))
+module _ (a b c d e : Draft) (core : PlainCore) (plan : PlainPlan) (table : List AroundNets) (ops : List PlainOp) (first second : PlainNode) (k n : ℕ) (start done : ℕ) (test : Child) (tested : ℕ) (one other : Child) (list : ActedList) (xs ys : List ActedList)
+    (rs ss : List Renewal) (ps qs : List Keeping) where
+  pub branch_is : Grows a b → Grows b c → Grows c d → Grows d e → IsInTurns a b core table n ops test tested list → IsTree b c core plan table first (k + 1) (n + length ops) one xs rs ps
+      → IsTree c d core plan table second (k + 1 + node_count first) (n + length ops + number_count first) other ys ss qs → ((s : Signals) → RunsOn s e.cells → RunsBranch s start test tested one other done)
+      → IsTree a e core plan table (branch ops first second) k n (record { start = start; done = done }) (list ∷ (xs ++ ys)) (rs ++ ss) (ps ++ qs)
   branch_is g h i j turns left right runs around earlier is stand s run =
       let at_d = runs_earlier d e s j run in
       let at_c = runs_earlier c d s i at_d in
       let tests = turns plan around (list_right core around ops Bit (node_right core around earlier (branch ops first second) is.0)) stand s (runs_earlier b c s h at_c) in
-      let one_is = subst (λ m. IsTree b c core plan table first m (n + length ops) one xs) (sym (one_more k)) left around earlier is.1 (stand_later a b table around.counters g stand) s at_c in
-      let other_is = subst (λ m. IsTree c d core plan table second m (n + (length ops + number_count first)) other ys) (sym (ap (λ m. m + node_count first) (one_more k)))
-      (subst (λ m. IsTree c d core plan table second (k + 1 + node_count first) m other ys) (add_assoc n (length ops) (number_count first)) right) around (earlier ++ owned_in first) is.2 (stand_later a c table around.counters (Grows-join a b c g h) stand) s at_d in
+      let one_is = subst (λ m. IsTree b c core plan table first m (n + length ops) one xs rs ps) (sym (one_more k)) left around earlier is.1 (stand_later a b table around.counters g stand) s at_c in
+      let other_is = subst (λ m. IsTree c d core plan table second m (n + (length ops + number_count first)) other ys ss qs) (sym (ap (λ m. m + node_count first) (one_more k)))
+      (subst (λ m. IsTree c d core plan table second (k + 1 + node_count first) m other ys ss qs) (add_assoc n (length ops) (number_count first)) right) around (earlier ++ owned_in first) is.2 (stand_later a c table around.counters (Grows-join a b c g h) stand) s at_d in
       record {
         circuit = record { test = test; tested = tested; chosen = one; left = other; circuit = runs s run; tests = tests.circuit; one = one_is.circuit; other = other_is.circuit };
         handed = record { test = list; one = xs; other = ys; all = refl; tests = tests.acted; firsts = one_is.handed; seconds = other_is.handed };
+        owners = record { one = rs; other = ss; one_kept = ps; other_kept = qs; renewed_are = refl; kept_are = refl; first = one_is.owners; second = other_is.owners };
       }

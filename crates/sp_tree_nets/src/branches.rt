@@ -12,6 +12,8 @@ ghost use Rattle.sp_ctrl.specs.Runs.{RunsBranch};
 ghost use Rattle.sp_op_nets.specs.Acted.{answers_of};
 ghost use Rattle.sp_op_nets.specs.Reserved.{Reserves};
 ghost use Rattle.sp_list_circuits.specs.Turns.{IsInTurns, IsWordRight};
+ghost use Rattle.sp_tree_handed.specs.Lists.{numbered};
+ghost use Rattle.sp_tree_handed.specs.Standing.{IsListStanding};
 
 use crate::tree::append;
 use sp_core::{Core, Op};
@@ -50,6 +52,7 @@ pub(crate) fn begin_branch(
     ensures no_net { IfOk result (λ begun. HasNet builder.new begun.no 1) }
     ensures done { IfOk result (λ begun. HasNet builder.new begun.test.child.done 1) }
     ensures word { IfOk result (λ begun. HasNet builder.new begun.test.word 1) }
+    ensures list { IfOk result (λ begun. IsListStanding builder.new (plain_core core.now) (numbered number (plain_ops test.now)) begun.test.acted) }
     ensures turns { IfOk result (λ begun. IsInTurns builder.old builder.new (plain_core core.now) around.now number (plain_ops test.now) begun.test.child begun.test.word begun.test.acted) }
 {
     let start = reserve(builder, 1)?;

@@ -5,6 +5,7 @@ mod branches;
 mod loops;
 mod machines;
 mod nodes;
+mod owners;
 mod tree;
 mod whole;
 

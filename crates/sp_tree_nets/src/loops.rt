@@ -10,13 +10,16 @@ use sp_netlist::NoMemory;
 use sp_op_nets::ActedList;
 use sp_plan::NodePlan;
 use sp_stage_members::{PlacedSlot, StagePart, arrange};
+use sp_tree_handed::OwnerNets;
 use std::alloc::Global;
 
-/// The stages of a loop as parts of it, and the operations of their lists, in the order of their numbers.
+/// The stages of a loop as parts of it, the operations of their lists, in the order of their numbers, and what the owners in them
+/// do.
 #[derive(Debug, Drop)]
 pub(crate) struct Stages {
     pub(crate) parts: Vec<StagePart>,
     pub(crate) acted: Vec<ActedList>,
+    pub(crate) owners: OwnerNets,
 }
 
 /// One of them.
@@ -24,16 +27,7 @@ pub(crate) struct Stages {
 pub(crate) struct OneStage {
     pub(crate) part: StagePart,
     pub(crate) acted: Vec<ActedList>,
-}
-
-/// The slot of each stage, by a loop's plan.
-pub(crate) fn stage_slots(plan: &NodePlan) -> &[u32]
-    ensures { result.now ≡ slot_numbers (plain_node_plan plan.now) }
-{
-    match plan {
-        NodePlan::Outer { slots, .. } => slots,
-        _ => &[],
-    }
+    pub(crate) owners: OwnerNets,
 }
 
 /// The stages of a loop in their places, by its plan. Where it hasn't a chain for each slot, it answers want of memory.

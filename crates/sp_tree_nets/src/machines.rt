@@ -1,6 +1,7 @@
 //! The circuit of an FSM around the circuit of its body.
 ghost use Rattle.std.specs.Prelude.{◌≡◌, ◌+◌, ◌<◌, ◌^◌, ◌∷◌, ◌++◌, [], length, IfOk, OnOk};
 ghost use Rattle.sp_words.specs.declared.types.Ty.TheVariants.{Bit};
+ghost use Rattle.sp_words.specs.Types.{width_of};
 ghost use Rattle.sp_netlist.specs.Signals.{Signals};
 ghost use Rattle.sp_gates.specs.Grows.{Fills};
 ghost use Rattle.sp_gates.specs.Nets.{Awaits, HasNet};
@@ -13,6 +14,8 @@ ghost use Rattle.sp_ctrl.specs.Runs.{RunsFsm};
 ghost use Rattle.sp_op_nets.specs.Acted.{answers_of};
 ghost use Rattle.sp_op_nets.specs.Reserved.{Reserves};
 ghost use Rattle.sp_list_circuits.specs.Turns.{IsInTurns, IsWordRight};
+ghost use Rattle.sp_tree_handed.specs.Lists.{numbered};
+ghost use Rattle.sp_tree_handed.specs.Standing.{IsListStanding};
 
 use crate::tree::append;
 use sp_core::{Core, Op};
@@ -68,6 +71,9 @@ pub(crate) fn begin_machine(
     ensures first_done { IfOk result (λ begun. HasNet builder.new begun.first.child.done 1) }
     ensures test_done { IfOk result (λ begun. HasNet builder.new begun.test.child.done 1) }
     ensures word { IfOk result (λ begun. HasNet builder.new begun.test.word 1) }
+    ensures begun_word { IfOk result (λ begun. HasNet builder.new begun.first.word (width_of ty)) }
+    ensures first_list { IfOk result (λ begun. IsListStanding builder.new (plain_core core.now) (numbered number (plain_ops first.now)) begun.first.acted) }
+    ensures test_list { IfOk result (λ begun. IsListStanding builder.new (plain_core core.now) (numbered (number + length first.now) (plain_ops test.now)) begun.test.acted) }
     ensures begins { IfOk result (λ begun. IsInTurns builder.old builder.new (plain_core core.now) around.now number (plain_ops first.now) begun.first.child begun.first.word begun.first.acted) }
     ensures tests { IfOk result (λ begun. IsInTurns builder.old builder.new (plain_core core.now) around.now (number + length first.now) (plain_ops test.now) begun.test.child begun.test.word begun.test.acted) }
 {

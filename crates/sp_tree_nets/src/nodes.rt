@@ -7,13 +7,16 @@ ghost use Rattle.sp_op_nets.specs.Acted.{answers_in};
 ghost use Rattle.sp_op_nets.specs.Reserved.{Reserves};
 ghost use Rattle.sp_plan.specs.Plain.{plain_node_plan, plain_plan};
 ghost use Rattle.sp_plan.specs.PlainPlan.{node_plan};
+ghost use Rattle.sp_tree_handed.specs.Lists.{lists_in};
+ghost use Rattle.sp_tree_handed.specs.Standing.{AreListsStanding, OwnersStand};
 ghost use Rattle.sp_tree_nets.specs.Emitted.{CanEmit, IsTree};
-ghost use Rattle.sp_tree_nets.specs.Loops.{CanEmitLoop, IsLoopTree};
+ghost use Rattle.sp_tree_nets.specs.Loops.{CanEmitLoop, IsLoopTree, lists_of_loop};
 ghost use Rattle.sp_tree_nets.specs.Stages.{AreStages, CanEmitStages, IsStage, LoopStands};
 
 use crate::branches::{OpenBranch, begin_branch, branch_lists, end_branch};
-use crate::loops::{OneStage, Stages, loop_lists, stage_places, stage_slots};
+use crate::loops::{OneStage, Stages, loop_lists, stage_places};
 use crate::machines::{OpenMachine, begin_machine, end_machine, machine_lists, mem_ty};
+use crate::owners::{both_owners, loop_owners, machine_owners, no_owners, renewals};
 use crate::tree::{TreeNets, append};
 use sp_core::{Core, CoreCounter, Node, Stage};
 use sp_gates::reserve;
@@ -25,6 +28,7 @@ use sp_netlist::{Builder, Child, NetId, NoMemory};
 use sp_op_nets::AroundNets;
 use sp_plan::{NodePlan, Plan, count_nodes, count_numbers, counters_size};
 use sp_stage_members::{StagePart, members_are_circuits, single_lanes_are_first};
+use sp_tree_handed::stage_slots;
 use std::alloc::Global;
 
 /// What is decided of a node, by its number.
@@ -54,7 +58,9 @@ pub fn emit_node(
     ensures reserves { IfOk result (λ tree. Reserves builder.old builder.new (answers_in tree.acted.items)) }
     ensures start { IfOk result (λ tree. tree.child.start ≡ start) }
     ensures done { IfOk result (λ tree. HasNet builder.new tree.child.done 1) }
-    ensures tree { IfOk result (λ tree. IsTree builder.old builder.new (plain_core core.now) (plain_plan plan.now) around.now (plain_node node.now) index number tree.child tree.acted.items) }
+    ensures lists { IfOk result (λ tree. AreListsStanding builder.new (plain_core core.now) (lists_in (plain_node node.now) number) tree.acted.items) }
+    ensures owners { IfOk result (λ tree. OwnersStand builder.new (plain_core core.now) tree.owners) }
+    ensures tree { IfOk result (λ tree. IsTree builder.old builder.new (plain_core core.now) (plain_plan plan.now) around.now (plain_node node.now) index number tree.child tree.acted.items tree.owners.renewed.items tree.owners.kept.items) }
 {
     match node {
         Node::Inner { counters, ops, .. } => {
@@ -65,6 +71,7 @@ pub fn emit_node(
             Ok(TreeNets {
                 child: inner.child,
                 acted: inner.acted,
+                owners: no_owners(alloc),
             })
         }
         Node::Branch { test, yes, no } => {
@@ -93,7 +100,12 @@ pub fn emit_node(
                 other.child,
             )?;
             let acted = branch_lists(alloc, turns.acted, one.acted, other.acted)?;
-            Ok(TreeNets { child, acted })
+            let owners = both_owners(one.owners, other.owners)?;
+            Ok(TreeNets {
+                child,
+                acted,
+                owners,
+            })
         }
         Node::Fsm {
             start: first,
@@ -133,16 +145,22 @@ pub fn emit_node(
                 work.child,
                 step.child,
             )?;
+            let owners = machine_owners(alloc, *state, &begins, &step, work.owners)?;
             let acted = machine_lists(alloc, begins.acted, tests.acted, work.acted, step.acted)?;
-            Ok(TreeNets { child, acted })
+            Ok(TreeNets {
+                child,
+                acted,
+                owners,
+            })
         }
         Node::Outer {
             counters,
+            owned,
             stages,
             ..
         } => {
             let tree = emit_loop(
-                alloc, stages, builder, core, plan, counters, index, number, around, start,
+                alloc, stages, builder, core, plan, counters, owned, index, number, around, start,
             )?;
             Ok(tree)
         }
@@ -161,17 +179,20 @@ fn emit_loop(
     core: &Core,
     plan: &Plan,
     counters: &[CoreCounter],
+    owned: &[u32],
     index: u32,
     number: u32,
     around: &[AroundNets],
     start: NetId,
 ) -> Result<TreeNets, NoMemory>
-    requires can { CanEmitLoop builder.old (plain_core core.now) (plain_plan plan.now) around.now (map plain_counter counters.now) (plain_stage_list stages.now) index number }
+    requires can { CanEmitLoop builder.old (plain_core core.now) (plain_plan plan.now) around.now (map plain_counter counters.now) owned.now (plain_stage_list stages.now) index number }
     requires start { HasNet builder.old start 1 }
     ensures reserves { IfOk result (λ tree. Reserves builder.old builder.new (answers_in tree.acted.items)) }
     ensures start { IfOk result (λ tree. tree.child.start ≡ start) }
     ensures done { IfOk result (λ tree. HasNet builder.new tree.child.done 1) }
-    ensures tree { IfOk result (λ tree. IsLoopTree builder.old builder.new (plain_core core.now) (plain_plan plan.now) around.now (map plain_counter counters.now) (plain_stage_list stages.now) index number tree.child tree.acted.items) }
+    ensures lists { IfOk result (λ tree. AreListsStanding builder.new (plain_core core.now) (lists_of_loop (map plain_counter counters.now) (plain_stage_list stages.now) number) tree.acted.items) }
+    ensures owners { IfOk result (λ tree. OwnersStand builder.new (plain_core core.now) tree.owners) }
+    ensures tree { IfOk result (λ tree. IsLoopTree builder.old builder.new (plain_core core.now) (plain_plan plan.now) around.now (map plain_counter counters.now) owned.now (plain_stage_list stages.now) index number tree.child tree.acted.items tree.owners.renewed.items tree.owners.kept.items) }
 {
     loops_fit();
     single_lanes_are_first();
@@ -208,8 +229,14 @@ fn emit_loop(
         start,
         done: ends.done,
     };
+    let own = renewals(alloc, core, owned, stages, planned, &ends.nets)?;
     let acted = loop_lists(begun.acted, inside.acted)?;
-    Ok(TreeNets { child, acted })
+    let owners = loop_owners(own, inside.owners)?;
+    Ok(TreeNets {
+        child,
+        acted,
+        owners,
+    })
 }
 
 /// Emits the stages of a loop that was opened, each with the nets of its slot. `index` and `number` are those of the first one.
@@ -231,10 +258,11 @@ fn emit_stages(
     requires loop_stands { LoopStands builder.old begun.now (map plain_counter counters.now) }
     requires each { length slots.now ≡ length stages.now }
     requires slots { (m : ℕ) → m < length slots.now → slice_index slots.now m < length begun.now.rows.rows.items }
-    ensures { IfOk result (λ all. AreStages builder.old builder.new (plain_core core.now) (plain_plan plan.now) around.now begun.now (map plain_counter counters.now) (plain_stage_list stages.now) slots.now index number all.parts.items all.acted.items) }
+    ensures { IfOk result (λ all. AreStages builder.old builder.new (plain_core core.now) (plain_plan plan.now) around.now begun.now (map plain_counter counters.now) (plain_stage_list stages.now) slots.now index number all.parts.items all.acted.items all.owners.renewed.items all.owners.kept.items) }
 {
     let mut parts = Vec::new(alloc);
     let mut acted = Vec::new(alloc);
+    let mut owners = no_owners(alloc);
     let mut at: usize = 0;
     let mut second = index;
     let mut next = number;
@@ -245,11 +273,16 @@ fn emit_stages(
         )?;
         parts.push(one.part)?;
         append(&mut acted, one.acted)?;
+        owners = both_owners(owners, one.owners)?;
         at += 1;
         second += count_nodes(&stage.node);
         next += count_numbers(&stage.node);
     }
-    Ok(Stages { parts, acted })
+    Ok(Stages {
+        parts,
+        acted,
+        owners,
+    })
 }
 
 /// Emits a stage of a loop that was opened, with the nets of its slot.
@@ -270,7 +303,7 @@ fn emit_stage(
     requires can { CanEmitStages builder.old (plain_core core.now) (plain_plan plan.now) around.now (map plain_counter counters.now) (plain_stage_list (stage.now ∷ [])) index number }
     requires loop_stands { LoopStands builder.old begun.now (map plain_counter counters.now) }
     requires slot { slot < length begun.now.rows.rows.items }
-    ensures { IfOk result (λ one. IsStage builder.old builder.new (plain_core core.now) (plain_plan plan.now) around.now begun.now (map plain_counter counters.now) stage.now.first stage.now.last (plain_node stage.now.node) slot index number one.part one.acted.items) }
+    ensures { IfOk result (λ one. IsStage builder.old builder.new (plain_core core.now) (plain_plan plan.now) around.now begun.now (map plain_counter counters.now) stage.now.first stage.now.last (plain_node stage.now.node) slot index number one.part one.acted.items one.owners.renewed.items one.owners.kept.items) }
 {
     let start = reserve(builder, 1)?;
     let rows = &begun.rows.rows;
@@ -294,5 +327,6 @@ fn emit_stage(
     Ok(OneStage {
         part,
         acted: tree.acted,
+        owners: tree.owners,
     })
 }

@@ -3,13 +3,15 @@ ghost use Rattle.std.specs.Prelude.{◌≡◌, ◌++◌, OnOk};
 
 use sp_netlist::{Child, NoMemory};
 use sp_op_nets::ActedList;
+use sp_tree_handed::OwnerNets;
 
-/// The start and the end of a tree of nodes, and the operations of its lists, in the order of their numbers, for the memories that
-/// they name.
+/// The start and the end of a tree of nodes, the operations of its lists, in the order of their numbers, for the memories that
+/// they name, and what the owners in it do to their memories.
 #[derive(Debug, Drop)]
 pub struct TreeNets {
     pub child: Child,
     pub acted: Vec<ActedList>,
+    pub owners: OwnerNets,
 }
 
 /// Further lists, behind those before.

@@ -7,6 +7,7 @@ use Rattle.sp_op_nets.specs.Acted.{answers_of}
 use Rattle.sp_op_nets.specs.Reserved.{Reserves}
 use Rattle.sp_op_nets.proofs.Driving.{stay}
 use Rattle.sp_tree_nets.proofs.Later.{turns_kept}
+use Rattle.sp_tree_nets.proofs.Listed.{issued_stands}
 use Rattle.sp_tree_nets.proofs.Starts.{opened}
 use Rattle.sp_tree_nets.proofs.branches.begin_branch.Goals as goal
 
@@ -49,3 +50,6 @@ returns-clause-no_net c =
 pub returns-clause-turns : goal.returns-clause-turns
 returns-clause-turns c =
     turns_kept c.args.builder.now c.reserve-3.new.builder c.emit_turns.new.builder c.emit_turns.new.builder (plain_core c.args.core.now) c.args.around.now c.args.number (plain_ops c.args.test.now) _ _ _ (Grows-join _ _ _ (Grows-join _ _ _ c.in_ok-start.ensures.opens.grows c.in_ok-yes.ensures.opens.grows) c.in_ok-no.ensures.opens.grows) (Grows-same c.emit_turns.new.builder) c.in_ok-test.ensures.turns
+
+pub returns-clause-list : goal.returns-clause-list
+returns-clause-list c = issued_stands c.emit_turns.new.builder (plain_core c.args.core.now) c.args.number (plain_ops c.args.test.now) c.in_ok-test.test.acted c.in_ok-test.ensures.acted

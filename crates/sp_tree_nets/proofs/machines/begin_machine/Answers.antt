@@ -1,5 +1,6 @@
-use Rattle.std.proofs.Common.{◌∷◌, ◌++◌, sym, subst}
+use Rattle.std.proofs.Common.{◌+◌, ◌∷◌, ◌++◌, length, sym, subst}
 use Rattle.sp_words.specs.declared.types.Ty.TheVariants.{Bit}
+use Rattle.sp_words.specs.Types.{width_of}
 use Rattle.sp_gates.specs.Nets.{Awaits}
 use Rattle.sp_gates.proofs.Growing.{HasNet-stays, Grows-join, Grows-same}
 use Rattle.sp_core.specs.CoreParts.{plain_core}
@@ -8,7 +9,10 @@ use Rattle.sp_op_nets.specs.Acted.{answers_of}
 use Rattle.sp_op_nets.specs.Reserved.{Reserves}
 use Rattle.sp_op_nets.proofs.Driving.{stay}
 use Rattle.sp_op_nets.proofs.Reserving.{reserved_join}
+use Rattle.sp_tree_handed.specs.Lists.{numbered}
+use Rattle.sp_tree_handed.proofs.Joining.{list_later}
 use Rattle.sp_tree_nets.proofs.Later.{turns_kept, word_later}
+use Rattle.sp_tree_nets.proofs.Listed.{issued_stands}
 use Rattle.sp_tree_nets.proofs.Starts.{opened}
 use Rattle.sp_tree_nets.proofs.machines.begin_machine.Goals as goal
 
@@ -99,3 +103,16 @@ returns-clause-begins c =
 pub returns-clause-tests : goal.returns-clause-tests
 returns-clause-tests c =
     turns_kept c.args.builder.now c.emit_turns.new.builder c.emit_turns-2.new.builder c.emit_turns-2.new.builder (plain_core c.args.core.now) c.args.around.now _ (plain_ops c.args.test.now) _ _ _ (Grows-join _ _ _ (Grows-join _ _ _ (Grows-join _ _ _ (Grows-join _ _ _ c.in_ok-first_start.ensures.opens.grows c.in_ok-test_start.ensures.opens.grows) c.in_ok-body.ensures.opens.grows) c.in_ok-next.ensures.opens.grows) c.in_ok-first.ensures.reserves.grows) (Grows-same c.emit_turns-2.new.builder) c.in_ok-test.ensures.turns
+
+pub returns-clause-begun_word : goal.returns-clause-begun_word
+returns-clause-begun_word c =
+    HasNet-stays c.emit_turns.new.builder c.emit_turns-2.new.builder c.in_ok-first.first.word (width_of c.args.ty) c.in_ok-test.ensures.reserves.grows c.in_ok-first.ensures.word
+
+pub returns-clause-first_list : goal.returns-clause-first_list
+returns-clause-first_list c =
+    list_later c.emit_turns.new.builder c.emit_turns-2.new.builder (plain_core c.args.core.now) (numbered c.args.number (plain_ops c.args.first.now)) c.in_ok-first.first.acted c.in_ok-test.ensures.reserves.grows
+    (issued_stands c.emit_turns.new.builder (plain_core c.args.core.now) c.args.number (plain_ops c.args.first.now) c.in_ok-first.first.acted c.in_ok-first.ensures.acted)
+
+pub returns-clause-test_list : goal.returns-clause-test_list
+returns-clause-test_list c =
+    issued_stands c.emit_turns-2.new.builder (plain_core c.args.core.now) (c.args.number + length c.args.first.now) (plain_ops c.args.test.now) c.in_ok-test.test.acted c.in_ok-test.ensures.acted

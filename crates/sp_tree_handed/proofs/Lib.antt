@@ -1,0 +1,3 @@
+pub mod Joining
+mod Least
+pub mod Owning

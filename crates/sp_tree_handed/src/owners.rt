@@ -1,0 +1,24 @@
+//! Nets of owners.
+use sp_netlist::NetId;
+
+/// A loop makes its memory fresh in each cycle in which `first` is 1.
+#[derive(Clone, Copy, Debug, PartialEq, Eq)]
+pub struct Renewal {
+    pub mem: u32,
+    pub first: NetId,
+}
+
+/// An FSM keeps its state in each cycle in which `done` is 1: the word that `word` has then.
+#[derive(Clone, Copy, Debug, PartialEq, Eq)]
+pub struct Keeping {
+    pub mem: u32,
+    pub done: NetId,
+    pub word: NetId,
+}
+
+/// What the owners in a tree do to their memories, in the order of the tree.
+#[derive(Debug, Drop)]
+pub struct OwnerNets {
+    pub renewed: Vec<Renewal>,
+    pub kept: Vec<Keeping>,
+}
