@@ -1,0 +1,4 @@
+mod Adding
+mod Framing
+mod Naming
+mod Working

@@ -1,0 +1,18 @@
+use Rattle.sp_frames.proofs.Framing.{no_output, no_end, framed, runs_on, first_words}
+use Rattle.sp_frames.proofs.Naming.{are_named, no_dims, nets_stay, net_for_each, has_nets, each_net}
+use Rattle.sp_frames.proofs.laws.port_laws.Goals as goal
+
+pub returns : goal.returns
+returns c = record {
+  named = are_named;
+  no_dims = no_dims;
+  nets_stay = nets_stay;
+  net_for_each = net_for_each;
+  has_nets = has_nets;
+  each_net = each_net;
+  no_output = no_output;
+  no_end = no_end;
+  framed = framed;
+  runs_on = runs_on;
+  words = first_words;
+}

@@ -1,0 +1,4 @@
+pub mod Example
+pub mod Framed
+pub mod Laws
+pub mod Ports

@@ -1,0 +1,13 @@
+mod Among
+mod Apart
+mod Doing
+mod Firsts
+mod Joining
+mod Loops
+mod Machines
+mod Owned
+mod Slots
+mod Stages
+mod Telling
+mod Whole
+mod Working

@@ -1,0 +1,4 @@
+pub mod Deeds
+pub mod Acting
+pub mod Given
+pub mod Example
