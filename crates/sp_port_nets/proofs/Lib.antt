@@ -1,0 +1,4 @@
+mod Held
+mod Numbers
+mod Ported
+mod Standing

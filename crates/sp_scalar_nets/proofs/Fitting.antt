@@ -1,0 +1,147 @@
+-- A register of a memory fits, and what stands in a draft still stands in a later one.
+use Rattle.std.proofs.Common.{◌≡◌, ℕ, zero, suc, ◌<◌, ◌^◌, inl, inr, Bool, true, false, ◌&&◌, List, [], ◌∷◌, length, map, slice_index_or, All, Contains, Option, Some, None, refl, sym, ap, subst, arith}
+use Rattle.std.specs.List.{filter, list_all}
+use Rattle.std.proofs.lemmas.Bool.{true≢false, and_parts, ltb-true, eqb-true}
+use Rattle.std.proofs.lemmas.List.Elements.{All-nil, All-append, All-weaker, All-contains_itself}
+use Rattle.std.proofs.lemmas.Nat.{pow_pos}
+use Rattle.sp_words.specs.declared.kind.Kind.{Kind}
+use Rattle.sp_words.specs.declared.kind.Kind.TheVariants.{Reg, Sram, Fifo, LineBuf, Dram, ArgIn, ArgOut}
+use Rattle.sp_words.specs.declared.types.Ty.{Ty}
+use Rattle.sp_words.specs.Types.{width_of}
+use Rattle.sp_netlist.specs.Draft.{Draft, IsReady, IsKept}
+use Rattle.sp_gates.specs.Grows.{Grows, Fills}
+use Rattle.sp_gates.specs.Nets.{HasNet, IsOpen, Awaits}
+use Rattle.sp_gates.proofs.Growing.{HasNet-stays}
+use Rattle.sp_core.specs.declared.operation.OpKind.TheVariants.{Write, Reset}
+use Rattle.sp_core.specs.Declarations.{mem}
+use Rattle.sp_core.specs.Invariant.{IsCore}
+use Rattle.sp_core.specs.MemoryRules.{has_rank, has_start, has_words, is_mem_right}
+use Rattle.sp_core.specs.PlainCore.{PlainMem, PlainCore, no_mem}
+use Rattle.sp_core.specs.Sequential.{has_reset}
+use Rattle.sp_mem.specs.declared.part.Touch.{Touch}
+use Rattle.sp_mem.specs.declared.part.Register.{Register}
+use Rattle.sp_mem.specs.Copies.{first_word}
+use Rattle.sp_mem.specs.Fits.{CopyFits, FreshFits, ReadFits, RegisterFits, AreApart}
+use Rattle.sp_mem.proofs.Kept.{copy_kept}
+use Rattle.sp_mem.proofs.Waiting.{awaits_kept}
+use Rattle.sp_op_nets.specs.Reserved.{Rise}
+use Rattle.sp_part_runs.specs.ActsEntries.{word_that_changes}
+use Rattle.sp_access_nets.specs.declared.access.AccessNets.{AccessNets}
+use Rattle.sp_access_nets.specs.Picking.{is_to, PicksAccessesTo}
+use Rattle.sp_tree_handed.specs.declared.owners.OwnerNets.{OwnerNets}
+use Rattle.sp_tree_handed.specs.declared.owners.Renewal.{Renewal}
+use Rattle.sp_tree_handed.specs.Standing.{AccessStands, KeepingStands, OwnersStand}
+use Rattle.sp_scalar_nets.specs.Fits.{ScalarFits}
+use Rattle.sp_scalar_nets.specs.Lists.{PlainTouch, plain_touch, answer_net, write_of, state_of, reset_of, renewal_of, read_of, is_kept, is_renewed, is_reader, writes_to, renewals_to, fresh_to, reads_to}
+use Rattle.sp_scalar_nets.specs.Runs.{IsPartOf}
+use Rattle.sp_scalar_nets.proofs.Picked.{each_of, unmapped}
+use Rattle.sp_scalar_nets.proofs.Answering.{reader_answers, answer_in_to, words_are, apart}
+
+-- a later draft
+pub access_stays : (a b : Draft) (core : PlainCore) (x : AccessNets) → Grows a b → AccessStands a core x → AccessStands b core x
+access_stays a b core x g h = record {
+  enable = HasNet-stays a b _ 1 g h.enable;
+  some = h.some;
+  word = λ e. HasNet-stays a b _ _ g (h.word e);
+  answer = λ w e. HasNet-stays a b _ _ g (h.answer w e);
+  later = h.later;
+}
+
+pub accesses_stay : (a b : Draft) (core : PlainCore) (xs : List AccessNets) → Grows a b → All (AccessStands a core) xs → All (AccessStands b core) xs
+accesses_stay a b core xs g h = All-weaker (AccessStands a core) (AccessStands b core) (λ x s. access_stays a b core x g s) xs h
+
+pub owners_stay : (a b : Draft) (core : PlainCore) (owners : OwnerNets) → Grows a b → OwnersStand a core owners → OwnersStand b core owners
+owners_stay a b core owners g h = record {
+  renewed = All-weaker (λ (r : Renewal). HasNet a r.first 1) (λ r. HasNet b r.first 1) (λ r s. HasNet-stays a b r.first 1 g s) owners.renewed.items h.renewed;
+  kept = All-weaker (KeepingStands a core) (KeepingStands b core) (λ k s. record { done = HasNet-stays a b k.done 1 g s.done; word = HasNet-stays a b k.word _ g s.word }) owners.kept.items h.kept;
+}
+
+-- a start is a word of the memory
+some_start : (kind : Kind) (ty : Ty) (start : Option ℕ) → has_start kind ty start ≡ true → 0 < 2 ^ width_of ty → first_word start < 2 ^ width_of ty
+some_start _ ty None h z = z
+some_start Reg ty (Some w) h z = ltb-true w (2 ^ width_of ty) h
+some_start Sram ty (Some w) h z = absurd (true≢false (sym h))
+some_start Fifo ty (Some w) h z = absurd (true≢false (sym h))
+some_start LineBuf ty (Some w) h z = absurd (true≢false (sym h))
+some_start Dram ty (Some w) h z = absurd (true≢false (sym h))
+some_start ArgIn ty (Some w) h z = absurd (true≢false (sym h))
+some_start ArgOut ty (Some w) h z = absurd (true≢false (sym h))
+
+right_at : (ms : List PlainMem) (m : ℕ) → list_all is_mem_right ms ≡ true → m < length ms → is_mem_right (slice_index_or ms m no_mem) ≡ true
+right_at [] m h l = absurd (omega (arith, l))
+right_at (x ∷ ms) zero h l = (and_parts (is_mem_right x) (list_all is_mem_right ms) h).0
+right_at (x ∷ ms) (suc m) h l = right_at ms m (and_parts (is_mem_right x) (list_all is_mem_right ms) h).1 (omega (arith, l))
+
+pub start_fits : (core : PlainCore) (m : ℕ) → IsCore core → m < length core.mems → first_word (mem core m).start < 2 ^ width_of (mem core m).ty
+start_fits core m is_core l =
+    let right = right_at core.mems m (and_parts _ _ is_core.memories).0 l in
+    let x = mem core m in
+    let shape = (and_parts (has_rank x.kind (length x.dims) && has_start x.kind x.ty x.start) (has_words 4194304 x.dims) right).0 in
+    some_start x.kind x.ty x.start (and_parts (has_rank x.kind (length x.dims)) (has_start x.kind x.ty x.start) shape).1 (pow_pos (width_of x.ty))
+
+module _ (picks : PicksAccessesTo) (d : Draft) (core : PlainCore) (accesses : List AccessNets) (owners : OwnerNets) (port start m : ℕ) (fits : ScalarFits d core accesses owners port start m) where
+  abbrev width : ℕ
+  width = width_of (mem core m).ty
+
+  abbrev Written : PlainTouch → Type 0
+  Written p = (p.copy ≡ None) × HasNet d p.enable 1 × HasNet d p.word width
+
+  wide_at : (n : ℕ) (k : ℕ) → k ≡ m → HasNet d n (width_of (mem core k).ty) → HasNet d n width
+  wide_at n k e h = subst (λ j. HasNet d n (width_of (mem core j).ty)) e h
+
+  writes_fit : All Written (writes_to m accesses owners)
+  writes_fit = All-append Written (map write_of (filter (is_to m Write) accesses)) (map state_of (filter (is_kept m) owners.kept.items))
+      (each_of write_of Written (is_to m Write) (AccessStands d core) accesses fits.accesses_stand (λ a t s.
+      let is = (picks m Write a refl).0 t in
+      (refl, s.enable, wide_at _ a.mem is.0 (subst (λ k. HasNet d (word_that_changes k a.operands.items) (width_of (mem core a.mem).ty)) is.1 (s.word is.1)))))
+      (each_of state_of Written (is_kept m) (KeepingStands d core) owners.kept.items fits.owners_stand.kept (λ k t s. (refl, s.done, wide_at k.word k.mem (eqb-true k.mem m t) s.word)))
+
+  renewals_fit : (b : Bool) → All (FreshFits d) (renewals_to b m owners.renewed.items)
+  renewals_fit true = each_of renewal_of (FreshFits d) (is_renewed m) (λ (r : Renewal). HasNet d r.first 1) owners.renewed.items fits.owners_stand.renewed (λ r t s. record { enable = s; copy = tt })
+  renewals_fit false = All-nil (FreshFits d)
+
+  fresh_fits : All (FreshFits d) (fresh_to core m accesses owners)
+  fresh_fits = All-append (FreshFits d) (map reset_of (filter (is_to m Reset) accesses)) (renewals_to (has_reset (mem core m).kind (mem core m).start) m owners.renewed.items)
+      (each_of reset_of (FreshFits d) (is_to m Reset) (AccessStands d core) accesses fits.accesses_stand (λ a t s. record { enable = s.enable; copy = tt }))
+      (renewals_fit (has_reset (mem core m).kind (mem core m).start))
+
+  awaits_from : (n : ℕ) → HasNet d n width → IsOpen d n → Awaits d n width
+  awaits_from n h o = record { wide = h.wide; kept = kept_of h.ready; undriven = o.undriven }
+    where
+      kept_of : IsReady d n → IsKept d n
+      kept_of (inl k) = k
+      kept_of (inr e) = (let u = o.undriven in absurd (omega (arith, e, u)))
+
+  abbrev Waits : PlainTouch → Type 0
+  Waits p = (p.copy ≡ None) × Awaits d p.word width
+
+  reads_wait : All Waits (reads_to m accesses)
+  reads_wait = each_of read_of Waits (is_reader m) (λ a. AccessStands d core a × Contains accesses a) accesses (λ k e l. (fits.accesses_stand k e l, All-contains_itself accesses k e l)) (λ a t s.
+      let r = reader_answers m a t in
+      let n = ap answer_net r.2 in
+      (refl, awaits_from _ (subst (λ k. HasNet d k width) (sym n) (wide_at r.1.net a.mem r.0 (s.0.answer r.1 r.2))) (fits.awaiting _ (answer_in_to m accesses a s.1 t))))
+
+  pub reads_fit : (reads : List Touch) → map plain_touch reads ≡ reads_to m accesses → All (ReadFits d width) reads
+  reads_fit reads e =
+      let h = unmapped plain_touch Waits reads (subst (All Waits) (sym e) reads_wait) in
+      λ k r l. let it = h k r l in record { copy = subst (CopyFits d) (sym it.0) tt; word = it.1 }
+
+  pub reads_apart : (reads : List Touch) → map plain_touch reads ≡ reads_to m accesses → AreApart reads
+  reads_apart reads e = apart reads (subst (Rise 0) (sym (words_are m accesses reads e)) fits.rise)
+
+  pub register_fits : (part : Register) → IsCore core → part.start ≡ start → IsPartOf core accesses owners m part → RegisterFits d part
+  register_fits part is_core at is = record {
+    start = subst (λ n. HasNet d n 1) (sym at) fits.starts;
+    copies = (let e = is.copies in omega (arith, e));
+    first = subst (λ f. first_word f < 2 ^ width_of part.ty) (sym is.first) (subst (λ ty. first_word (mem core m).start < 2 ^ width_of ty) (sym is.ty) (start_fits core m is_core fits.within));
+    fresh = subst (All (FreshFits d)) (sym is.fresh) fresh_fits;
+    writes =
+        let h = unmapped plain_touch Written part.writes.items (subst (All Written) (sym is.writes) writes_fit) in
+        λ k w l. let it = h k w l in record { enable = it.1; copy = subst (CopyFits d) (sym it.0) tt; word = subst (λ ty. HasNet d (slice_index_or part.writes.items k w).word (width_of ty)) (sym is.ty) it.2 };
+    reads = subst (λ ty. All (ReadFits d (width_of ty)) part.reads.items) (sym is.ty) (reads_fit part.reads.items is.reads);
+    apart = reads_apart part.reads.items is.reads;
+  }
+
+-- readers still wait while nothing that was open is driven
+pub reads_kept : (a b : Draft) (width : ℕ) (reads : List Touch) → Fills a b [] → All (ReadFits a width) reads → All (ReadFits b width) reads
+reads_kept a b width reads f h = λ k d l. let was = h k d l in record { copy = copy_kept a b f.grows _ was.copy; word = awaits_kept a b _ width f was.word }

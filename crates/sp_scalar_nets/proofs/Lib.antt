@@ -1,0 +1,5 @@
+pub mod Picked
+pub mod Answering
+pub mod Fitting
+pub mod Collecting
+pub mod Single

@@ -1,0 +1,8 @@
+//! The memories of a core as circuits where each of them is one word: registers, arguments and outputs.
+#![tactic(auto)]
+
+mod followers;
+mod lists;
+mod scalars;
+
+pub use scalars::{ScalarNets, emit_scalars};

@@ -1,0 +1,177 @@
+//! The circuits of all memories of a core of which each is one word.
+ghost use Rattle.std.specs.Prelude.{◌≡◌, ◌≢◌, ℕ, ◌<◌, length, slice_index, IfOk, OnOk};
+ghost use Rattle.sp_words.specs.declared.kind.Kind.TheVariants.{ArgIn};
+ghost use Rattle.sp_words.specs.Types.{width_of};
+ghost use Rattle.sp_netlist.specs.Signals.{Signals};
+ghost use Rattle.sp_gates.specs.Grows.{Fills};
+ghost use Rattle.sp_gates.specs.Nets.{HasNet};
+ghost use Rattle.sp_gates.specs.Runs.{RunsOn};
+ghost use Rattle.sp_core.specs.CoreParts.{plain_core};
+ghost use Rattle.sp_core.specs.Declarations.{mem, kind_of};
+ghost use Rattle.sp_core.specs.Invariant.{IsCore};
+ghost use Rattle.sp_core.specs.Plain.{plain_mem};
+ghost use Rattle.sp_access_nets.specs.Laws.{answer_nets};
+ghost use Rattle.sp_scalar_nets.specs.Fits.{ScalarFits, ScalarsFit};
+ghost use Rattle.sp_scalar_nets.specs.Lists.{answers_to};
+ghost use Rattle.sp_scalar_nets.specs.Runs.{IsPartOf, IsFollowed, RunsWord, RunsScalar, RunScalars};
+
+use crate::followers::emit_followers;
+use crate::lists::{fresh_to, has_reset, reads_to, writes_to};
+use sp_access_nets::{AccessNets, picks_accesses_to};
+use sp_core::{Core, CoreMem};
+use sp_gates::one;
+use sp_mem::{Register, emit_register};
+use sp_netlist::{Builder, NetId, NoMemory};
+use sp_tree_handed::OwnerNets;
+use sp_words::Kind;
+use std::alloc::Global;
+
+/// The nets of the words of a core's memories, by the memory's number.
+#[derive(Debug, Drop)]
+pub struct ScalarNets {
+    pub words: Vec<NetId>,
+}
+
+/// The memory of a number.
+fn memory(core: &Core, m: u32) -> &CoreMem
+    requires { m < length (plain_core core.now).mems }
+    ensures memory { plain_mem result.now ≡ mem (plain_core core.now) m }
+    ensures kind { result.now.kind ≡ kind_of (plain_core core.now) m }
+    ensures core { IsCore (plain_core core.now) }
+{
+    &core.mems()[m as usize]
+}
+
+/// The register of a memory, in one copy, with all that accesses and owners do to it.
+fn register_of(
+    alloc: Global,
+    core: &Core,
+    m: u32,
+    accesses: &[AccessNets],
+    owners: &OwnerNets,
+    start: NetId,
+) -> Result<Register, NoMemory>
+    requires { m < length (plain_core core.now).mems }
+    ensures start { IfOk result (λ part. part.start ≡ start) }
+    ensures part { IfOk result (λ part. IsPartOf (plain_core core.now) accesses.now owners.now m part) }
+    ensures core { OnOk result (IsCore (plain_core core.now)) }
+{
+    let mem = memory(core, m);
+    let fresh = fresh_to(alloc, m, has_reset(mem.kind, mem.start), accesses, owners)?;
+    let writes = writes_to(alloc, m, accesses, owners)?;
+    let reads = reads_to(alloc, m, accesses)?;
+    Ok(Register {
+        start,
+        ty: mem.ty,
+        copies: 1,
+        first: mem.start,
+        fresh,
+        writes,
+        reads,
+    })
+}
+
+/// Emits a memory that is no argument. The net has its word.
+fn emit_word(
+    alloc: Global,
+    builder: &mut Builder,
+    core: &Core,
+    accesses: &[AccessNets],
+    owners: &OwnerNets,
+    start: NetId,
+    m: u32,
+) -> Result<NetId, NoMemory>
+    requires fits { (port : ℕ) × ScalarFits builder.old (plain_core core.now) accesses.now owners.now port start m }
+    ensures fills { OnOk result (Fills builder.old builder.new (answers_to m accesses.now)) }
+    ensures net { IfOk result (λ net. HasNet builder.new net (width_of (mem (plain_core core.now) m).ty)) }
+    ensures runs { IfOk result (λ net. (s : Signals) → RunsOn s builder.new.cells → RunsWord (plain_core core.now) s accesses.now owners.now m net) }
+{
+    picks_accesses_to();
+    let part = register_of(alloc, core, m, accesses, owners, start)?;
+    let ends = emit_register(alloc, builder, &part)?;
+    Ok(ends.nets[0])
+}
+
+/// Emits the readers of an argument, whose word is on its port.
+fn emit_argument(
+    alloc: Global,
+    builder: &mut Builder,
+    core: &Core,
+    accesses: &[AccessNets],
+    port: NetId,
+    m: u32,
+) -> Result<(), NoMemory>
+    requires fits { (owners : OwnerNets) × (start : ℕ) × ScalarFits builder.old (plain_core core.now) accesses.now owners port start m }
+    requires argument { kind_of (plain_core core.now) m ≡ ArgIn }
+    ensures fills { OnOk result (Fills builder.old builder.new (answers_to m accesses.now)) }
+    ensures runs { OnOk result ((s : Signals) → RunsOn s builder.new.cells → IsFollowed s accesses.now m port) }
+{
+    picks_accesses_to();
+    let reads = reads_to(alloc, m, accesses)?;
+    let one = one(builder)?;
+    emit_followers(builder, memory(core, m).ty.width(), &reads, port, one)?;
+    Ok(())
+}
+
+/// Emits a memory. The net has its word; that of an argument is its port.
+fn emit_scalar(
+    alloc: Global,
+    builder: &mut Builder,
+    core: &Core,
+    accesses: &[AccessNets],
+    owners: &OwnerNets,
+    port: NetId,
+    start: NetId,
+    m: u32,
+) -> Result<NetId, NoMemory>
+    requires fits { ScalarFits builder.old (plain_core core.now) accesses.now owners.now port start m }
+    ensures fills { OnOk result (Fills builder.old builder.new (answers_to m accesses.now)) }
+    ensures net { IfOk result (λ net. HasNet builder.new net (width_of (mem (plain_core core.now) m).ty)) }
+    ensures runs { IfOk result (λ net. (s : Signals) → RunsOn s builder.new.cells → RunsScalar (plain_core core.now) s accesses.now owners.now port m net) }
+{
+    match memory(core, m).kind {
+        Kind::ArgIn => {
+            emit_argument(alloc, builder, core, accesses, port, m)?;
+            Ok(port)
+        }
+        _ => {
+            let net = emit_word(alloc, builder, core, accesses, owners, start, m)?;
+            Ok(net)
+        }
+    }
+}
+
+/// Emits the memories of a core of which each is a register, an argument or an output, in one copy. Each access that is to be
+/// answered is a cycle later. `arguments` has the nets of the arguments' ports by the memory's number, and anything else at
+/// other numbers; `start` is 1 in the cycle in which a run begins.
+pub fn emit_scalars(
+    alloc: Global,
+    builder: &mut Builder,
+    core: &Core,
+    accesses: &[AccessNets],
+    owners: &OwnerNets,
+    arguments: &[NetId],
+    start: NetId,
+) -> Result<ScalarNets, NoMemory>
+    requires { ScalarsFit builder.old (plain_core core.now) accesses.now owners.now arguments.now start }
+    ensures fills { OnOk result (Fills builder.old builder.new (answer_nets accesses.now)) }
+    ensures each { IfOk result (λ nets. length nets.words.items ≡ length (plain_core core.now).mems) }
+    ensures nets { IfOk result (λ nets. (m : ℕ) → m < length (plain_core core.now).mems → HasNet builder.new (slice_index nets.words.items m) (width_of (mem (plain_core core.now) m).ty)) }
+    ensures runs { IfOk result (λ nets. (s : Signals) → RunsOn s builder.new.cells → RunScalars (plain_core core.now) s accesses.now owners.now arguments.now nets.words.items) }
+{
+    let mut words = Vec::new(alloc);
+    for m in 0..core.mems().len() {
+        let net = emit_scalar(
+            alloc,
+            builder,
+            core,
+            accesses,
+            owners,
+            arguments[m],
+            start,
+            m as u32,
+        )?;
+        words.push(net)?;
+    }
+    Ok(ScalarNets { words })
+}
