@@ -1,4 +1,0 @@
-mod Circle
-mod Early
-mod Elements
-mod Moving

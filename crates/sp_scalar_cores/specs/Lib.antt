@@ -1,3 +1,0 @@
-pub mod Circuits
-pub mod Closing
-pub mod Quiet
