@@ -1,0 +1,238 @@
+-- The frame is closed around the circuit of a core, and what it then carries.
+use Rattle.std.proofs.Common.{◌≡◌, ◌≢◌, ℕ, zero, suc, ◌<◌, ◌≤◌, ◌==◌, true, false, List, [], ◌∷◌, ◌++◌, map, length, slice_index, slice_index_or, inl, inr, refl, sym, ap, subst, ◌∙◌, arith, if◌then◌else◌, eq-eqb, ne_eqb}
+use Rattle.std.specs.List.{AllZip}
+use Rattle.std.proofs.lemmas.Bool.{cases_eq, lt-ltb}
+use Rattle.sp_words.specs.declared.kind.Kind.TheVariants.{ArgIn}
+use Rattle.sp_words.specs.Ports.{PlainPort, PlainInput}
+use Rattle.sp_words.specs.Types.{width_of}
+use Rattle.sp_words.specs.Words.{IsWord}
+use Rattle.sp_netlist.specs.declared.parts.Child.{Child}
+use Rattle.sp_netlist.specs.Cells.{PlainCell, done_cell}
+use Rattle.sp_netlist.specs.Cycle.{Ends, done_in}
+use Rattle.sp_netlist.specs.Draft.{Draft}
+use Rattle.sp_netlist.specs.Laws.{HasOneRun}
+use Rattle.sp_netlist.specs.Ports.{ports_of}
+use Rattle.sp_netlist.specs.Rules.{IsNetlist}
+use Rattle.sp_netlist.specs.Signals.{Setting, Signals, IsRun, Holds}
+use Rattle.sp_gates.specs.Bits.{IsOne}
+use Rattle.sp_gates.specs.Grows.{Grows, Fills}
+use Rattle.sp_gates.specs.Nets.{HasNet, IsOpen}
+use Rattle.sp_gates.specs.Runs.{RunsOn}
+use Rattle.sp_gates.specs.Tested.{is_on}
+use Rattle.sp_gates.proofs.Growing.{Fills-join, HasNet-stays}
+use Rattle.sp_gates.proofs.Running.{runs_earlier}
+use Rattle.sp_core.specs.Declarations.{mem, kind_of}
+use Rattle.sp_core.specs.History.{History}
+use Rattle.sp_core.specs.Invariant.{IsCore}
+use Rattle.sp_core.specs.Meaning.{args_of, outs_of, out_words}
+use Rattle.sp_core.specs.PlainCore.{no_port, PlainCore}
+use Rattle.sp_core.specs.Store.{Store, words_of}
+use Rattle.sp_plan.specs.PlainPlan.{PlainPlan}
+use Rattle.sp_machine.specs.Timeline.{core_timed}
+use Rattle.sp_machine.specs.Transfers.{Delays}
+use Rattle.sp_frames.specs.Framed.{in_cells, out_cells, IsFramed}
+use Rattle.sp_frames.specs.Laws.{PortLaws, FramesRight, FramesEnd, IsFirst}
+use Rattle.sp_frames.specs.Ports.{AreNamed, HaveNoDims, HaveNets}
+use Rattle.sp_port_nets.specs.Laws.{ArgumentsArePorts, OutputsArePorts, ArgumentsHaveWords}
+use Rattle.sp_port_nets.specs.Nets.{nets_of_arguments}
+use Rattle.sp_scalar_cores.specs.Circuits.{ScalarCircuit, StartsOnce}
+use Rattle.sp_scalar_cores.specs.Closing.{RunsInTime, GoesAlong, ScalarCoresGo}
+use Rattle.sp_scalar_trees.specs.Fits.{ArgumentsStand, WordsStand}
+use Rattle.sp_lower.specs.Carries.{CanLower, CarriesCore}
+
+-- an element of a list whose words are changed
+at_map : (f : ℕ → ℕ) (xs : List ℕ) (i : ℕ) → i < length xs → slice_index (map f xs) i ≡ f (slice_index xs i)
+at_map f [] i l = absurd (omega (arith, l))
+at_map f (x ∷ xs) zero l = refl
+at_map f (x ∷ xs) (suc i) l = at_map f xs i (omega (arith, l))
+
+as_long : (f : ℕ → ℕ) (xs : List ℕ) → length (map f xs) ≡ length xs
+as_long f [] = refl
+as_long f (x ∷ xs) = let rest = as_long f xs in omega (arith, rest)
+
+same_map : (f g : ℕ → ℕ) (xs : List ℕ) → ((i : ℕ) → i < length xs → f (slice_index xs i) ≡ g (slice_index xs i)) → map f xs ≡ map g xs
+same_map f g [] h = refl
+same_map f g (x ∷ xs) h = ap (λ n. n ∷ map f xs) (h 0 (omega arith)) ∙ ap (λ ns. g x ∷ ns) (same_map f g xs (λ i l. h (suc i) (omega (arith, l))))
+
+twice : (f g : ℕ → ℕ) (xs : List ℕ) → map f (map g xs) ≡ map (λ n. f (g n)) xs
+twice f g [] = refl
+twice f g (x ∷ xs) = ap (λ ns. f (g x) ∷ ns) (twice f g xs)
+
+zip_length : {A B : Type 0} (R : A → B → Type 0) (xs : List A) (ys : List B) → AllZip R xs ys → length xs ≡ length ys
+zip_length R [] [] z = refl
+zip_length R [] (y ∷ ys) z = elim z [ ]
+zip_length R (x ∷ xs) [] z = elim z [ ]
+zip_length R (x ∷ xs) (y ∷ ys) z = let rest = zip_length R xs ys z.1 in omega (arith, rest)
+
+same_number : (a b : ℕ) → (a == b) ≡ true → a ≡ b
+same_number a b e = elim (cases_eq a b) [
+  | inl same ↦ same
+  | inr other ↦ absurd (let clash : true ≡ false = sym e ∙ ne_eqb a b other in cc)
+]
+
+kind_is : (core : PlainCore) (m : ℕ) → m < length core.mems → kind_of core m ≡ (mem core m).kind
+kind_is core m l = rw (lt-ltb m (length core.mems) l) refl
+
+module _ (core : PlainCore) (right : IsCore core) (law : PortLaws) (arg_ports : ArgumentsArePorts) (out_ports : OutputsArePorts) where
+  pub args_named : AreNamed core.ports.args
+  args_named = law.named core.ports.args (arg_ports core right).0.names
+
+  pub outs_named : AreNamed core.ports.outs
+  outs_named = law.named core.ports.outs (out_ports core right).names
+
+  -- each argument has the net of its port
+  pub args_stand : (begun d : Draft) (ports : List ℕ) → Grows begun d → HaveNets begun core.ports.args ports → (arguments : List ℕ) → length arguments ≡ length core.mems → arguments ≡ nets_of_arguments core.mems ports → ArgumentsStand d core arguments
+  args_stand begun d ports g have arguments each same = record {
+    each = each;
+    nets = λ m l arg. (
+        let at = (arg_ports core right).1 m l (sym (kind_is core m l) ∙ arg) in
+        let net = law.each_net begun core.ports.args ports have at.0 no_port at.1.place in
+        let here : slice_index arguments m ≡ slice_index ports at.0 = ap (λ ns. slice_index ns m) same ∙ at.2 ports in
+        subst (λ n. HasNet d n (width_of (mem core m).ty)) (sym here) (subst (λ ty. HasNet d (slice_index ports at.0) (width_of ty)) at.1.port.ty (HasNet-stays begun d _ _ g net)));
+  }
+
+  -- and each output the net of its word
+  pub outs_stand : (d final : Draft) (words : List ℕ) → Grows d final → WordsStand d core words → HaveNets final core.ports.outs (map (slice_index words) (outs_of core))
+  outs_stand d final words g stand =
+      law.has_nets final core.ports.outs (map (slice_index words) (outs_of core)) (as_long (slice_index words) (outs_of core) ∙ (out_ports core right).each)
+      (λ i other l. (
+      let at = (out_ports core right).at i l in
+      let inside : i < length (outs_of core) = (let e = (out_ports core right).each in omega (arith, e, l)) in
+      let net = HasNet-stays d final _ _ g (stand.nets (slice_index (outs_of core) i) at.within) in
+      subst (λ n. HasNet final n (width_of (slice_index_or core.ports.outs i other).ty)) (sym (at_map (slice_index words) (outs_of core) i inside))
+      (subst (λ ty. HasNet final (slice_index words (slice_index (outs_of core) i)) (width_of ty)) (sym at.port.ty ∙ ap (λ (p : PlainPort). p.ty) (any_port core.ports.outs i no_port other l)) net)))
+    where
+      any_port : (ps : List PlainPort) (i : ℕ) (p q : PlainPort) → i < length ps → slice_index_or ps i p ≡ slice_index_or ps i q
+      any_port [] i p q l = absurd (omega (arith, l))
+      any_port (x ∷ ps) zero p q l = refl
+      any_port (x ∷ ps) (suc i) p q l = any_port ps i p q (omega (arith, l))
+
+pub joined : (begun a b c e final : Draft) → Fills begun a [] → Fills a b [] → Fills b c [] → Fills c e [] → Fills e final [] → Fills begun final []
+joined begun a b c e final f g h i j = Fills-join begun a final [] [] f (Fills-join a b final [] [] g (Fills-join b c final [] [] h (Fills-join c e final [] [] i j)))
+
+-- the drafts one after the other, and what is known of the nets that were added
+pub record Steps (core : PlainCore) (plan : PlainPlan) (begun a b c e final : Draft) (ports : List ℕ) (always never start : ℕ) (child : Child) (arguments words : List ℕ) (done : ℕ) : Type 0 where
+  pub inputs : begun.cells ≡ in_cells core.ports.args ports
+  pub have : HaveNets begun core.ports.args ports
+  pub closed : (net : ℕ) → IsOpen begun net → ⊥
+  pub one : Fills begun a []
+  pub is_one : IsOne a always
+  pub none : Fills a b []
+  pub is_zero : (s : Signals) → RunsOn s b.cells → (t : ℕ) → s.net t never ≡ 0
+  pub held : Fills b c []
+  pub starts : (s : Signals) → RunsOn s c.cells → Holds (λ t. s.net t start) 1 (λ t. s.net t always) (λ t. s.net t never)
+  pub tree : Fills c e []
+  pub begins : child.start ≡ start
+  pub arguments_are : arguments ≡ nets_of_arguments core.mems ports
+  pub circuit : (s : Signals) → RunsOn s e.cells → ScalarCircuit core plan s child arguments words
+  pub last : Fills e final []
+  pub dones : (s : Signals) → RunsOn s final.cells → Holds (λ t. s.net t done) 0 (λ t. s.net t always) (λ t. s.net t child.done)
+
+module _ (core : PlainCore) (plan : PlainPlan) (can : CanLower core plan) (right : IsCore core) (law : PortLaws) (arg_ports : ArgumentsArePorts) (out_ports : OutputsArePorts)
+    (begun a b c e final : Draft) (ports : List ℕ) (always never start : ℕ) (child : Child) (arguments words : List ℕ) (done : ℕ) (x : Steps core plan begun a b c e final ports always never start child arguments words done) where
+  pub before : Fills begun c []
+  before = Fills-join begun a c [] [] x.one (Fills-join a b c [] [] x.none x.held)
+
+  pub whole : Fills begun final []
+  whole = Fills-join begun c final [] [] before (Fills-join c e final [] [] x.tree x.last)
+
+  pub none_open : (net : ℕ) → IsOpen final net → ⊥
+  none_open net o = x.closed net (whole.no_other net o).0
+
+  module _ (frames : FramesRight) (ends : FramesEnd) (go : (delays : Delays) → ScalarCoresGo core plan delays) (have_words : ArgumentsHaveWords) (run : HasOneRun)
+      (cells : List PlainCell) (cells_are : cells ≡ final.cells ++ out_cells core.ports.outs (map (slice_index words) (outs_of core)) ++ done_cell done ∷ []) (is : IsNetlist cells) where
+    outs : List ℕ
+    outs = map (slice_index words) (outs_of core)
+
+    framed : IsFramed cells core.ports.args ports whole.gates.added core.ports.outs (map (slice_index words) (outs_of core)) done
+    framed =
+        law.framed begun final core.ports.args ports core.ports.outs (map (slice_index words) (outs_of core)) done cells x.inputs whole.gates cells_are (law.net_for_each begun core.ports.args ports x.have)
+        (as_long (slice_index words) (outs_of core) ∙ (out_ports core right).each)
+
+    ports_are : ports_of cells ≡ core.ports
+    ports_are =
+        (frames cells core.ports.args ports whole.gates.added core.ports.outs (map (slice_index words) (outs_of core)) done framed).ports (no_dims core.ports.args (λ k l. ((arg_ports core right).0.at k l).port.dims))
+        (no_dims core.ports.outs (λ k l. ((out_ports core right).at k l).port.dims))
+        ∙ ap (λ ds. record { args = core.ports.args; outs = core.ports.outs; drams = ds }) (sym can.no_drams)
+      where
+        no_dims : (ps : List PlainPort) → ((k : ℕ) → k < length ps → (slice_index_or ps k no_port).dims ≡ []) → HaveNoDims ps
+        no_dims [] h = tt
+        no_dims (p ∷ ps) h = (h 0 (omega arith), no_dims ps (λ k l. h (suc k) (omega (arith, l))))
+
+    module _ (timing : Delays) (input : PlainInput) (h : History) (left : Store) (r : RunsInTime core plan timing input h left) (delays : List ℕ) (s : Signals)
+        (is_run : IsRun (record { cells = cells; args = input.args; drams = input.drams; delays = delays }) s) where
+      setting : Setting
+      setting = record { cells = cells; args = input.args; drams = input.drams; delays = delays }
+
+      on_final : RunsOn s final.cells
+      on_final = (law.runs_on final core.ports.outs (map (slice_index words) (outs_of core)) done (record { cells = cells; args = input.args; drams = input.drams; delays = delays }) s cells_are is_run).0
+
+      on_e : RunsOn s e.cells
+      on_e = runs_earlier e final s x.last.grows on_final
+
+      on_c : RunsOn s c.cells
+      on_c = runs_earlier c e s x.tree.grows on_e
+
+      on_b : RunsOn s b.cells
+      on_b = runs_earlier b c s x.held.grows on_c
+
+      on_a : RunsOn s a.cells
+      on_a = runs_earlier a b s x.none.grows on_b
+
+      one : (t : ℕ) → s.net t always ≡ 1
+      one t = x.is_one.always s on_a t
+
+      passed : (t v w : ℕ) → (if s.net t always == 1 then v else w) ≡ v
+      passed t v w = rw (eq-eqb (s.net t always) 1 (one t)) refl
+
+      starts : StartsOnce s child.start
+      starts = record {
+        begins = subst (λ n. is_on s n 0 ≡ true) (sym x.begins) (eq-eqb (s.net 0 start) 1 (x.starts s on_c).0);
+        once = λ t. subst (λ n. is_on s n (suc t) ≡ false) (sym x.begins) (rw ((x.starts s on_c).1 t, passed t (s.net t never) (s.net t start), x.is_zero s on_b t) refl);
+      }
+
+      given : (m : ℕ) → m < length core.mems → kind_of core m ≡ ArgIn → (t : ℕ) → s.net t (slice_index arguments m) ≡ slice_index_or (words_of (Rattle.sp_core.specs.Meaning.first_store core input m)) 0 0
+      given m l arg t =
+          ap (λ ns. s.net t (slice_index ns m)) x.arguments_are
+          ∙ have_words core input ports s.net right (law.net_for_each begun core.ports.args ports x.have) (sym (zip_length (λ (port : PlainPort) word. IsWord port.ty word) core.ports.args input.args r.fits.args))
+          ((frames cells core.ports.args ports whole.gates.added core.ports.outs (map (slice_index words) (outs_of core)) done framed).args_stand (record { cells = cells; args = input.args; drams = input.drams; delays = delays }) s refl is_run) m l arg t
+
+      along : GoesAlong core plan timing s child words h left
+      along = go timing s child arguments words can.scalar (x.circuit s on_e) starts input h left r given
+
+      next : (t : ℕ) → s.net (suc t) done ≡ s.net t child.done
+      next t = (x.dones s on_final).1 t ∙ passed t (s.net t child.done) (s.net t done)
+
+      first_at : (took : ℕ) → took ≡ (core_timed core plan timing h).took → IsFirst s done took
+      first_at zero same = absurd (let late = along.takes_time in omega (arith, same, late))
+      first_at (suc t) same = record {
+        is_one = next t ∙ same_number (s.net t child.done) 1 (along.is_done t same);
+        not_before = not_before (suc t) same;
+      }
+        where
+          not_before : (took : ℕ) → took ≡ (core_timed core plan timing h).took → (u : ℕ) → u < took → s.net u done ≢ 1
+          not_before took still zero l one_is = absurd (let clash : 0 ≡ 1 = sym (x.dones s on_final).0 ∙ one_is in omega (arith, clash))
+          not_before took still (suc u) l one_is = absurd (let over = along.only u (eq-eqb (s.net u child.done) 1 (sym (next u) ∙ one_is)) in omega (arith, still, l, over))
+
+      words_left : map (s.net (core_timed core plan timing h).took) (map (slice_index words) (outs_of core)) ≡ out_words core left
+      words_left =
+          twice (s.net (core_timed core plan timing h).took) (slice_index words) (outs_of core)
+          ∙ same_map (λ m. s.net (core_timed core plan timing h).took (slice_index words m)) (λ m. slice_index (words_of (left m)) 0) (outs_of core)
+          (λ i l. (
+          let below : i < length core.ports.outs = (let e = (out_ports core right).each in omega (arith, e, l)) in
+          let at = (out_ports core right).at i below in
+          along.outs (slice_index (outs_of core) i) (core_timed core plan timing h).took at.within at.of_kind (omega arith)))
+
+      ended : (last : ℕ) → (core_timed core plan timing h).took ≤ last → Ends (record { cells = cells; args = input.args; drams = input.drams; delays = delays }) last (done_in (core_timed core plan timing h).took (out_words core left) [])
+      ended last le =
+          subst (λ ws. Ends (record { cells = cells; args = input.args; drams = input.drams; delays = delays }) last (done_in (core_timed core plan timing h).took ws [])) words_left
+          ((ends (record { cells = cells; args = input.args; drams = input.drams; delays = delays }) s core.ports.args ports whole.gates.added core.ports.outs (map (slice_index words) (outs_of core)) done (core_timed core plan timing h).took last framed
+          is_run (first_at (core_timed core plan timing h).took refl) le).of_netlist is)
+
+    pub carried : CarriesCore core plan cells
+    carried = record {
+      ports = ports_are;
+      carries = λ timing input h left r delays last le. (
+          let found = (run (record { cells = cells; args = input.args; drams = input.drams; delays = delays }) is).some_run in
+          ended timing input h left r delays found.0 found.1 last le);
+    }

@@ -1,0 +1,4 @@
+mod Circle
+mod Early
+mod Elements
+mod Moving

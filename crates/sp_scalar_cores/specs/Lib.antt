@@ -1,0 +1,3 @@
+pub mod Circuits
+pub mod Closing
+pub mod Quiet

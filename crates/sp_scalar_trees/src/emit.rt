@@ -1,0 +1,67 @@
+//! The circuit of a core of registers, arguments and outputs.
+ghost use Rattle.std.specs.Prelude.{◌≡◌, [], length, IfOk, OnOk};
+ghost use Rattle.sp_netlist.specs.Signals.{Signals};
+ghost use Rattle.sp_gates.specs.Grows.{Fills};
+ghost use Rattle.sp_gates.specs.Nets.{HasNet};
+ghost use Rattle.sp_gates.specs.Runs.{RunsOn};
+ghost use Rattle.sp_core.specs.CoreParts.{plain_core};
+ghost use Rattle.sp_plan.specs.Plain.{plain_plan};
+ghost use Rattle.sp_scalar_cores.specs.Circuits.{ScalarCircuit};
+ghost use Rattle.sp_scalar_trees.specs.Fits.{ArgumentsStand, CanEmitScalars, WordsStand};
+
+use sp_core::Core;
+use sp_netlist::{Builder, Child, NetId, NoMemory};
+use sp_op_nets::reserved_are_driven;
+use sp_plan::Plan;
+use sp_scalar_nets::emit_scalars;
+use sp_tree_accesses::{scalars_are_read, tree_accesses};
+use sp_tree_nets::emit_core;
+use std::alloc::Global;
+
+/// The start and the end of the circuit of a core, and by each memory's number the net of its word.
+#[derive(Debug, Drop)]
+pub struct ScalarTree {
+    pub child: Child,
+    pub words: Vec<NetId>,
+}
+
+/// Emits the circuit of a core all of whose memories are registers, arguments and outputs, by a valid plan: its tree, and for each
+/// memory a register that answers the tree's reads. It is started where `start` is 1. `arguments` has the net of each argument's port,
+/// by the memory's number.
+pub fn emit_scalar_core(
+    alloc: Global,
+    builder: &mut Builder,
+    core: &Core,
+    plan: &Plan,
+    arguments: &[NetId],
+    start: NetId,
+) -> Result<ScalarTree, NoMemory>
+    requires can { CanEmitScalars (plain_core core.now) (plain_plan plan.now) }
+    requires arguments { ArgumentsStand builder.old (plain_core core.now) arguments.now }
+    requires start { HasNet builder.old start 1 }
+    ensures fills { OnOk result (Fills builder.old builder.new []) }
+    ensures start { IfOk result (λ tree. tree.child.start ≡ start) }
+    ensures done { IfOk result (λ tree. HasNet builder.new tree.child.done 1) }
+    ensures words { IfOk result (λ tree. WordsStand builder.new (plain_core core.now) tree.words.items) }
+    ensures circuit { IfOk result (λ tree. (s : Signals) → RunsOn s builder.new.cells → ScalarCircuit (plain_core core.now) (plain_plan plan.now) s tree.child arguments.now tree.words.items) }
+{
+    reserved_are_driven();
+    scalars_are_read();
+    // (what is asked of accesses is that the core keeps its rules, as each does whose root is given)
+    let _root = core.root();
+    let tree = emit_core(alloc, builder, core, plan, start)?;
+    let accesses = tree_accesses(alloc, core, &tree.acted)?;
+    let nets = emit_scalars(
+        alloc,
+        builder,
+        core,
+        &accesses,
+        &tree.owners,
+        arguments,
+        start,
+    )?;
+    Ok(ScalarTree {
+        child: tree.child,
+        words: nets.words,
+    })
+}

@@ -1,0 +1,11 @@
+pub mod Rules
+pub mod Numbers
+pub mod Going
+pub mod Answering
+pub mod Told
+pub mod Allowed
+pub mod Walking
+pub mod Nodes
+pub mod Small
+pub mod Standing
+pub mod AnswerKinds
