@@ -26,7 +26,7 @@ use Rattle.sp_plan.specs.PlainPlan.{PlainPlan}
 use Rattle.sp_machine.specs.Transfers.{Delays}
 use Rattle.sp_chosen_runs.specs.ChosenLaws.{ChosenPlansRun, HasChosen, RunsWell}
 use Rattle.sp_lane_programs.specs.TimedLaws.{ProgramIsTimed}
-use Rattle.sp_program_runs.specs.RunsLaws.{laned, ProgramRuns}
+use Rattle.sp_program_runs.specs.RunsLaws.{laned, HasPlan, HasLanedPlan, ProgramRuns, LanedProgramRuns}
 
 -- a run that ends
 ended_run : (core : PlainCore) (outs : List ℕ) (drams : List (List ℕ)) (g : History) (r : Went History) → outcome core r ≡ ended outs drams g → (t : Store) × (r ≡ went g t)
@@ -77,10 +77,10 @@ ends_in_lanes p followed ends falls n input fits outs drams turns shape e =
     in_lanes_run p n input outs drams turns x.0 x.1
     (at_most (rounds (laned p).root (shape_of (laned p).root x.0)) (rounds (core_of p).root (shape_of (core_of p).root c.0)) turns x.2 (falls n input outs drams turns shape e outs drams c.0 c.1))
 
-pub programs_run : (p : PlainProgram) (plan : PlainPlan) (delays : Delays) (delay : ℕ) → StaysCore p → ProgramIsByLane p → ProgramIsTimed p → IsProgramFollowed p → ProgramEnds p → ProgramRoundsWithinTurns p → ChosenPlansRun (laned p) plan delays delay → ProgramRuns p plan delays delay
-programs_run p plan delays delay is by timed followed ends falls run meets has waits n input fits outs drams turns shape e =
+pub laned_programs_run : (p : PlainProgram) (plan : PlainPlan) (delays : Delays) (delay : ℕ) → StaysCore p → ProgramIsByLane p → IsProgramFollowed p → ProgramEnds p → ProgramRoundsWithinTurns p → ChosenPlansRun (laned p) plan delays delay → LanedProgramRuns p plan delays delay
+laned_programs_run p plan delays delay is by followed ends falls run meets has waits n input fits outs drams turns shape e =
     let x : InLanes p n input outs drams turns = ends_in_lanes p followed ends falls n input fits outs drams turns shape e in
-    let chosen : HasChosen (laned p) meets plan = record { is_core = is; is_timed = timed has.is_timed; by_lane = by; meets_are = has.meets_are; is_chosen = has.is_chosen } in
+    let chosen : HasChosen (laned p) meets plan = record { is_core = is; is_timed = has.is_timed; by_lane = by; meets_are = has.meets_are; is_chosen = has.is_chosen } in
     let well : RunsWell (laned p) plan delays delay input x.history x.left = run meets chosen waits input n x.history x.left (fits_in_lanes (core_of p) input fits) x.ran in
     record {
       history = x.history;
@@ -90,3 +90,6 @@ programs_run p plan delays delay is by timed followed ends falls run meets has w
       well = well;
       ends = λ m most. well.ends m (at_most (rounds (laned p).root (shape_of (laned p).root x.history)) turns m x.within most);
     }
+
+pub programs_run : (p : PlainProgram) (plan : PlainPlan) (delays : Delays) (delay : ℕ) → ProgramIsTimed p → LanedProgramRuns p plan delays delay → ProgramRuns p plan delays delay
+programs_run p plan delays delay timed run meets has = run meets (record { is_timed = timed has.is_timed; meets_are = has.meets_are; is_chosen = has.is_chosen })

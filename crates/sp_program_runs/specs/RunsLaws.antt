@@ -24,6 +24,7 @@ use Rattle.sp_machine.specs.Transfers.{Delays}
 use Rattle.sp_patterns.specs.Patterns.{patterns_of}
 use Rattle.sp_meets.specs.Meets.{IsMeetsOf}
 use Rattle.sp_lane_programs.specs.Timed.{BodyTimed}
+use Rattle.sp_overlap.specs.Whole.{IsTimed}
 use Rattle.sp_chosen_runs.specs.ChosenLaws.{RunsWell}
 
 -- the core of a program, its lanes one after the other
@@ -33,6 +34,12 @@ laned p = unrolled (core_of p)
 -- a program without proper `Stream` blocks, gathers, scatters and wide transfers, with the plan that is chosen for it
 pub record HasPlan (p : PlainProgram) (meets : List Meet) (plan : PlainPlan) : Type 0 where
   pub is_timed : BodyTimed p.mems p.body
+  pub meets_are : IsMeetsOf (laned p) (patterns_of (laned p)) meets
+  pub is_chosen : IsPlanned (laned p) (patterns_of (laned p)) meets plan
+
+-- a program whose core in lanes has no stream block and no gather, scatter or wide transfer, with the plan that is chosen for it
+pub record HasLanedPlan (p : PlainProgram) (meets : List Meet) (plan : PlainPlan) : Type 0 where
+  pub is_timed : IsTimed (laned p).root
   pub meets_are : IsMeetsOf (laned p) (patterns_of (laned p)) meets
   pub is_chosen : IsPlanned (laned p) (patterns_of (laned p)) meets plan
 
@@ -50,5 +57,12 @@ pub record Runs (p : PlainProgram) (plan : PlainPlan) (delays : Delays) (delay :
 abbrev pub ProgramRuns : PlainProgram → PlainPlan → Delays → (delay : ℕ) → Type 0
 ProgramRuns p plan delays delay =
     (meets : List Meet) → HasPlan p meets plan → ((k : ℕ) (path : List At) (ask : ℕ) → delays k path ask ≤ delay)
+    → (n : ℕ) (input : PlainInput) → InputFits (core_of p) input → (outs : List ℕ) (drams : List (List ℕ)) (turns : ℕ) (shape : Shape) → seq n p input ≡ program.ended outs drams turns shape
+    → Runs p plan delays delay input n turns outs drams
+
+-- so of a program of which the core in lanes is known to be of that kind
+abbrev pub LanedProgramRuns : PlainProgram → PlainPlan → Delays → (delay : ℕ) → Type 0
+LanedProgramRuns p plan delays delay =
+    (meets : List Meet) → HasLanedPlan p meets plan → ((k : ℕ) (path : List At) (ask : ℕ) → delays k path ask ≤ delay)
     → (n : ℕ) (input : PlainInput) → InputFits (core_of p) input → (outs : List ℕ) (drams : List (List ℕ)) (turns : ℕ) (shape : Shape) → seq n p input ≡ program.ended outs drams turns shape
     → Runs p plan delays delay input n turns outs drams

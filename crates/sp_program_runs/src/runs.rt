@@ -1,9 +1,9 @@
-//! A law of programs and their plans. The function does nothing: what it ensures is the law.
+//! Laws of programs and their plans. Each function does nothing: what it ensures is the law.
 
 ghost use Rattle.std.specs.Prelude.{ℕ};
 ghost use Rattle.sp_machine.specs.Transfers.{Delays};
 ghost use Rattle.sp_plan.specs.PlainPlan.{PlainPlan};
-ghost use Rattle.sp_program_runs.specs.RunsLaws.{ProgramRuns};
+ghost use Rattle.sp_program_runs.specs.RunsLaws.{LanedProgramRuns, ProgramRuns};
 ghost use Rattle.sp_tree.specs.Invariant.{IsProgram};
 ghost use Rattle.sp_tree.specs.PlainProgram.{PlainProgram};
 
@@ -20,9 +20,16 @@ use sp_turns::rounds_are_within_turns;
 pub fn programs_run_well()
     ensures { (p : PlainProgram) (plan : PlainPlan) (delays : Delays) (delay : ℕ) → IsProgram p → ProgramRuns p plan delays delay }
 {
+    programs_are_timed();
+    laned_programs_run_well();
+}
+
+/// So does each program whose core in lanes has no stream block and no gather, scatter or wide transfer.
+pub fn laned_programs_run_well()
+    ensures { (p : PlainProgram) (plan : PlainPlan) (delays : Delays) (delay : ℕ) → IsProgram p → LanedProgramRuns p plan delays delay }
+{
     programs_stay_cores();
     programs_are_by_lane();
-    programs_are_timed();
     programs_are_followed();
     programs_end_in_lanes();
     rounds_are_within_turns();

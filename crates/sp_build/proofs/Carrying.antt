@@ -1,0 +1,148 @@
+-- A netlist that carries the core of a program in lanes carries the program, and keeps to its cost.
+use Rattle.std.proofs.Common.{◌≡◌, ℕ, ◌≤◌, ◌+◌, true, List, [], map, length, refl, sym, ap, subst, ◌∙◌, arith}
+use Rattle.sp_words.specs.Ports.{PlainPorts, PlainInput}
+use Rattle.sp_netlist.specs.Cells.{PlainCell}
+use Rattle.sp_netlist.specs.Cycle.{Ends, done_in}
+use Rattle.sp_netlist.specs.Ports.{ports_of}
+use Rattle.sp_tree.specs.Laws.{IsDecidedByTurns}
+use Rattle.sp_tree.specs.Meaning as program
+use Rattle.sp_tree.specs.Meaning.{seq}
+use Rattle.sp_tree.specs.PlainProgram.{PlainProgram}
+use Rattle.sp_tree.specs.Shape.{Shape}
+use Rattle.sp_core.specs.Declarations.{dram_number}
+use Rattle.sp_core.specs.Elements.{numbers_below}
+use Rattle.sp_core.specs.History.{History}
+use Rattle.sp_core.specs.Inputs.{InputFits}
+use Rattle.sp_core.specs.Latency.{limit}
+use Rattle.sp_core.specs.Cost.{core_cost}
+use Rattle.sp_core.specs.Meaning.{Outcome, ended, outcome, out_words, dram_words, first_store, run_core}
+use Rattle.sp_core.specs.Scope.{in_lanes, no_scope}
+use Rattle.sp_core.specs.Shape.{shape_of}
+use Rattle.sp_core.specs.PlainCore.{PlainCore}
+use Rattle.sp_core.specs.Step.{went}
+use Rattle.sp_core.specs.Store.{Store, words_of}
+use Rattle.sp_sugar.specs.Core.{core_of}
+use Rattle.sp_lanes.specs.Unrolled.{unrolled}
+use Rattle.sp_lane_cores.specs.Laws.{StaysCore}
+use Rattle.sp_lane_programs.specs.LanesLaws.{ProgramIsByLane}
+use Rattle.sp_plan.specs.PlainPlan.{PlainPlan}
+use Rattle.sp_plan.specs.Validity.{IsValid}
+use Rattle.sp_plans.specs.Laws.{ChosenAreValid}
+use Rattle.sp_chosen_runs.specs.ChosenLaws.{ChosenPlansRun, HasChosen, RunsWell}
+use Rattle.sp_overlap.specs.Whole.{IsTimed}
+use Rattle.sp_overlap.proofs.Planned.{node_planned}
+use Rattle.sp_machine.specs.Laws.{EndsInCost}
+use Rattle.sp_machine.specs.Timeline.{core_timed}
+use Rattle.sp_machine.specs.Told.{plan_timings}
+use Rattle.sp_machine.specs.Transfers.{Delays}
+use Rattle.sp_program_runs.specs.RunsLaws.{HasLanedPlan, LanedProgramRuns, Runs}
+use Rattle.sp_scalar_cores.specs.Closing.{RunsInTime}
+use Rattle.sp_lower.specs.Carries.{CarriesCore}
+use Rattle.sp_compile.specs.Choices.{lanes_of, forms_of, IsPlanOf}
+use Rattle.sp_build.specs.Buildable.{is_buildable}
+use Rattle.sp_build.specs.Carries.{greatest_delay, FitsPorts, Carries}
+use Rattle.sp_build.specs.Laws.{CoresCarryPrograms, CoresKeepCosts}
+use Rattle.sp_build.proofs.Lowering.{Buildable, buildable, is_timed}
+
+-- the ports of a core in lanes are the program's
+ports_stay : (p : PlainProgram) → (lanes_of p).ports ≡ p.ports
+unfolding unrolled core_of
+ports_stay p = refl
+
+fits_core : (p : PlainProgram) (input : PlainInput) → FitsPorts p.ports input → InputFits (core_of p) input
+unfolding core_of
+fits_core p input fits = record { args = fits.args; drams = fits.drams }
+
+fits_lanes : (p : PlainProgram) (input : PlainInput) → FitsPorts p.ports input → InputFits (lanes_of p) input
+unfolding unrolled core_of
+fits_lanes p input fits = record { args = fits.args; drams = fits.drams }
+
+-- what an ended run leaves
+outs_left : (core : PlainCore) (h : History) (left : Store) (outs : List ℕ) (drams : List (List ℕ)) → outcome core (went h left) ≡ ended outs drams h → out_words core left ≡ outs
+outs_left core h left outs drams e = ap outs_in e
+  where
+    outs_in : Outcome → List ℕ
+    outs_in (ended a b c) = a
+    outs_in _ = []
+
+drams_left : (core : PlainCore) (h : History) (left : Store) (outs : List ℕ) (drams : List (List ℕ)) → core.ports.drams ≡ [] → outcome core (went h left) ≡ ended outs drams h → [] ≡ drams
+drams_left core h left outs drams none e = sym (ap (λ ports. map (λ m. words_of (left m)) (map (dram_number core) (numbers_below (length ports)))) none) ∙ ap drams_in e
+  where
+    drams_in : Outcome → List (List ℕ)
+    drams_in (ended a b c) = b
+    drams_in _ = []
+
+-- no transfer waits in a core without transfers
+abbrev pub none_waits : Delays
+none_waits k path ask = 0
+
+in_time : (p : PlainProgram) (plan : PlainPlan) → ChosenAreValid → StaysCore p → ProgramIsByLane p → (planned : IsPlanOf p plan) → is_buildable (lanes_of p) plan ≡ true
+    → (delay n turns : ℕ) (input : PlainInput) (outs : List ℕ) (drams : List (List ℕ)) → FitsPorts p.ports input → (r : Runs p plan none_waits delay input n turns outs drams) → RunsInTime (lanes_of p) plan none_waits input r.history r.left
+in_time p plan valid is by planned h delay n turns input outs drams fits r = record {
+  forms = forms_of p;
+  meets = planned.meets;
+  planned = record { is_core = is; is_timed = is_timed p plan h; by_lane = by; valid = valid (lanes_of p) (forms_of p) planned.meets plan is planned.is_planned };
+  fits = fits_lanes p input fits;
+  turns = n;
+  ran = r.ran;
+  found = r.well.found;
+}
+
+less : (took most : ℕ) → took + 2 ≤ most → took ≤ most
+less took most h = omega (arith, h)
+
+ends_as : (cells : List PlainCell) (input : PlainInput) (delays : List ℕ) (most cycle : ℕ) (outs given : List ℕ) (drams found : List (List ℕ)) → given ≡ outs → found ≡ drams
+    → Ends (record { cells = cells; args = input.args; drams = input.drams; delays = delays }) most (done_in cycle given found) → Ends (record { cells = cells; args = input.args; drams = input.drams; delays = delays }) most (done_in cycle outs drams)
+ends_as cells input delays most cycle outs given drams found e f ends =
+    subst (λ ds. Ends (record { cells = cells; args = input.args; drams = input.drams; delays = delays }) most (done_in cycle outs ds)) f
+    (subst (λ ws. Ends (record { cells = cells; args = input.args; drams = input.drams; delays = delays }) most (done_in cycle ws found)) e ends)
+
+pub carried : (p : PlainProgram) (plan : PlainPlan) → ChosenAreValid → StaysCore p → ProgramIsByLane p → ((input : PlainInput) → IsDecidedByTurns p input) → ((delays : Delays) (delay : ℕ) → LanedProgramRuns p plan delays delay) → CoresCarryPrograms p plan
+carried p plan valid is by decided runs planned h cells carries = record {
+  ports = carries.ports ∙ ports_stay p;
+  carries = λ input delays n outs drams turns shape fits e. (
+      let core = lanes_of p in
+      let delay = greatest_delay delays in
+      let has : HasLanedPlan p planned.meets plan = record { is_timed = is_timed p plan h; meets_are = planned.are_meets; is_chosen = planned.is_planned } in
+      let r : Runs p plan none_waits delay input n turns outs drams = runs none_waits delay planned.meets has (λ k path ask. omega arith) n input (fits_core p input fits) outs drams turns shape e in
+      let within = r.ends n ((decided input).ends n outs drams turns shape e).0 in
+      let took = (core_timed core plan none_waits r.history).took in
+      let ends = carries.carries none_waits input r.history r.left (in_time p plan valid is by planned h delay n turns input outs drams fits r) delays (limit n delay core) (less took (limit n delay core) within) in
+      (took, ends_as cells input delays (limit n delay core) took outs (out_words core r.left) drams [] (outs_left core r.history r.left outs drams r.words) (drams_left core r.history r.left outs drams (buildable core plan h).no_drams r.words) ends));
+}
+
+-- a run of the core in lanes, from an input that fits
+found_run : (p : PlainProgram) (plan : PlainPlan) → ChosenAreValid → StaysCore p → ProgramIsByLane p → ChosenPlansRun (lanes_of p) plan none_waits 0 → (planned : IsPlanOf p plan) → is_buildable (lanes_of p) plan ≡ true
+    → (n : ℕ) (input : PlainInput) (h : History) (left : Store) → FitsPorts p.ports input → run_core in_lanes n (lanes_of p) input ≡ went h left → RunsInTime (lanes_of p) plan none_waits input h left
+found_run p plan valid is by run planned built n input h left fits ran =
+    let chosen : HasChosen (lanes_of p) planned.meets plan = record { is_core = is; is_timed = is_timed p plan built; by_lane = by; meets_are = planned.are_meets; is_chosen = planned.is_planned } in
+    let well : RunsWell (lanes_of p) plan none_waits 0 input h left = run planned.meets chosen (λ k path ask. omega arith) input n h left (fits_lanes p input fits) ran in
+    record {
+      forms = forms_of p;
+      meets = planned.meets;
+      planned = record { is_core = is; is_timed = is_timed p plan built; by_lane = by; valid = valid (lanes_of p) (forms_of p) planned.meets plan is planned.is_planned };
+      fits = fits_lanes p input fits;
+      turns = n;
+      ran = ran;
+      found = well.found;
+    }
+
+no_dram_words : (core : PlainCore) (left : Store) → core.ports.drams ≡ [] → [] ≡ dram_words core left
+no_dram_words core left none = sym (ap (λ ports. map (λ m. words_of (left m)) (map (dram_number core) (numbers_below (length ports)))) none)
+
+cost_of_run : (p : PlainProgram) (plan : PlainPlan) (d : ℕ) → EndsInCost (lanes_of p) plan none_waits d → IsTimed (lanes_of p).root → (forms : _) (meets : _) → IsValid (lanes_of p) forms meets plan
+    → (n : ℕ) (input : PlainInput) (h : History) (left : Store) → run_core in_lanes n (lanes_of p) input ≡ went h left
+    → (core_timed (lanes_of p) plan none_waits h).took + 2 ≤ core_cost (lanes_of p) (plan_timings plan) d (shape_of (lanes_of p).root h)
+unfolding run_core
+cost_of_run p plan d ends timed forms meets valid n input h left ran =
+    ends (λ k path ask. omega arith) (node_planned (lanes_of p) forms meets plan (lanes_of p).root 0 0 timed valid.kinds) n no_scope (first_store (lanes_of p) input) left h ran
+
+pub cost_kept : (p : PlainProgram) (plan : PlainPlan) → ChosenAreValid → StaysCore p → ProgramIsByLane p → ChosenPlansRun (lanes_of p) plan none_waits 0 → ((delays : Delays) (d : ℕ) → EndsInCost (lanes_of p) plan delays d) → CoresKeepCosts p plan
+cost_kept p plan valid is by run costs planned built cells carries = record {
+  within = λ input delays n h left fits ran. (
+      let core = lanes_of p in
+      let took = (core_timed core plan none_waits h).took in
+      let cost = cost_of_run p plan (greatest_delay delays) (costs none_waits (greatest_delay delays)) (is_timed p plan built) (forms_of p) planned.meets (valid core (forms_of p) planned.meets plan is planned.is_planned) n input h left ran in
+      let ends = carries.carries none_waits input h left (found_run p plan valid is by run planned built n input h left fits ran) delays took (omega arith) in
+      (took, cost, ends_as cells input delays took took (out_words core left) (out_words core left) (dram_words core left) [] refl (no_dram_words core left (buildable core plan built).no_drams) ends));
+}

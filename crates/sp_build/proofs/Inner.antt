@@ -1,0 +1,145 @@
+-- A program whose block is one inner body can be built.
+use Rattle.std.proofs.Common.{◌≡◌, ℕ, zero, suc, ◌<◌, ◌==◌, Bool, true, false, not, ◌&&◌, List, [], ◌∷◌, ◌++◌, map, length, refl, sym, ap, ◌∙◌, subst, arith, slice_index_or, if◌then◌else◌, eq-eqb}
+use Rattle.std.proofs.lemmas.Bool.{and_parts, true≢false}
+use Rattle.std.proofs.lemmas.List.{append-nil}
+use Rattle.std.specs.List.{list_all}
+use Rattle.std.specs.Prelude.{filter, cond}
+use Rattle.sp_words.specs.declared.kind.Kind.{Kind}
+use Rattle.sp_words.specs.declared.kind.Kind.TheVariants.{Reg, Fifo, Sram, LineBuf, ArgIn, ArgOut, Dram}
+use Rattle.sp_words.specs.Ports.{PlainPort, PlainPorts}
+use Rattle.sp_tree.specs.Invariant.{IsProgram, port_of}
+use Rattle.sp_tree.specs.Meaning.{is_dram}
+use Rattle.sp_tree.specs.PlainProgram as program
+use Rattle.sp_tree.specs.PlainProgram.{PlainProgram}
+use Rattle.sp_tree.specs.Structure.{is_inner}
+use Rattle.sp_core.specs.Declarations.{mem}
+use Rattle.sp_core.specs.PlainCore.{PlainNode, inner, outer, fsm, branch, load, store, sparse, PlainMem, no_mem, PlainCore}
+use Rattle.sp_sugar.specs.Core.{core_of}
+use Rattle.sp_sugar.specs.Registers.{registers}
+use Rattle.sp_sugar.specs.Uses.{no_more}
+use Rattle.sp_sugar.specs.Numbers.{is_off_dram, written_mem, written_mems}
+use Rattle.sp_lanes.specs.Order.{memory_order}
+use Rattle.sp_lanes.specs.Unrolled.{unrolled, node_in}
+use Rattle.sp_depths.specs.Depths.{depth_in}
+use Rattle.sp_plan.specs.PlainPlan.{PlainNodePlan, no_mem_plan, mem_plan, PlainPlan}
+use Rattle.sp_compile.specs.Choices.{lanes_of, IsPlanOf}
+use Rattle.sp_build.specs.Buildable.{is_scalar, is_scalar_mem, is_none, is_single, is_node_buildable, is_uncounted, is_buildable}
+use Rattle.sp_build.specs.Laws.{InnerBlocksCanBeBuilt}
+
+both : (a b : Bool) → a ≡ true → b ≡ true → (a && b) ≡ true
+both a b e f = rw (e, f) refl
+
+-- a word of a list, or what stands in its place
+all_or : {X : Type 0} (p : X → Bool) (xs : List X) (m : ℕ) (d : X) → list_all p xs ≡ true → p d ≡ true → p (slice_index_or xs m d) ≡ true
+all_or p [] m d h e = e
+all_or p (x ∷ xs) zero d h e = (and_parts (p x) (list_all p xs) h).0
+all_or p (x ∷ xs) (suc m) d h e = all_or p xs m d (and_parts (p x) (list_all p xs) h).1 e
+
+all_map : {X Y : Type 0} (p : Y → Bool) (f : X → Y) (xs : List X) → ((x : X) → p (f x) ≡ true) → list_all p (map f xs) ≡ true
+all_map p f [] h = refl
+all_map p f (x ∷ xs) h = both (p (f x)) (list_all p (map f xs)) (h x) (all_map p f xs h)
+
+-- each element at its place passes the test
+all_from : {X : Type 0} (p : X → Bool) (xs : List X) (d : X) → ((m : ℕ) → m < length xs → p (slice_index_or xs m d) ≡ true) → list_all p xs ≡ true
+all_from p [] d h = refl
+all_from p (x ∷ xs) d h = both (p x) (list_all p xs) (h 0 (omega arith)) (all_from p xs d (λ m l. h (suc m) (omega (arith, l))))
+
+abbrev is_scalar_program_mem : program.PlainMem → Bool
+is_scalar_program_mem m = is_scalar m.kind
+
+scalars_written : (mems : List program.PlainMem) → list_all is_scalar_program_mem mems ≡ true → list_all is_scalar_mem (written_mems mems) ≡ true
+scalars_written [] h = refl
+scalars_written (m ∷ mems) h =
+    let parts = and_parts (is_scalar m.kind) (list_all is_scalar_program_mem mems) h in
+    step (is_off_dram m) (scalars_written mems parts.1) parts.0
+  where
+    step : (b : Bool) → list_all is_scalar_mem (map written_mem (filter is_off_dram mems)) ≡ true → is_scalar m.kind ≡ true → list_all is_scalar_mem (map written_mem (cond b (m ∷ filter is_off_dram mems) (filter is_off_dram mems))) ≡ true
+    step true rest here = both (is_scalar m.kind) (list_all is_scalar_mem (map written_mem (filter is_off_dram mems))) here rest
+    step false rest here = rest
+
+no_dram_kind : (k : Kind) → is_scalar k ≡ true → is_dram k ≡ false
+no_dram_kind Reg h = refl
+no_dram_kind ArgIn h = refl
+no_dram_kind ArgOut h = refl
+no_dram_kind Fifo h = absurd (true≢false (sym h))
+no_dram_kind Sram h = absurd (true≢false (sym h))
+no_dram_kind LineBuf h = absurd (true≢false (sym h))
+no_dram_kind Dram h = absurd (true≢false (sym h))
+
+no_drams : (mems : List program.PlainMem) → list_all is_scalar_program_mem mems ≡ true → map port_of (filter (λ (m : program.PlainMem). is_dram m.kind) mems) ≡ []
+no_drams [] h = refl
+no_drams (m ∷ mems) h =
+    let parts = and_parts (is_scalar m.kind) (list_all is_scalar_program_mem mems) h in
+    ap (λ b. map port_of (cond b (m ∷ filter (λ (x : program.PlainMem). is_dram x.kind) mems) (filter (λ (x : program.PlainMem). is_dram x.kind) mems))) (no_dram_kind m.kind parts.0) ∙ no_drams mems parts.1
+
+-- the core of such a program: its memories, its DRAMs and its root
+mems_are : (p : PlainProgram) → is_inner p.body ≡ true → (core_of p).mems ≡ written_mems p.mems ++ []
+unfolding core_of
+mems_are p h = ap (λ b. written_mems p.mems ++ (if b then [] else registers p.body no_more)) h
+
+scalar_core : (p : PlainProgram) → is_inner p.body ≡ true → list_all is_scalar_program_mem p.mems ≡ true → list_all is_scalar_mem (lanes_of p).mems ≡ true
+unfolding unrolled
+scalar_core p h all =
+    let own = subst (λ ms. list_all is_scalar_mem ms ≡ true) (sym (mems_are p h ∙ append-nil (written_mems p.mems))) (scalars_written p.mems all) in
+    all_map is_scalar_mem (mem (core_of p)) (memory_order (core_of p)) (λ m. all_or is_scalar_mem (core_of p).mems m no_mem own refl)
+
+drams_are : (p : PlainProgram) → IsProgram p → list_all is_scalar_program_mem p.mems ≡ true → (lanes_of p).ports.drams ≡ []
+unfolding unrolled core_of
+drams_are p is all = ap (λ (x : PlainPorts). x.drams) is.ports ∙ no_drams p.mems all
+
+-- an inner body without counters
+abbrev IsInnerRoot : PlainNode → Type 0
+IsInnerRoot (inner [] owned ops comb) = Unit {0}
+IsInnerRoot _ = ⊥
+
+root_in_core : (p : PlainProgram) → is_inner p.body ≡ true → IsInnerRoot (core_of p).root
+unfolding core_of
+root_in_core p h = rw h tt
+
+root_in_lanes : (p : PlainProgram) → (node : PlainNode) → IsInnerRoot node → (order : List ℕ) (w : _) → IsInnerRoot (node_in order w node)
+unfolding node_in
+root_in_lanes p (inner [] owned ops comb) h order w = tt
+root_in_lanes p (inner (c ∷ counters) owned ops comb) h order w = absurd h
+root_in_lanes p (outer counters style owned stages) h order w = absurd h
+root_in_lanes p (fsm start state test body next) h order w = absurd h
+root_in_lanes p (branch test first second) h order w = absurd h
+root_in_lanes p (load r m spans) h order w = absurd h
+root_in_lanes p (store r m spans) h order w = absurd h
+root_in_lanes p (sparse kind r m places spans count par) h order w = absurd h
+
+laned_root : (p : PlainProgram) → is_inner p.body ≡ true → IsInnerRoot (lanes_of p).root
+unfolding unrolled
+laned_root p h = root_in_lanes p (core_of p).root (root_in_core p h) _ _
+
+root_buildable : (core : PlainCore) (node : PlainNode) → IsInnerRoot node → (is_node_buildable core node && is_uncounted node) ≡ true
+root_buildable core (inner [] owned ops comb) h = refl
+root_buildable core (inner (c ∷ counters) owned ops comb) h = absurd h
+root_buildable core (outer counters style owned stages) h = absurd h
+root_buildable core (fsm start state test body next) h = absurd h
+root_buildable core (branch test first second) h = absurd h
+root_buildable core (load r m spans) h = absurd h
+root_buildable core (store r m spans) h = absurd h
+root_buildable core (sparse kind r m places spans count par) h = absurd h
+
+depth_at_root : (core : PlainCore) (nodes : List PlainNodePlan) (m : ℕ) (node : PlainNode) → IsInnerRoot node → depth_in core nodes m 0 node ≡ 1
+depth_at_root core nodes m (inner [] owned ops comb) h = refl
+depth_at_root core nodes m (inner (c ∷ counters) owned ops comb) h = absurd h
+depth_at_root core nodes m (outer counters style owned stages) h = absurd h
+depth_at_root core nodes m (fsm start state test body next) h = absurd h
+depth_at_root core nodes m (branch test first second) h = absurd h
+depth_at_root core nodes i (load r m spans) h = absurd h
+depth_at_root core nodes i (store r m spans) h = absurd h
+depth_at_root core nodes i (sparse kind r m places spans count par) h = absurd h
+
+pub inner_built : (p : PlainProgram) → IsProgram p → InnerBlocksCanBeBuilt p
+inner_built p is one all plan planned =
+    let core = lanes_of p in
+    let scalars = scalar_core p one all in
+    let drams : is_none core.ports.drams ≡ true = ap is_none (drams_are p is all) in
+    let root = laned_root p one in
+    let alike = planned.is_planned.memories in
+    let single : list_all is_single plan.mems ≡ true =
+    all_from is_single plan.mems no_mem_plan (λ m l. eq-eqb (mem_plan plan m).depth 1 (planned.is_planned.depths m (omega (arith, alike, l)) ∙ depth_at_root core plan.nodes m core.root root)) in
+    both (list_all is_scalar_mem core.mems && is_none core.ports.drams) ((is_node_buildable core core.root && is_uncounted core.root) && list_all is_single plan.mems)
+    (both (list_all is_scalar_mem core.mems) (is_none core.ports.drams) scalars drams)
+    (both (is_node_buildable core core.root && is_uncounted core.root) (list_all is_single plan.mems) (root_buildable core core.root root) single)

@@ -1,0 +1,4 @@
+mod Carrying
+mod Inner
+mod Lists
+mod Lowering

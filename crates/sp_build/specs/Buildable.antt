@@ -1,0 +1,91 @@
+-- Which cores have a netlist so far, by their plans.
+use Rattle.std.specs.Prelude.{◌≡◌, ℕ, ◌==◌, ◌&&◌, not, Bool, true, false, IsTrue, List, [], ◌∷◌, Option, Some, None}
+use Rattle.std.specs.List.{list_all}
+use Rattle.sp_words.specs.declared.kind.Kind.{Kind}
+use Rattle.sp_words.specs.declared.kind.Kind.TheVariants.{Reg, ArgIn, ArgOut}
+use Rattle.sp_words.specs.Ports.{PlainPort}
+use Rattle.sp_tree.specs.PlainProgram.{PlainProgram}
+use Rattle.sp_core.specs.declared.operation.OpKind.{OpKind}
+use Rattle.sp_core.specs.declared.operation.OpKind.TheVariants.{Read}
+use Rattle.sp_core.specs.Declarations.{mem, is_stream}
+use Rattle.sp_core.specs.Meaning.{is_arg}
+use Rattle.sp_core.specs.PlainCore.{PlainOp, PlainCounter, PlainNode, PlainStages, inner, outer, fsm, branch, load, store, sparse, no_stage, more_stage, PlainMem, PlainCore}
+use Rattle.sp_plan.specs.PlainPlan.{PlainMemPlan, PlainPlan}
+use Rattle.sp_compile.specs.Choices.{lanes_of, IsPlanOf}
+
+-- a register, an argument or an output
+abbrev pub is_scalar : Kind → Bool
+is_scalar Reg = true
+is_scalar ArgIn = true
+is_scalar ArgOut = true
+is_scalar _ = false
+
+abbrev pub is_scalar_mem : PlainMem → Bool
+is_scalar_mem m = is_scalar m.kind
+
+abbrev pub is_none : List PlainPort → Bool
+is_none [] = true
+is_none (p ∷ ports) = false
+
+-- by the plan the memory has one copy
+abbrev pub is_single : PlainMemPlan → Bool
+is_single m = m.depth == 1
+
+module _ (core : PlainCore) where
+  -- an operation that reads reads an argument
+  abbrev pub is_argument : Option ℕ → Bool
+  is_argument None = true
+  is_argument (Some m) = is_arg (mem core m).kind
+
+  abbrev pub reads_argument : OpKind → Option ℕ → Bool
+  reads_argument Read mem = is_argument mem
+  reads_argument _ mem = true
+
+  abbrev pub is_early : PlainOp → Bool
+  is_early op = reads_argument op.kind op.mem
+
+  -- a counter's bounds read arguments alone
+  abbrev pub has_early_bounds : PlainCounter → Bool
+  has_early_bounds c = list_all is_early c.from && list_all is_early c.until
+
+  -- no transfer, no `Stream` block, and such bounds
+  abbrev mutual
+    pub is_node_buildable : PlainNode → Bool
+    is_node_buildable (inner counters owned ops comb) = list_all has_early_bounds counters
+    is_node_buildable (outer counters style owned stages) = (not (is_stream style) && list_all has_early_bounds counters) && are_buildable stages
+    is_node_buildable (fsm start state test body next) = is_node_buildable body
+    is_node_buildable (branch test first second) = is_node_buildable first && is_node_buildable second
+    is_node_buildable (load r m spans) = false
+    is_node_buildable (store r m spans) = false
+    is_node_buildable (sparse kind r m places spans count par) = false
+
+    pub are_buildable : PlainStages → Bool
+    are_buildable no_stage = true
+    are_buildable (more_stage first last comb node rest) = is_node_buildable node && are_buildable rest
+
+-- a part that isn't a loop of counters
+abbrev pub is_uncounted_by : List PlainCounter → Bool
+is_uncounted_by [] = true
+is_uncounted_by (c ∷ counters) = false
+
+abbrev pub is_uncounted : PlainNode → Bool
+is_uncounted (inner counters owned ops comb) = is_uncounted_by counters
+is_uncounted (outer counters style owned stages) = is_uncounted_by counters
+is_uncounted (fsm start state test body next) = true
+is_uncounted (branch test first second) = true
+is_uncounted _ = false
+
+-- A core all of whose memories are one word, in one copy each by the plan, without DRAMs; its root has no counters.
+abbrev pub is_buildable : PlainCore → PlainPlan → Bool
+is_buildable core plan =
+    (list_all is_scalar_mem core.mems && is_none core.ports.drams) && ((is_node_buildable core core.root && is_uncounted core.root) && list_all is_single plan.mems)
+
+-- so is the core of a program in lanes, by its plan
+abbrev pub CanBeBuilt : PlainProgram → Type 0
+CanBeBuilt p = (plan : PlainPlan) → IsPlanOf p plan → is_buildable (lanes_of p) plan ≡ true
+
+-- or it isn't
+pub record IsUnbuilt (p : PlainProgram) : Type 0 where
+  pub plan : PlainPlan
+  pub is_plan : IsPlanOf p plan
+  pub not_buildable : is_buildable (lanes_of p) plan ≡ false

@@ -1,0 +1,3 @@
+pub mod Buildable
+pub mod Carries
+pub mod Laws

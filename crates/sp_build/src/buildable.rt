@@ -1,0 +1,167 @@
+//! Which cores have a netlist so far.
+ghost use Rattle.std.specs.Prelude.{◌≡◌, ◌&&◌, map};
+ghost use Rattle.std.specs.List.{list_all};
+ghost use Rattle.sp_core.specs.CoreParts.{plain_core};
+ghost use Rattle.sp_core.specs.Declarations.{is_stream};
+ghost use Rattle.sp_core.specs.Plain.{plain_counter, plain_mem, plain_node, plain_op};
+ghost use Rattle.sp_plan.specs.Plain.{plain_mem_plan, plain_plan};
+ghost use Rattle.sp_build.specs.Buildable.{is_scalar, is_scalar_mem, is_single, is_argument, reads_argument, is_early, has_early_bounds, is_node_buildable, is_uncounted, is_buildable};
+
+use sp_core::{Core, CoreCounter, CoreMem, Node, Op, OpKind};
+use sp_plan::{MemPlan, Plan, kind};
+use sp_words::{Kind, Style};
+
+fn both(one: bool, other: bool) -> bool
+    ensures { result ≡ (one && other) }
+{
+    one && other
+}
+
+fn is_scalar(kind: Kind) -> bool
+    ensures { result ≡ is_scalar kind }
+{
+    matches!(kind, Kind::Reg | Kind::ArgIn | Kind::ArgOut)
+}
+
+fn is_scalar_mem(mem: &CoreMem) -> bool
+    ensures { result ≡ is_scalar_mem (plain_mem mem.now) }
+{
+    is_scalar(mem.kind)
+}
+
+/// Whether all memories are registers, arguments and outputs.
+fn are_scalars(mems: &[CoreMem]) -> bool
+    ensures { result ≡ list_all is_scalar_mem (map plain_mem mems.now) }
+{
+    let mut all = true;
+    for mem in mems {
+        all = both(all, is_scalar_mem(mem));
+    }
+    all
+}
+
+fn is_argument(core: &Core, mem: Option<u32>) -> bool
+    ensures { result ≡ is_argument (plain_core core.now) mem }
+{
+    match mem {
+        None => true,
+        Some(m) => kind(core, m) == Kind::ArgIn,
+    }
+}
+
+fn reads_argument(core: &Core, kind: OpKind, mem: Option<u32>) -> bool
+    ensures { result ≡ reads_argument (plain_core core.now) kind mem }
+{
+    match kind {
+        OpKind::Read => is_argument(core, mem),
+        _ => true,
+    }
+}
+
+fn is_early(core: &Core, op: &Op) -> bool
+    ensures { result ≡ is_early (plain_core core.now) (plain_op op.now) }
+{
+    reads_argument(core, op.kind, op.mem)
+}
+
+/// Whether operations that read read arguments alone.
+fn are_early(core: &Core, ops: &[Op]) -> bool
+    ensures { result ≡ list_all (is_early (plain_core core.now)) (map plain_op ops.now) }
+{
+    let mut all = true;
+    for op in ops {
+        all = both(all, is_early(core, op));
+    }
+    all
+}
+
+fn has_early_bounds(core: &Core, counter: &CoreCounter) -> bool
+    ensures { result ≡ has_early_bounds (plain_core core.now) (plain_counter counter.now) }
+{
+    are_early(core, &counter.from) && are_early(core, &counter.until)
+}
+
+/// Whether the bounds of counters do.
+fn have_early_bounds(core: &Core, counters: &[CoreCounter]) -> bool
+    ensures { result ≡ list_all (has_early_bounds (plain_core core.now)) (map plain_counter counters.now) }
+{
+    let mut all = true;
+    for counter in counters {
+        all = both(all, has_early_bounds(core, counter));
+    }
+    all
+}
+
+fn is_stream(style: Style) -> bool
+    ensures { result ≡ is_stream style }
+{
+    style == Style::Stream
+}
+
+/// Whether a part has no transfer and no `Stream` block, and its bounds read arguments alone.
+fn is_node_buildable(core: &Core, node: &Node) -> bool
+    ensures { result ≡ is_node_buildable (plain_core core.now) (plain_node node.now) }
+{
+    match node {
+        Node::Inner { counters, .. } => have_early_bounds(core, counters),
+        Node::Outer {
+            counters,
+            style,
+            stages,
+            ..
+        } => {
+            let mut all = both(!is_stream(*style), have_early_bounds(core, counters));
+            for stage in stages {
+                all = both(all, is_node_buildable(core, &stage.node));
+            }
+            all
+        }
+        Node::Fsm { body, .. } => is_node_buildable(core, body),
+        Node::Branch { yes, no, .. } => {
+            both(is_node_buildable(core, yes), is_node_buildable(core, no))
+        }
+        Node::Load { .. } => false,
+        Node::Store { .. } => false,
+        Node::Sparse { .. } => false,
+    }
+}
+
+/// Whether a part isn't a loop of counters.
+fn is_uncounted(node: &Node) -> bool
+    ensures { result ≡ is_uncounted (plain_node node.now) }
+{
+    match node {
+        Node::Inner { counters, .. } => counters.is_empty(),
+        Node::Outer { counters, .. } => counters.is_empty(),
+        Node::Fsm { .. } => true,
+        Node::Branch { .. } => true,
+        _ => false,
+    }
+}
+
+fn is_single(mem: &MemPlan) -> bool
+    ensures { result ≡ is_single (plain_mem_plan mem.now) }
+{
+    mem.depth == 1
+}
+
+/// Whether by a plan each memory has one copy.
+fn are_single(mems: &[MemPlan]) -> bool
+    ensures { result ≡ list_all is_single (map plain_mem_plan mems.now) }
+{
+    let mut all = true;
+    for mem in mems {
+        all = both(all, is_single(mem));
+    }
+    all
+}
+
+/// Whether a core has a netlist by its plan so far: its memories are registers, arguments and outputs, in one copy each; it has no
+/// DRAM, no transfer and no `Stream` block; bounds of counters read arguments alone.
+pub fn is_buildable(core: &Core, plan: &Plan) -> bool
+    ensures { result ≡ is_buildable (plain_core core.now) (plain_plan plan.now) }
+{
+    (are_scalars(core.mems()) && core.ports().drams.is_empty())
+        && ((is_node_buildable(core, core.root()) && is_uncounted(core.root()))
+            && are_single(&plan.mems))
+}

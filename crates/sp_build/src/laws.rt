@@ -1,0 +1,49 @@
+//! Laws of programs and the netlists of their cores. Each function does nothing: what it ensures is the law.
+ghost use Rattle.sp_build.specs.Laws.{BuildableCanBeLowered, CoresCarryPrograms, CoresKeepCosts, InnerBlocksCanBeBuilt};
+ghost use Rattle.sp_plan.specs.PlainPlan.{PlainPlan};
+ghost use Rattle.sp_tree.specs.Invariant.{IsProgram};
+ghost use Rattle.sp_tree.specs.PlainProgram.{PlainProgram};
+
+use sp_chosen_runs::chosen_plans_run;
+use sp_lane_cores::programs_stay_cores;
+use sp_lane_programs::programs_are_by_lane;
+use sp_machine::cores_end_in_their_cost;
+use sp_plans::chosen_plans_are_valid;
+use sp_program_runs::laned_programs_run_well;
+use sp_tree::turns_decide;
+
+/// The core of a program in lanes can be lowered by the plan that is chosen for it, where it is buildable.
+pub fn buildable_cores_can_be_lowered()
+    ensures { (p : PlainProgram) (plan : PlainPlan) → IsProgram p → BuildableCanBeLowered p plan }
+{
+    chosen_plans_are_valid();
+    programs_stay_cores();
+}
+
+/// A netlist that carries that core carries the program: where the program ends, its core in lanes has a run with the program's
+/// words, which the plan brings to its end in time and within the limit.
+pub fn cores_carry_programs()
+    ensures { (p : PlainProgram) (plan : PlainPlan) → IsProgram p → CoresCarryPrograms p plan }
+{
+    chosen_plans_are_valid();
+    laned_programs_run_well();
+    programs_are_by_lane();
+    programs_stay_cores();
+    turns_decide();
+}
+
+/// And it is done within the cost of each run of that core, by the numbers of the plan.
+pub fn cores_keep_costs()
+    ensures { (p : PlainProgram) (plan : PlainPlan) → IsProgram p → CoresKeepCosts p plan }
+{
+    chosen_plans_are_valid();
+    chosen_plans_run();
+    cores_end_in_their_cost();
+    programs_are_by_lane();
+    programs_stay_cores();
+}
+
+/// A program whose block is one inner body, without controllers and transfers, over registers, arguments and outputs, can be built.
+pub fn inner_blocks_can_be_built()
+    ensures { (p : PlainProgram) → IsProgram p → InnerBlocksCanBeBuilt p }
+{}
