@@ -5,16 +5,18 @@
 
 The result of each kernel is computed here from its setup and CSV files, apart from the program, with the turns that a
 run takes. Where the compiler is built, `check` must say ok of each kernel, `format` must print it as it stands but for
-comments, and `seq` must print the result; a program without `seq` is asked for the first two. With --expected the result of one
-kernel is printed.
+comments, and `seq` must print the result; a program without `seq` is asked for the first two. `run` must leave the same words, where
+the kernel can be compiled. With --expected the result of one kernel is printed.
 """
 
 import csv
 import math
 import os
 import re
+import shutil
 import subprocess
 import sys
+import tempfile
 import tomllib
 import zlib
 from fractions import Fraction
@@ -24,6 +26,7 @@ EXAMPLES = os.path.join(HERE, '..', 'examples')
 PROGRAM = os.path.join(HERE, '..', 'crates', 'spatialc', 'out', 'spatialc')
 
 NO_COMMAND = 2
+UNBUILT = 15
 
 
 def loop(iterations, body):
@@ -217,9 +220,23 @@ def plain(text):
     return ' '.join(re.sub(r'(\d)\.to\[FixPt[^]]*\]\]', r'\1', text).split())
 
 
-def call(*words):
-    done = subprocess.run([PROGRAM, *words], cwd=EXAMPLES, capture_output=True, text=True, check=False)
+def call(*words, folder=EXAMPLES):
+    done = subprocess.run([PROGRAM, *words], cwd=folder, capture_output=True, text=True, check=False)
     return done.returncode, done.stdout
+
+
+def call_apart(*words):
+    """As call, where the command writes a file: in a folder that goes again."""
+    with tempfile.TemporaryDirectory() as folder:
+        for file in os.listdir(EXAMPLES):
+            if os.path.isfile(os.path.join(EXAMPLES, file)):
+                shutil.copy(os.path.join(EXAMPLES, file), folder)
+        return call(*words, folder=folder)
+
+
+def words_left(result):
+    """A result without its last line, which has the turns or the cycles."""
+    return result.splitlines()[:-1]
 
 
 def faults_of(kernel):
@@ -234,6 +251,9 @@ def faults_of(kernel):
     status, printed = call('seq', source, setup)
     if status != NO_COMMAND and (status, printed) != (0, expected(kernel)):
         yield f'seq: {status} {printed}for\n{expected(kernel)}'
+    status, printed = call_apart('run', source, setup)
+    if status not in (NO_COMMAND, UNBUILT) and (status, words_left(printed)) != (0, words_left(expected(kernel))):
+        yield f'run: {status} {printed}for\n{expected(kernel)}'
 
 
 def main():

@@ -4,8 +4,8 @@
 #[cfg(test)]
 mod commands;
 #[cfg(test)]
+mod compiled;
+#[cfg(test)]
 mod setup;
 #[cfg(test)]
 mod simulation;
-#[cfg(test)]
-mod straight;

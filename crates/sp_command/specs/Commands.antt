@@ -8,6 +8,7 @@ pub data Command : Type 0 where
   verilog : (program : List ℕ) → Command
   report : (program : List ℕ) → Command
   seq : (program setup : List ℕ) → Command
+  run : (program setup : List ℕ) → Command
   simulate : (listing setup : List ℕ) → Command
   waves : (listing setup : List ℕ) → Command
 
@@ -24,5 +25,6 @@ IsCommand said (compile program) = (said ≡ codes "compile" ∷ program ∷ [])
 IsCommand said (verilog program) = (said ≡ codes "verilog" ∷ program ∷ []) × IsFileWord program
 IsCommand said (report program) = (said ≡ codes "report" ∷ program ∷ []) × IsFileWord program
 IsCommand said (seq program setup) = (said ≡ codes "seq" ∷ program ∷ setup ∷ []) × IsFileWord program × IsFileWord setup
+IsCommand said (run program setup) = (said ≡ codes "run" ∷ program ∷ setup ∷ []) × IsFileWord program × IsFileWord setup
 IsCommand said (simulate listing setup) = (said ≡ codes "simulate" ∷ listing ∷ setup ∷ []) × IsFileWord listing × IsFileWord setup
 IsCommand said (waves listing setup) = (said ≡ codes "waves" ∷ listing ∷ setup ∷ []) × IsFileWord listing × IsFileWord setup

@@ -1,9 +1,9 @@
 -- What the code's values stand for: a command as the words say it, and words apart.
 use Rattle.std.specs.Prelude.{ℕ, List, [], ◌∷◌, Option, Some, None}
-use Rattle.sp_command.specs.Commands.{check, format, compile, verilog, report, seq, simulate, waves}
+use Rattle.sp_command.specs.Commands.{check, format, compile, verilog, report, seq, run, simulate, waves}
 use Rattle.sp_command.specs.Commands as commands
 use Rattle.sp_command.specs.declared.command.Command.{Command}
-use Rattle.sp_command.specs.declared.command.Command.TheVariants.{Check, Format, Compile, Verilog, Report, Seq, Simulate, Waves}
+use Rattle.sp_command.specs.declared.command.Command.TheVariants.{Check, Format, Compile, Verilog, Report, Seq, Run, Simulate, Waves}
 use Rattle.sp_command.specs.declared.said.Said.{Said}
 use Rattle.std.specs.Borrow.{Bor}
 
@@ -14,6 +14,7 @@ plain_command (Compile program) = compile program.now
 plain_command (Verilog program) = verilog program.now
 plain_command (Report program) = report program.now
 plain_command (Seq program setup) = seq program.now setup.now
+plain_command (Run program setup) = run program.now setup.now
 plain_command (Simulate listing setup) = simulate listing.now setup.now
 plain_command (Waves listing setup) = waves listing.now setup.now
 

@@ -22,6 +22,8 @@ pub enum Command<'a> {
     Report { program: &'a str },
     /// `seq P S`: what program P leaves under the setup S.
     Seq { program: &'a str, setup: &'a str },
+    /// `run P S`: the netlist of program P, and the result of its run under the setup S.
+    Run { program: &'a str, setup: &'a str },
     /// `simulate L S`: the result of the listing L under the setup S.
     Simulate { listing: &'a str, setup: &'a str },
     /// `waves L S`: the value change dump of that run.
@@ -42,6 +44,7 @@ fn row_of(said: Said<'_>) -> Option<Command<'_>>
         ("verilog", None) => Some(Command::Verilog { program }),
         ("report", None) => Some(Command::Report { program }),
         ("seq", Some(setup)) => Some(Command::Seq { program, setup }),
+        ("run", Some(setup)) => Some(Command::Run { program, setup }),
         ("simulate", Some(setup)) => Some(Command::Simulate {
             listing: program,
             setup,

@@ -1,5 +1,5 @@
 -- The text of a program under a sure name isn't refused by `check`, `format` or `report`.
-use Rattle.std.proofs.Common.{◌≡◌, ◌⊎◌, inl, inr, ◌≤◌, ℕ, List, length, subst}
+use Rattle.std.proofs.Common.{◌≡◌, inl, inr, ◌≤◌, ℕ, List, length, subst}
 use Rattle.sp_edges.specs.Standing.{Standing, Holds}
 use Rattle.sp_edges.specs.Calls.{Call}
 use Rattle.sp_tree.specs.PlainProgram.{PlainProgram}
@@ -8,8 +8,8 @@ use Rattle.sp_source.specs.declared.error.SourceError.TheVariants as source
 use Rattle.sp_source.specs.Texts.{Spells, IsCauseOf}
 use Rattle.sp_top.specs.Status.{PlainStatus, done, words, setup_refused, read_fault, write_fault, memory, listing_refused, conflict, cycles_spent, stopped_at, turns_spent, too_long, unbuilt, source_refused}
 use Rattle.sp_top.specs.Check.{CheckRefuses}
-use Rattle.sp_top.specs.Compile.{longest_program}
-use Rattle.sp_top.specs.Commands.{Command, check, format, compile, verilog, report, seq, simulate, waves, IsCommand, IsReading, MayRefuse, MayEnd, Refuses, NotRefused}
+use Rattle.sp_top.specs.Programs.{longest_program}
+use Rattle.sp_top.specs.Commands.{Command, check, format, compile, verilog, report, seq, run, simulate, waves, IsCommand, IsReading, MayRefuse, MayEnd, Refuses, NotRefused}
 use Rattle.sp_top.specs.Record.{SinkChange, Records}
 use Rattle.sp_top.proofs.CompleteLemmas.{ends_well, not_check, not_check_verilog, not_format, not_format_check, not_format_verilog, not_report, not_report_check, not_report_format, not_report_verilog, past, same_bytes}
 
@@ -53,8 +53,11 @@ only_check said told failed asked program status (verilog other) (inl is) also r
 only_check said told failed asked program status (verilog other) (inr (inl is)) also refuses = absurd (not_format_verilog said program other is also)
 only_check said told failed asked program status (verilog other) (inr (inr is)) also refuses = absurd (not_report_verilog said program other is also)
 only_check said told failed asked program status (seq name setup) (inl is) also refuses = let a = is.0 in let b = also.0 in absurd (cc)
+only_check said told failed asked program status (run name setup) (inl is) also refuses = let a = is.0 in let b = also.0 in absurd (cc)
 only_check said told failed asked program status (seq name setup) (inr (inl is)) also refuses = let a = is.0 in let b = also.0 in absurd (cc)
+only_check said told failed asked program status (run name setup) (inr (inl is)) also refuses = let a = is.0 in let b = also.0 in absurd (cc)
 only_check said told failed asked program status (seq name setup) (inr (inr is)) also refuses = let a = is.0 in let b = also.0 in absurd (cc)
+only_check said told failed asked program status (run name setup) (inr (inr is)) also refuses = let a = is.0 in let b = also.0 in absurd (cc)
 only_check said told failed asked program status (simulate listing setup) (inl is) also refuses = let a = is.0 in let b = also.0 in absurd (cc)
 only_check said told failed asked program status (simulate listing setup) (inr (inl is)) also refuses = let a = is.0 in let b = also.0 in absurd (cc)
 only_check said told failed asked program status (simulate listing setup) (inr (inr is)) also refuses = let a = is.0 in let b = also.0 in absurd (cc)

@@ -1,21 +1,18 @@
--- A program of the form under a sure name isn't refused.
-use Rattle.std.proofs.Common.{◌≡◌, ◌⊎◌, inl, inr, ap, sym, ◌∙◌, subst, ℕ, [], ◌+◌, ◌≤◌, List, length, take, slice_index, slice_index_or, arith}
+-- Words are one command at most; what stands under a sure name is read.
+use Rattle.std.proofs.Common.{◌≡◌, ap, sym, ◌∙◌, subst, ℕ, [], ◌+◌, ◌≤◌, List, length, take, slice_index, slice_index_or, arith}
 use Rattle.std.proofs.lemmas.List.{length-take}
 use Rattle.sp_edges.specs.Standing.{Standing, Holds, IsAllOf, BeginsWith}
-use Rattle.sp_top.specs.Form.{Line, IsStraight, BreaksAt}
 use Rattle.sp_top.specs.Status.{PlainStatus, done, words, setup_refused, read_fault, write_fault, memory, listing_refused, conflict, cycles_spent, stopped_at, turns_spent, too_long, unbuilt, source_refused}
 use Rattle.sp_edges.specs.Calls.{Call}
 use Rattle.sp_top.specs.Reads.{IsPastText}
-use Rattle.sp_top.specs.Compile.{longest_program, CompileRefuses}
-use Rattle.sp_top.specs.Commands.{Command, check, format, compile, verilog, report, seq, simulate, waves, IsCommand, MayRefuse, Refuses, MayEnd, NotRefused}
+use Rattle.sp_top.specs.Commands.{Command, check, format, compile, verilog, report, IsCommand, Refuses, MayEnd, NotRefused}
 use Rattle.sp_top.specs.Record.{SinkChange, Records}
-use Rattle.sp_top.proofs.LawLemmas.{breaks_or_reads}
 
 -- words are one command at most
-one_program : (said : List (List ℕ)) (p q : List ℕ) → IsCommand said (compile p) → IsCommand said (compile q) → p ≡ q
+pub one_program : (said : List (List ℕ)) (p q : List ℕ) → IsCommand said (compile p) → IsCommand said (compile q) → p ≡ q
 one_program said p q first second = let a = first.0 in let b = second.0 in cc
 
-one_verilog : (said : List (List ℕ)) (p q : List ℕ) → IsCommand said (verilog p) → IsCommand said (verilog q) → p ≡ q
+pub one_verilog : (said : List (List ℕ)) (p q : List ℕ) → IsCommand said (verilog p) → IsCommand said (verilog q) → p ≡ q
 one_verilog said p q first second = let a = first.0 in let b = second.0 in cc
 
 -- their first words begin with other letters
@@ -70,18 +67,10 @@ not_report_format said p q one other =
     let letters : 114 ≡ 102 = sym (ap first_letter one.0) ∙ ap first_letter other.0 in
     omega (arith, letters)
 
-not_both : (said : List (List ℕ)) (p q : List ℕ) → IsCommand said (compile p) → IsCommand said (verilog q) → ⊥
+pub not_both : (said : List (List ℕ)) (p q : List ℕ) → IsCommand said (compile p) → IsCommand said (verilog q) → ⊥
 not_both said p q one other =
     let letters : 99 ≡ 118 = sym (ap first_letter one.0) ∙ ap first_letter other.0 in
     omega (arith, letters)
-
--- one of the two commands
-abbrev pub IsTranslation : List (List ℕ) → (program : List ℕ) → Type 0
-IsTranslation said program = IsCommand said (compile program) ⊎ IsCommand said (verilog program)
-
-no_words : (said : List (List ℕ)) (program : List ℕ) → IsTranslation said program → ((command : Command) → IsCommand said command → ⊥) → ⊥
-no_words said program (inl is) none = none (compile program) is
-no_words said program (inr is) none = none (verilog program) is
 
 -- no more bytes than these stand there
 not_past : (most : ℕ) (bytes more : List ℕ) → length bytes ≤ most → length more ≡ most + 1 → more ≡ take (length more) bytes → ⊥
@@ -93,28 +82,6 @@ past most standing bytes told small long =
 
 pub same_bytes : (standing : Standing) (bytes others : List ℕ) → standing ≡ Holds bytes → IsAllOf standing others → others ≡ bytes
 same_bytes standing bytes others told all = subst (λ (s : Standing). IsAllOf s others) told all
-
--- words that are that command refuse as it does
-only_compile : (said : List (List ℕ)) (told : List ℕ → Standing) (failed : List ℕ → Type 0) (asked : List Call → Type 0) (program : List ℕ) (status : PlainStatus) (command : Command)
-    → IsTranslation said program → IsCommand said command → MayRefuse told failed asked command status → CompileRefuses told failed asked program status
-only_compile said told failed asked program status (check other) (inl is) also refuses = absurd (not_check said other program also is)
-only_compile said told failed asked program status (check other) (inr is) also refuses = absurd (not_check_verilog said other program also is)
-only_compile said told failed asked program status (format other) (inl is) also refuses = absurd (not_format said other program also is)
-only_compile said told failed asked program status (format other) (inr is) also refuses = absurd (not_format_verilog said other program also is)
-only_compile said told failed asked program status (compile other) (inl is) also refuses =
-    let P : List ℕ → Type 0 = λ p. CompileRefuses told failed asked p status in subst P (one_program said other program also is) refuses
-only_compile said told failed asked program status (compile other) (inr is) also refuses = absurd (not_both said other program also is)
-only_compile said told failed asked program status (verilog other) (inl is) also refuses = absurd (not_both said program other is also)
-only_compile said told failed asked program status (verilog other) (inr is) also refuses =
-    let P : List ℕ → Type 0 = λ p. CompileRefuses told failed asked p status in subst P (one_verilog said other program also is) refuses
-only_compile said told failed asked program status (report other) (inl is) also refuses = absurd (not_report said other program also is)
-only_compile said told failed asked program status (report other) (inr is) also refuses = absurd (not_report_verilog said other program also is)
-only_compile said told failed asked program status (seq name setup) (inl is) also refuses = let a = is.0 in let b = also.0 in absurd (cc)
-only_compile said told failed asked program status (seq name setup) (inr is) also refuses = let a = is.0 in let b = also.0 in absurd (cc)
-only_compile said told failed asked program status (simulate listing setup) (inl is) also refuses = let a = is.0 in let b = also.0 in absurd (cc)
-only_compile said told failed asked program status (simulate listing setup) (inr is) also refuses = let a = is.0 in let b = also.0 in absurd (cc)
-only_compile said told failed asked program status (waves listing setup) (inl is) also refuses = let a = is.0 in let b = also.0 in absurd (cc)
-only_compile said told failed asked program status (waves listing setup) (inr is) also refuses = let a = is.0 in let b = also.0 in absurd (cc)
 
 -- a call isn't refused where its words are a command which is refused in no way but for want of memory
 pub ends_well : (said : List (List ℕ)) (told : List ℕ → Standing) (failed : List ℕ → Type 0) (asked : List Call → Type 0) → (((command : Command) → IsCommand said command → ⊥) → ⊥)
@@ -134,34 +101,3 @@ ends_well said told failed asked is fine out aside (turns_spent turns) records =
 ends_well said told failed asked is fine out aside (too_long name) records = fine (too_long name) records.2.0
 ends_well said told failed asked is fine out aside (source_refused error) records = fine (source_refused error) records.2.0
 ends_well said told failed asked is fine out aside (unbuilt line) records = fine (unbuilt line) records.2.0
-
-module _ (told : List ℕ → Standing) (failed : List ℕ → Type 0) (asked : List Call → Type 0) (program bytes : List ℕ) (lines : List Line) where
-  -- a program of the form under a sure name isn't refused
-  compiles : (status : PlainStatus) → (failed program → ⊥) → told program ≡ Holds bytes → length bytes ≤ longest_program → IsStraight bytes lines
-      → CompileRefuses told failed asked program status → NotRefused status
-  compiles done read holds small straight refuses = tt
-  compiles words read holds small straight refuses = absurd refuses
-  compiles (setup_refused refusal) read holds small straight refuses = absurd refuses
-  compiles read_fault read holds small straight refuses = absurd (read refuses.1)
-  compiles (write_fault which) read holds small straight refuses = tt
-  compiles memory read holds small straight refuses = tt
-  compiles (listing_refused error) read holds small straight refuses = absurd refuses
-  compiles (conflict cycle bank port) read holds small straight refuses = absurd refuses
-  compiles (cycles_spent cycles) read holds small straight refuses = absurd refuses
-  compiles (stopped_at kind at) read holds small straight refuses = absurd refuses
-  compiles (turns_spent turns) read holds small straight refuses = absurd refuses
-  compiles (too_long name) read holds small straight refuses = absurd (past longest_program (told program) bytes holds small refuses.2)
-  compiles (source_refused error) read holds small straight refuses = absurd refuses
-  compiles (unbuilt line) read holds small straight refuses =
-      let same : refuses.bytes ≡ bytes = same_bytes (told program) bytes refuses.bytes holds refuses.gives.all in
-      absurd (breaks_or_reads bytes line lines (subst (λ (b : List ℕ). BreaksAt b line) same refuses.breaks) straight)
-
-  refused_so : (said : List (List ℕ)) (status : PlainStatus) → IsTranslation said program → (failed program → ⊥) → told program ≡ Holds bytes → length bytes ≤ longest_program
-      → IsStraight bytes lines → Refuses said told failed asked status → NotRefused status
-  refused_so said status is read holds small straight m = compiles status read holds small straight (only_compile said told failed asked program status m.0 is m.1 m.2)
-
-  pub complete : (said : List (List ℕ)) (out aside : SinkChange) (result : PlainStatus) → Records (MayEnd said told failed asked) out aside result
-      → IsTranslation said program → (failed program → ⊥) → told program ≡ Holds bytes → length bytes ≤ longest_program → IsStraight bytes lines
-      → NotRefused result
-  complete said out aside result records is read holds small straight =
-      ends_well said told failed asked (no_words said program is) (λ status refuses. refused_so said status is read holds small straight refuses) out aside result records

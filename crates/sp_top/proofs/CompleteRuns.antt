@@ -22,7 +22,7 @@ use Rattle.sp_words.specs.Ports.{PlainPorts}
 use Rattle.sp_top.specs.Status.{PlainStatus, done, words, setup_refused, read_fault, write_fault, memory, listing_refused, conflict, cycles_spent, stopped_at, turns_spent, too_long, unbuilt, source_refused}
 use Rattle.sp_top.specs.Reads.{ReadRefuses}
 use Rattle.sp_top.specs.Simulate.{longest_listing, longest_setup, setting_of, end_status, GivesNetlist, RefusesListing, ListingRefuses, SetupRefuses, RunEnds, DumpEnds, SimulateRefuses}
-use Rattle.sp_top.specs.Commands.{Command, check, format, compile, verilog, report, seq, simulate, waves, IsCommand, MayRefuse, MayEnd, NotRefused}
+use Rattle.sp_top.specs.Commands.{Command, check, format, compile, verilog, report, seq, run, simulate, waves, IsCommand, MayRefuse, MayEnd, NotRefused}
 use Rattle.sp_top.specs.Complete.{IsRunnable, IsDoneInTime}
 use Rattle.sp_top.specs.Record.{SinkChange, Records}
 use Rattle.sp_top.proofs.CompleteLemmas.{past, same_bytes, ends_well}
@@ -217,6 +217,8 @@ module _ (laws : HasLaws) (told : List ℕ → Standing) (sure failed : List ℕ
   simulates_alone said status (report other) is also refuses = let a = is.0 in let b = also.0 in absurd (cc)
   simulates_alone said status (seq p s) is also refuses =
       let letters : 105 ≡ 101 = sym (ap second_letter is.0) ∙ ap second_letter also.0 in absurd (omega (arith, letters))
+  simulates_alone said status (run p s) is also refuses =
+      let letters : 115 ≡ 114 = sym (ap first_letter is.0) ∙ ap first_letter also.0 in absurd (omega (arith, letters))
   simulates_alone said status (simulate l s) is also refuses =
       let a = is.0 in
       let b = also.0 in
@@ -237,6 +239,8 @@ module _ (laws : HasLaws) (told : List ℕ → Standing) (sure failed : List ℕ
   dumps_alone said status (report other) is also refuses = let a = is.0 in let b = also.0 in absurd (cc)
   dumps_alone said status (seq p s) is also refuses =
       let letters : 119 ≡ 115 = sym (ap first_letter is.0) ∙ ap first_letter also.0 in absurd (omega (arith, letters))
+  dumps_alone said status (run p s) is also refuses =
+      let letters : 119 ≡ 114 = sym (ap first_letter is.0) ∙ ap first_letter also.0 in absurd (omega (arith, letters))
   dumps_alone said status (waves l s) is also refuses =
       let a = is.0 in
       let b = also.0 in

@@ -15,9 +15,9 @@ use Rattle.sp_top.specs.Reads.{ReadRefuses}
 use Rattle.sp_top.specs.Check.{CheckRefuses}
 use Rattle.sp_top.specs.Compile.{CompileRefuses}
 use Rattle.sp_tree.specs.PlainProgram.{PlainProgram}
-use Rattle.sp_top.specs.Seq.{Stops}
+use Rattle.sp_top.specs.Seq.{Stops, RunStops}
 use Rattle.sp_top.specs.Simulate.{ListingRefuses, SetupRefuses, end_status, RunEnds, DumpEnds, longest_setup}
-use Rattle.sp_top.specs.Commands.{Command, check, format, compile, verilog, report, seq, simulate, waves, MayRefuse, Refuses, MayEnd}
+use Rattle.sp_top.specs.Commands.{Command, check, format, compile, verilog, report, seq, run, simulate, waves, MayRefuse, Refuses, MayEnd}
 
 -- a status in which a command may refuse
 abbrev pub IsRefusal : PlainStatus → Type 0
@@ -142,6 +142,22 @@ stop_refuses program plain (too_long text) refuses = tt
 stop_refuses program plain (source_refused error) refuses = tt
 stop_refuses program plain (unbuilt line) refuses = tt
 
+run_stop_refuses : (program : PlainProgram) (plain : PlainSetup) (status : PlainStatus) → RunStops program plain status → IsRefusal status
+run_stop_refuses program plain done refuses = absurd refuses
+run_stop_refuses program plain words refuses = absurd refuses
+run_stop_refuses program plain (setup_refused refusal) refuses = tt
+run_stop_refuses program plain read_fault refuses = tt
+run_stop_refuses program plain (write_fault which) refuses = absurd refuses
+run_stop_refuses program plain memory refuses = tt
+run_stop_refuses program plain (listing_refused error) refuses = tt
+run_stop_refuses program plain (conflict cycle bank port) refuses = tt
+run_stop_refuses program plain (cycles_spent cycles) refuses = tt
+run_stop_refuses program plain (stopped_at kind at) refuses = tt
+run_stop_refuses program plain (turns_spent turns) refuses = tt
+run_stop_refuses program plain (too_long text) refuses = tt
+run_stop_refuses program plain (source_refused error) refuses = tt
+run_stop_refuses program plain (unbuilt line) refuses = tt
+
 dump_refuses : (cells : List PlainCell) (plain : PlainSetup) (status : PlainStatus) → DumpEnds cells plain status → IsRefusal status
 dump_refuses cells plain done refuses = absurd refuses
 dump_refuses cells plain words refuses = absurd refuses
@@ -172,6 +188,10 @@ may_refuse told failed asked (seq program setup) status (inl refuses) = check_re
 may_refuse told failed asked (seq program setup) status (inr (inl refuses)) =
     setup_refuses told failed (λ calls. asked (given program ∷ calls)) _ setup status refuses.refuses
 may_refuse told failed asked (seq program setup) status (inr (inr refuses)) = stop_refuses refuses.program refuses.plain status refuses.stops
+may_refuse told failed asked (run program setup) status (inl refuses) = check_refuses told failed asked program status refuses
+may_refuse told failed asked (run program setup) status (inr (inl refuses)) =
+    setup_refuses told failed (λ calls. asked (given program ∷ calls)) _ setup status refuses.refuses
+may_refuse told failed asked (run program setup) status (inr (inr refuses)) = run_stop_refuses refuses.program refuses.plain status refuses.stops
 may_refuse told failed asked (waves listing setup) status (inl refuses) = listing_refuses (told listing) (failed listing) asked listing status refuses
 may_refuse told failed asked (waves listing setup) status (inr (inl refuses)) =
     setup_refuses told failed (λ calls. asked (given listing ∷ calls)) _ setup status refuses.refuses
@@ -237,7 +257,7 @@ compile_memory told failed asked program (cycles_spent cycles) parts refuses = a
 compile_memory told failed asked program (stopped_at kind at) parts refuses = absurd refuses
 compile_memory told failed asked program (turns_spent turns) parts refuses = absurd refuses
 compile_memory told failed asked program (too_long text) parts refuses = too_long_call asked program refuses.0
-compile_memory told failed asked program (source_refused error) parts refuses = absurd refuses
+compile_memory told failed asked program (source_refused error) parts refuses = given_call asked program refuses.asks
 compile_memory told failed asked program (unbuilt line) parts refuses = given_call asked program refuses.asks
 
 check_memory : (told : List ℕ → Standing) (failed : List ℕ → Type 0) (asked : List Call → Type 0) (program : List ℕ) (status : PlainStatus) → HasParts status
@@ -317,6 +337,15 @@ memory_refuses told failed asked (seq program setup) status parts (inr (inl refu
       refuses = setup_memory told failed (λ calls. asked (given program ∷ calls)) _ setup status parts refuses.refuses;
     }))
 memory_refuses told failed asked (seq program setup) status parts (inr (inr refuses)) =
+    inr (inr (record { program = refuses.program; plain = refuses.plain; is_given = refuses.is_given; stops = tt }))
+memory_refuses told failed asked (run program setup) status parts (inl refuses) = inl (check_memory told failed asked program status parts refuses)
+memory_refuses told failed asked (run program setup) status parts (inr (inl refuses)) =
+    inr (inl (record {
+      program = refuses.program;
+      gives_program = refuses.gives_program;
+      refuses = setup_memory told failed (λ calls. asked (given program ∷ calls)) _ setup status parts refuses.refuses;
+    }))
+memory_refuses told failed asked (run program setup) status parts (inr (inr refuses)) =
     inr (inr (record { program = refuses.program; plain = refuses.plain; is_given = refuses.is_given; stops = tt }))
 memory_refuses told failed asked (waves listing setup) status parts (inl refuses) = inl (listing_memory (told listing) (failed listing) asked listing status parts refuses)
 memory_refuses told failed asked (waves listing setup) status parts (inr (inl refuses)) =

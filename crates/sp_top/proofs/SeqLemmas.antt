@@ -32,6 +32,11 @@ fault_told (ended outs drams turns shape) kind at e = absurd (cc)
 fault_told (stopped k place) kind at e = cc
 fault_told unfinished kind at e = absurd (cc)
 
+pub ended_told : (o : Outcome) (turns : ℕ) → Ended turns ≡ end_of o → (outs : List ℕ) × (drams : List (List ℕ)) × (shape : Shape) × (o ≡ ended outs drams turns shape)
+ended_told (ended outs drams t shape) turns e = let same : t ≡ turns = cc in (outs, drams, shape, ap (λ n. ended outs drams n shape) same)
+ended_told (stopped k place) turns e = absurd (cc)
+ended_told unfinished turns e = absurd (cc)
+
 pub spent_told : (o : Outcome) → TurnsSpent ≡ end_of o → o ≡ unfinished
 spent_told (ended outs drams turns shape) e = absurd (cc)
 spent_told (stopped k place) e = absurd (cc)

@@ -10,7 +10,7 @@ use Rattle.sp_source.specs.Texts.{Spells, IsCauseOf}
 use Rattle.sp_plan.specs.PlainPlan.{PlainPlan}
 use Rattle.sp_report.specs.Report.{report_text}
 use Rattle.sp_compile.specs.Choices.{lanes_of, IsPlanOf}
-use Rattle.sp_top.specs.Compile.{longest_program}
+use Rattle.sp_top.specs.Programs.{longest_program}
 use Rattle.sp_top.specs.Reads.{GivesText, ReadRefuses}
 use Rattle.sp_top.specs.Status.{PlainStatus, memory, source_refused}
 

@@ -1,11 +1,12 @@
 -- How a command of the table may end, and what it then puts.
 use Rattle.std.specs.Prelude.{◌≡◌, ◌⊎◌, ℕ, List, []}
-pub use Rattle.sp_command.specs.Commands.{Command, check, format, compile, verilog, report, seq, simulate, waves, IsFileWord, IsCommand}
+pub use Rattle.sp_command.specs.Commands.{Command, check, format, compile, verilog, report, seq, run, simulate, waves, IsFileWord, IsCommand}
 use Rattle.sp_edges.specs.Standing.{Standing}
 use Rattle.sp_edges.specs.Calls.{Call}
 use Rattle.sp_top.specs.Check.{SaysRight, WritesCanonical, WritesReport, CheckRefuses}
-use Rattle.sp_top.specs.Compile.{ListsProgram, PrintsProgram, Translates, CompileRefuses}
-use Rattle.sp_top.specs.Seq.{RunsProgram, SeqRefuses}
+use Rattle.sp_top.specs.Compile.{ListsProgram, PrintsProgram, CompileRefuses}
+use Rattle.sp_top.specs.Programs.{Translates}
+use Rattle.sp_top.specs.Seq.{LeavesAlone, RunsNetlist, RunsProgram, RunRefuses, RunStops, Stops}
 use Rattle.sp_top.specs.Simulate.{Prints, RunEnds, Dumps, DumpEnds, Simulates, SimulateRefuses}
 use Rattle.sp_top.specs.Status.{PlainStatus, done, words, write_fault, memory, line_of}
 
@@ -16,7 +17,8 @@ DoneTexts told asked (format program) out aside = Translates WritesCanonical tol
 DoneTexts told asked (compile program) out aside = Translates ListsProgram told asked program out aside
 DoneTexts told asked (verilog program) out aside = Translates PrintsProgram told asked program out aside
 DoneTexts told asked (report program) out aside = Translates WritesReport told asked program out aside
-DoneTexts told asked (seq program setup) out aside = RunsProgram told asked program setup out aside
+DoneTexts told asked (seq program setup) out aside = RunsProgram LeavesAlone told asked program setup out aside
+DoneTexts told asked (run program setup) out aside = RunsProgram RunsNetlist told asked program setup out aside
 DoneTexts told asked (simulate listing setup) out aside = Simulates Prints told asked listing setup out aside
 DoneTexts told asked (waves listing setup) out aside = Simulates Dumps told asked listing setup out aside
 
@@ -28,7 +30,8 @@ MayRefuse told failed asked (format program) status = CheckRefuses told failed a
 MayRefuse told failed asked (compile program) status = CompileRefuses told failed asked program status
 MayRefuse told failed asked (verilog program) status = CompileRefuses told failed asked program status
 MayRefuse told failed asked (report program) status = CheckRefuses told failed asked program status
-MayRefuse told failed asked (seq program setup) status = SeqRefuses told failed asked program setup status
+MayRefuse told failed asked (seq program setup) status = RunRefuses Stops told failed asked program setup status
+MayRefuse told failed asked (run program setup) status = RunRefuses RunStops told failed asked program setup status
 MayRefuse told failed asked (simulate listing setup) status = SimulateRefuses RunEnds told failed asked listing setup status
 MayRefuse told failed asked (waves listing setup) status = SimulateRefuses DumpEnds told failed asked listing setup status
 

@@ -1,23 +1,25 @@
 -- `compile P` and `verilog P`: the listing, and the Verilog text, of a netlist that carries program P.
-use Rattle.std.specs.Prelude.{◌≡◌, ℕ, List, [], ◌∷◌}
+use Rattle.std.specs.Prelude.{◌≡◌, ◌≢◌, ℕ, suc, List, [], ◌∷◌, count_by}
 use Rattle.sp_edges.specs.Standing.{Standing}
 use Rattle.sp_edges.specs.Calls.{Call, given}
 use Rattle.sp_netlist.specs.Cells.{PlainCell}
 use Rattle.sp_netlist.specs.Rules.{IsNetlist}
 use Rattle.sp_listing.specs.Text.{listing_text}
 use Rattle.sp_verilog.specs.Text.{IsVerilog}
-use Rattle.sp_top.specs.Form.{Line, IsStraight, BreaksAt, program_of}
-use Rattle.sp_top.specs.Carries.{Carries}
-use Rattle.sp_top.specs.Reads.{GivesText, ReadRefuses}
-use Rattle.sp_top.specs.Status.{PlainStatus, memory, unbuilt}
+use Rattle.sp_tree.specs.Counts.{is_port}
+use Rattle.sp_tree.specs.PlainProgram.{PlainMem, PlainProgram}
+use Rattle.sp_source.specs.declared.error.SourceError.TheVariants as source
+use Rattle.sp_source.specs.Texts.{Spells, IsCauseOf}
+use Rattle.sp_build.specs.Buildable.{IsUnbuilt}
+use Rattle.sp_build.specs.Carries.{Carries, CostIsKept}
+use Rattle.sp_top.specs.Check.{CheckRefuses}
+use Rattle.sp_top.specs.Programs.{longest_program}
+use Rattle.sp_top.specs.Reads.{GivesText}
+use Rattle.sp_top.specs.Status.{PlainStatus, memory, unbuilt, source_refused}
 
--- the longest text of a program
-abbrev pub longest_program : ℕ
-longest_program = 1048576
-
--- a netlist carries the program which these bytes are
+-- the bytes spell a program, and a netlist of these cells carries it, and is done within its cost
 abbrev pub CarriesText : List ℕ → List PlainCell → Type 0
-CarriesText bytes cells = (lines : List Line) × IsStraight bytes lines × IsNetlist cells × Carries (program_of lines) cells
+CarriesText bytes cells = (program : PlainProgram) × Spells bytes program × IsNetlist cells × Carries program cells × CostIsKept program cells
 
 -- the text is the listing of such a netlist
 abbrev pub ListsProgram : (bytes text : List ℕ) → Type 0
@@ -27,28 +29,32 @@ ListsProgram bytes text = (cells : List PlainCell) × CarriesText bytes cells ×
 abbrev pub PrintsProgram : (bytes text : List ℕ) → Type 0
 PrintsProgram bytes text = (cells : List PlainCell) × CarriesText bytes cells × IsVerilog cells text
 
--- why these bytes give none: they aren't of the straight form, or memory ran out
+-- the line of a program's canonical text with which its block begins: each argument, output and DRAM has a line above it
+abbrev pub block_line : PlainProgram → ℕ
+block_line p = suc (count_by (λ (m : PlainMem). is_port m.kind) p.mems)
+
+-- the bytes spell a program whose core can't be built so far, and its block begins at this line
+pub record IsUnbuiltAt (bytes : List ℕ) (line : ℕ) : Type 0 where
+  pub program : PlainProgram
+  pub spells : Spells bytes program
+  pub unbuilt : IsUnbuilt program
+  pub at : line ≡ block_line program
+
+-- why these bytes give no netlist: they spell no program, or one that can't be built so far, or memory ran out
 abbrev pub RefusesProgram : List ℕ → PlainStatus → Type 0
 RefusesProgram bytes memory = Unit {0}
-RefusesProgram bytes (unbuilt line) = BreaksAt bytes line
+RefusesProgram bytes (unbuilt line) = IsUnbuiltAt bytes line
+RefusesProgram bytes (source_refused error) = IsCauseOf bytes error × (error ≢ source.Memory)
 RefusesProgram bytes status = ⊥
 
--- the command is done: P was asked for and given, and a text of its bytes stands on `out` alone
-pub record Translates (IsText : (bytes text : List ℕ) → Type 0) (told : List ℕ → Standing) (asked : List Call → Type 0) (program out aside : List ℕ) : Type 0 where
+-- the program that was asked for can't be built
+pub record IsNotBuilt (told : List ℕ → Standing) (asked : List Call → Type 0) (program : List ℕ) (line : ℕ) : Type 0 where
   pub bytes : List ℕ
   pub asks : asked (given program ∷ [])
   pub gives : GivesText (told program) longest_program bytes
-  pub is_text : IsText bytes out
-  pub nothing_aside : aside ≡ []
-
--- the program breaks the form at a line
-pub record BreaksForm (told : List ℕ → Standing) (asked : List Call → Type 0) (program : List ℕ) (line : ℕ) : Type 0 where
-  pub bytes : List ℕ
-  pub asks : asked (given program ∷ [])
-  pub gives : GivesText (told program) longest_program bytes
-  pub breaks : BreaksAt bytes line
+  pub is_unbuilt : IsUnbuiltAt bytes line
 
 -- The statuses in which either command refuses, each with its cause.
 abbrev pub CompileRefuses : (List ℕ → Standing) → (failed : List ℕ → Type 0) → (asked : List Call → Type 0) → (program : List ℕ) → PlainStatus → Type 0
-CompileRefuses told failed asked program (unbuilt line) = BreaksForm told asked program line
-CompileRefuses told failed asked program status = ReadRefuses (told program) (failed program) asked longest_program program status
+CompileRefuses told failed asked program (unbuilt line) = IsNotBuilt told asked program line
+CompileRefuses told failed asked program status = CheckRefuses told failed asked program status

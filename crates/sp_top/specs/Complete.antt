@@ -10,7 +10,7 @@ use Rattle.sp_source.specs.Texts.{Spells}
 use Rattle.sp_tree.specs.Meaning.{ended, seq}
 use Rattle.sp_tree.specs.PlainProgram.{PlainProgram}
 use Rattle.sp_tree.specs.Shape.{Shape}
-use Rattle.sp_top.specs.Compile.{longest_program}
+use Rattle.sp_top.specs.Programs.{longest_program}
 use Rattle.sp_top.specs.Seq.{input_of, Stops}
 use Rattle.sp_top.specs.Simulate.{GivesNetlist, longest_setup, setting_of}
 use Rattle.sp_top.specs.Status.{PlainStatus, done, write_fault}

@@ -1,11 +1,9 @@
-pub mod Carries
 pub mod Check
 pub mod Commands
 pub mod Compile
 pub mod Complete
-pub mod Form
-pub mod Meaning
-pub mod Reading
+pub mod NetlistRun
+pub mod Programs
 pub mod Reads
 pub mod Record
 pub mod ResultText
@@ -14,6 +12,3 @@ pub mod Seq
 pub mod Simulate
 pub mod Simulated
 pub mod Status
-pub mod Straight
-pub mod StraightCells
-pub mod StraightDraft

@@ -89,20 +89,27 @@ SetupRefuses told failed asked ports name status =
 abbrev pub setting_of : List PlainCell → PlainSetup → Setting
 setting_of cells plain = record { cells = cells; args = plain.args; drams = plain.drams; delays = plain.delays }
 
--- the netlist is done within the setup's cycles, and this is its result
-pub record Prints (cells : List PlainCell) (plain : PlainSetup) (text : List ℕ) : Type 0 where
+-- the netlist is done within so many cycles, and this is its result
+pub record PrintsWithin (cells : List PlainCell) (plain : PlainSetup) (most : ℕ) (text : List ℕ) : Type 0 where
   pub cycle : ℕ
   pub outs : List ℕ
   pub drams : List (List ℕ)
-  pub ends : Ends (setting_of cells plain) plain.cycles (done_in cycle outs drams)
+  pub ends : Ends (setting_of cells plain) most (done_in cycle outs drams)
   pub is : text ≡ result_text (ports_of cells) outs drams (cycles_line cycle)
 
--- the netlist isn't done within the setup's cycles; want of memory may come always
+-- the netlist isn't done within so many cycles; want of memory may come always
+abbrev pub RunEndsWithin : List PlainCell → PlainSetup → (most : ℕ) → PlainStatus → Type 0
+RunEndsWithin cells plain most (conflict cycle bank port) = Ends (setting_of cells plain) most (conflict_in cycle bank port)
+RunEndsWithin cells plain most (cycles_spent cycles) = (cycles ≡ most) × Ends (setting_of cells plain) most not_yet
+RunEndsWithin cells plain most memory = Unit {0}
+RunEndsWithin cells plain most status = ⊥
+
+-- so many are the setup's cycles
+abbrev pub Prints : List PlainCell → PlainSetup → (text : List ℕ) → Type 0
+Prints cells plain = PrintsWithin cells plain plain.cycles
+
 abbrev pub RunEnds : List PlainCell → PlainSetup → PlainStatus → Type 0
-RunEnds cells plain (conflict cycle bank port) = Ends (setting_of cells plain) plain.cycles (conflict_in cycle bank port)
-RunEnds cells plain (cycles_spent cycles) = (cycles ≡ plain.cycles) × Ends (setting_of cells plain) plain.cycles not_yet
-RunEnds cells plain memory = Unit {0}
-RunEnds cells plain status = ⊥
+RunEnds cells plain = RunEndsWithin cells plain plain.cycles
 
 -- the text shows the run, up to its end or the setup's last cycle
 abbrev pub Dumps : List PlainCell → PlainSetup → (text : List ℕ) → Type 0

@@ -2,7 +2,7 @@
 ghost use Rattle.std.specs.Prelude.{◌≡◌, ◌≤◌, IfOk, IfErr, length, string_bytes};
 ghost use Rattle.sp_edges.specs.Counts.{Rose};
 ghost use Rattle.sp_top.specs.Status.{plain_status};
-ghost use Rattle.sp_top.specs.Compile.{Translates};
+ghost use Rattle.sp_top.specs.Programs.{Translates};
 ghost use Rattle.sp_top.specs.Check.{SaysRight, CheckRefuses, RefusesSource, status_of_source};
 
 use crate::compile::LONGEST_PROGRAM;

@@ -1,34 +1,29 @@
 //! `compile P` and `verilog P`: from a name to a text of its program's netlist.
-ghost use Rattle.std.specs.Prelude.{◌≡◌, IfOk, IfErr, string_bytes};
+ghost use Rattle.std.specs.Prelude.{◌≡◌, ◌≤◌, count_by, length, map, IfOk, IfErr, string_bytes};
 ghost use Rattle.sp_edges.specs.Counts.{Rose};
+ghost use Rattle.sp_tree.specs.Counts.{is_port};
+ghost use Rattle.sp_tree.specs.Plain.{plain_mem};
+ghost use Rattle.sp_tree.specs.PlainProgram.{PlainMem};
+ghost use Rattle.sp_tree.specs.ProgramParts.{plain_program};
 ghost use Rattle.sp_top.specs.Status.{plain_status, memory};
-ghost use Rattle.sp_top.specs.Said.{status_of_error};
-ghost use Rattle.sp_top.specs.Compile.{CarriesText, ListsProgram, PrintsProgram, RefusesProgram, Translates, CompileRefuses};
+ghost use Rattle.sp_top.specs.Compile.{CarriesText, ListsProgram, PrintsProgram, RefusesProgram, CompileRefuses, block_line};
+ghost use Rattle.sp_top.specs.Programs.{Translates};
 
 use crate::reads::read_text;
 use crate::sinks::Texts;
 use crate::status::Status;
-use crate::straight::lower::lower;
-use crate::straight::parse::{ParseError, parse};
+use sp_build::build;
 use sp_edges::Inputs;
 use sp_listing::write;
 use sp_netlist::Netlist;
+use sp_source::program_of_text;
+use sp_tree::{MemDecl, Program};
 use sp_verilog::verilog;
+use sp_words::Kind;
 use std::alloc::{AllocError, Global};
 
 /// The longest text of a program that is read, in bytes.
 pub const LONGEST_PROGRAM: usize = 1_048_576;
-
-impl From<ParseError> for Status {
-    ghost from_gives = { λ e status. plain_status status ≡ status_of_error e };
-
-    fn from(error: ParseError) -> Status {
-        match error {
-            ParseError::Breaks { line } => Status::Unbuilt { line },
-            ParseError::Memory => Status::Memory,
-        }
-    }
-}
 
 impl From<AllocError> for Status {
     ghost from_gives = { λ _ status. plain_status status ≡ memory };
@@ -38,17 +33,50 @@ impl From<AllocError> for Status {
     }
 }
 
+fn is_port(kind: Kind) -> bool
+    ensures { result ≡ is_port kind }
+{
+    matches!(kind, Kind::ArgIn | Kind::ArgOut | Kind::Dram)
+}
+
+// How many of these are arguments, outputs and DRAMs.
+fn port_count(mems: &[MemDecl]) -> u64
+    ensures count { result ≡ count_by (λ (m : PlainMem). is_port m.kind) (map plain_mem mems.now) }
+    ensures bound { result ≤ length mems.now }
+{
+    let mut count = 0;
+    for mem in mems {
+        if is_port(mem.kind) {
+            count += 1;
+        }
+    }
+    count
+}
+
+/// The line of the canonical text with which a program's block begins.
+pub fn block_line(program: &Program) -> u64
+    ensures { result ≡ block_line (plain_program program.now) }
+{
+    port_count(program.mems()) + 1
+}
+
 // A netlist that carries the program of these bytes.
 fn netlist_of(alloc: Global, bytes: &[u8]) -> Result<Netlist, Status>
+    requires { length bytes.now ≤ 1048576 }
     ensures carries { IfOk result (CarriesText bytes.now) }
     ensures refused { IfErr result (λ status. RefusesProgram bytes.now (plain_status status)) }
 {
-    let program = parse(alloc, bytes)?;
-    let netlist = lower(alloc, &program)?;
-    Ok(netlist)
+    let program = program_of_text(alloc, bytes)?;
+    match build(alloc, &program)? {
+        Some(netlist) => Ok(netlist),
+        None => Err(Status::Unbuilt {
+            line: block_line(&program),
+        }),
+    }
 }
 
 fn listing_of_program(alloc: Global, bytes: &[u8]) -> Result<String, Status>
+    requires { length bytes.now ≤ 1048576 }
     ensures listing { IfOk result (λ text. ListsProgram bytes.now (string_bytes text)) }
     ensures refused { IfErr result (λ status. RefusesProgram bytes.now (plain_status status)) }
 {
@@ -58,6 +86,7 @@ fn listing_of_program(alloc: Global, bytes: &[u8]) -> Result<String, Status>
 }
 
 fn verilog_of_program(alloc: Global, bytes: &[u8]) -> Result<String, Status>
+    requires { length bytes.now ≤ 1048576 }
     ensures prints { IfOk result (λ text. PrintsProgram bytes.now (string_bytes text)) }
     ensures refused { IfErr result (λ status. RefusesProgram bytes.now (plain_status status)) }
 {

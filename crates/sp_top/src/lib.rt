@@ -6,6 +6,7 @@ mod compile;
 mod format;
 mod laws;
 mod lines;
+mod netlist_run;
 mod reads;
 mod report;
 mod result_text;
@@ -13,9 +14,8 @@ mod seq;
 mod simulate;
 mod sinks;
 mod status;
-mod straight;
 mod top;
 
-pub use laws::{limits_of_small_programs, refusals_refuse};
+pub use laws::refusals_refuse;
 pub use status::{SinkName, Status};
 pub use top::spatialc;

@@ -1,4 +1,5 @@
-//! `seq P S`: a program is run, statement by statement, on the input of a setup, with the setup's turns.
+//! `seq P S` and `run P S`: a program is run on the input of a setup, statement by statement with the setup's turns, or as the
+//! netlist that it is compiled to.
 ghost use Rattle.std.specs.Prelude.{◌≡◌, ◌≤◌, ℕ, List, [], ◌∷◌, length, All, IfOk, IfErr, OnOk, string_bytes};
 ghost use Rattle.sp_edges.specs.Counts.{Rose};
 ghost use Rattle.sp_edges.specs.Calls.{given};
@@ -9,10 +10,11 @@ ghost use Rattle.sp_words.specs.Interface.{Fits};
 ghost use Rattle.sp_words.specs.Ports.{plain_ports};
 ghost use Rattle.sp_top.specs.Check.{CheckRefuses, RefusesSource};
 ghost use Rattle.sp_top.specs.Simulate.{GivesSetup, SetupRefuses};
-ghost use Rattle.sp_top.specs.Seq.{GivesProgram, Leaves, Stops, RunsProgram, SeqRefuses, IsInput};
+ghost use Rattle.sp_top.specs.Seq.{GivesProgram, Leaves, LeavesBy, Stops, StopsBy, RunsProgram, RunRefuses, IsInput};
 ghost use Rattle.sp_top.specs.Status.{plain_status};
 
 use crate::compile::LONGEST_PROGRAM;
+use crate::netlist_run::run_netlist;
 use crate::reads::read_text;
 use crate::result_text::turns_text;
 use crate::simulate::setup_for;
@@ -82,21 +84,43 @@ fn run_text(alloc: Global, program: &Program, setup: &Setup) -> Result<String, S
     }
 }
 
-/// Reads a program and a setup, runs the program, and gives what it leaves for `out`, and nothing for `aside`.
-pub fn run_sequentially<I: Inputs>(
+/// How a program is run: statement by statement, or as its netlist.
+#[derive(Clone, Copy, Debug)]
+pub enum Run {
+    Sequential,
+    Netlist,
+}
+
+// The texts of a run on an input that fits the program's ports.
+fn texts_of_run(alloc: Global, run: Run, program: &Program, setup: &Setup) -> Result<Texts, Status>
+    requires { IsInput program.now.ports (plain_setup setup.now) }
+    ensures texts { IfOk result (λ texts. LeavesBy run (plain_program program.now) (plain_setup setup.now) (string_bytes texts.out) (string_bytes texts.aside)) }
+    ensures refused { IfErr result (λ status. StopsBy run (plain_program program.now) (plain_setup setup.now) (plain_status status)) }
+{
+    match run {
+        Run::Sequential => Ok(Texts {
+            out: run_text(alloc, program, setup)?,
+            aside: String::new(alloc),
+        }),
+        Run::Netlist => run_netlist(alloc, program, setup),
+    }
+}
+
+/// Reads a program and a setup, runs the program, and gives what that leaves for `out`, and for `aside` the listing of the netlist, if
+/// one was run.
+pub fn run_program<I: Inputs>(
     alloc: Global,
+    run: Run,
     program: &str,
     setup: &str,
     inputs: &mut I,
 ) -> Result<Texts, Status>
-    ensures done { IfOk result (λ texts. RunsProgram (I.told inputs.old) (λ calls. I.asked inputs.old calls inputs.new) program.now setup.now (string_bytes texts.out) (string_bytes texts.aside)) }
-    ensures refused { IfErr result (λ status. SeqRefuses (I.told inputs.old)
+    ensures done { IfOk result (λ texts. RunsProgram (LeavesBy run) (I.told inputs.old) (λ calls. I.asked inputs.old calls inputs.new) program.now setup.now (string_bytes texts.out) (string_bytes texts.aside)) }
+    ensures refused { IfErr result (λ status. RunRefuses (StopsBy run) (I.told inputs.old)
         (λ name. Rose (I.faults inputs.old) (I.faults inputs.new) × (I.sure inputs.old name → ⊥)) (λ calls. I.asked inputs.old calls inputs.new) program.now setup.now (plain_status status)) }
 {
     let tree = read_program(alloc, program, inputs)?;
     let plan = read_setup(alloc, &tree, setup, inputs)?;
-    Ok(Texts {
-        out: run_text(alloc, &tree, &plan)?,
-        aside: String::new(alloc),
-    })
+    let texts = texts_of_run(alloc, run, &tree, &plan)?;
+    Ok(texts)
 }

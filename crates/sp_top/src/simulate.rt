@@ -10,7 +10,7 @@ ghost use Rattle.sp_words.specs.Interface.{Fits, word_count};
 ghost use Rattle.sp_words.specs.Ports.{plain_ports};
 ghost use Rattle.sp_top.specs.Status.{plain_status, memory};
 ghost use Rattle.sp_top.specs.Simulated.{list_status, ListsNone, ListsNetlist};
-ghost use Rattle.sp_top.specs.Simulate.{GivesNetlist, ListingRefuses, end_status, GivesSetup, SetupRefuses, Prints, RunEnds, Dumps, DumpEnds, Shows, ShowEnds, Simulates, SimulateRefuses};
+ghost use Rattle.sp_top.specs.Simulate.{GivesNetlist, ListingRefuses, end_status, GivesSetup, SetupRefuses, PrintsWithin, RunEndsWithin, Dumps, DumpEnds, Shows, ShowEnds, Simulates, SimulateRefuses};
 
 use crate::reads::read_text;
 use crate::result_text::cycles_text;
@@ -130,24 +130,27 @@ impl From<SimLoad> for Status {
     }
 }
 
-// The result of a run that is done within the setup's cycles.
-fn run_text(alloc: Global, netlist: &Netlist, setup: &Setup) -> Result<String, Status>
-    ensures text { IfOk result (λ text. Prints netlist.now (plain_setup setup.now) (string_bytes text)) }
-    ensures refused { IfErr result (λ status. RunEnds netlist.now (plain_setup setup.now) (plain_status status)) }
+/// The result of a run that is done within so many cycles, on the input and the delays of a setup.
+pub fn run_text(
+    alloc: Global,
+    netlist: &Netlist,
+    setup: &Setup,
+    most: u64,
+) -> Result<String, Status>
+    ensures text { IfOk result (λ text. PrintsWithin netlist.now (plain_setup setup.now) most (string_bytes text)) }
+    ensures refused { IfErr result (λ status. RunEndsWithin netlist.now (plain_setup setup.now) most (plain_status status)) }
 {
     // an end stands for every number of cycles that has it
     ending_kept();
     let mut sim = Sim::load(alloc, netlist, &setup.input, &setup.delays)?;
-    match sim.run(setup.cycles) {
+    match sim.run(most) {
         SimEnd::Done { cycles } => {
             let output = sim.outputs(alloc)?;
             let text = cycles_text(alloc, netlist.ports(), &output, cycles)?;
             Ok(text)
         }
         SimEnd::Conflict { cycle, bank, port } => Err(Status::Conflict { cycle, bank, port }),
-        SimEnd::CyclesSpent => Err(Status::CyclesSpent {
-            cycles: setup.cycles,
-        }),
+        SimEnd::CyclesSpent => Err(Status::CyclesSpent { cycles: most }),
     }
 }
 
@@ -167,7 +170,7 @@ fn shown_text(alloc: Global, view: View, netlist: &Netlist, setup: &Setup) -> Re
     ensures refused { IfErr result (λ status. ShowEnds view netlist.now (plain_setup setup.now) (plain_status status)) }
 {
     match view {
-        View::Outcome => run_text(alloc, netlist, setup),
+        View::Outcome => run_text(alloc, netlist, setup, setup.cycles),
         View::Waves => dump_text(alloc, netlist, setup),
     }
 }

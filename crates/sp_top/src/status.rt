@@ -42,8 +42,8 @@ pub enum Status {
     CyclesSpent { cycles: u64 },
     /// What stands under the name is longer than is read.
     TooLong { name: String },
-    /// The program is not of the straight form, first at this line, counted from 1.
-    Unbuilt { line: u32 },
+    /// The program is one that can't be built so far; its block begins at this line of its canonical text, counted from 1.
+    Unbuilt { line: u64 },
     /// The text spells no program. The error is never want of memory.
     Source(SourceError),
 }

@@ -3,14 +3,14 @@ ghost use Rattle.std.specs.Prelude.{◌≡◌, ◌⊎◌, ◌≤◌, ℕ, List, 
 ghost use Rattle.sp_edges.specs.Counts.{Rose};
 ghost use Rattle.sp_top.specs.Status.{plain_status};
 ghost use Rattle.sp_edges.specs.Standing.{Holds};
-ghost use Rattle.sp_top.specs.Form.{Line, IsStraight};
 ghost use Rattle.sp_top.specs.Commands.{IsCommand, IsReading, DoneTexts, MayRefuse, MayEnd, NotRefused};
 ghost use Rattle.sp_netlist.specs.Cells.{PlainCell};
 ghost use Rattle.sp_setup.specs.Setup.{PlainSetup};
 ghost use Rattle.sp_source.specs.Texts.{Spells};
+ghost use Rattle.sp_build.specs.Buildable.{CanBeBuilt};
 ghost use Rattle.sp_tree.specs.PlainProgram.{PlainProgram};
 ghost use Rattle.sp_top.specs.Complete.{CanBeRun, TellsEnd, IsRunnable, IsDoneInTime};
-ghost use Rattle.sp_top.specs.Compile.{longest_program};
+ghost use Rattle.sp_top.specs.Programs.{longest_program};
 ghost use Rattle.sp_top.specs.Commands as commands;
 ghost use Rattle.sp_top.specs.Said.{plain_command};
 ghost use Rattle.sp_top.specs.Record.{Records};
@@ -19,7 +19,7 @@ use crate::check::check;
 use crate::compile::{compile, print_verilog};
 use crate::format::print_canonical;
 use crate::report::print_report;
-use crate::seq::run_sequentially;
+use crate::seq::{Run, run_program};
 use crate::simulate::{View, simulate};
 use crate::sinks::{Texts, deliver, refuse};
 use crate::status::Status;
@@ -43,7 +43,12 @@ fn texts_of<I: Inputs>(alloc: Global, command: Command<'_>, inputs: &mut I) -> R
         Command::Compile { program } => compile(alloc, program, inputs),
         Command::Verilog { program } => print_verilog(alloc, program, inputs),
         Command::Report { program } => print_report(alloc, program, inputs),
-        Command::Seq { program, setup } => run_sequentially(alloc, program, setup, inputs),
+        Command::Seq { program, setup } => {
+            run_program(alloc, Run::Sequential, program, setup, inputs)
+        }
+        Command::Run { program, setup } => {
+            run_program(alloc, Run::Netlist, program, setup, inputs)
+        }
         Command::Simulate { listing, setup } => {
             simulate(alloc, View::Outcome, listing, setup, inputs)
         }
@@ -106,15 +111,18 @@ pub fn spatialc<I: Inputs, K: Sink, A: Sink>(
         (record { before = K.taken out.old; after = K.taken out.new; faults_before = K.faults out.old; faults_after = K.faults out.new; room = K.sure_room out.old; put = λ pieces. K.was_put out.old pieces out.new })
         (record { before = A.taken aside.old; after = A.taken aside.new; faults_before = A.faults aside.old; faults_after = A.faults aside.new; room = A.sure_room aside.old; put = λ pieces. A.was_put aside.old pieces aside.new })
         (plain_status result) }
-    // A program of the form under a sure name isn't refused.
-    ensures complete { (program bytes : List ℕ) (lines : List Line) → IsCommand (map string_bytes words.now) (commands.compile program) ⊎ IsCommand (map string_bytes words.now) (commands.verilog program) → I.sure inputs.old program
-        → I.told inputs.old program ≡ Holds bytes → length bytes ≤ longest_program → IsStraight bytes lines → NotRefused (plain_status result) }
+    // A text under a sure name that spells a program whose core can be built isn't refused by `compile` or `verilog`.
+    ensures complete { (program bytes : List ℕ) (plain : PlainProgram) → IsCommand (map string_bytes words.now) (commands.compile program) ⊎ IsCommand (map string_bytes words.now) (commands.verilog program) → I.sure inputs.old program
+        → I.told inputs.old program ≡ Holds bytes → length bytes ≤ longest_program → Spells bytes plain → CanBeBuilt plain → NotRefused (plain_status result) }
     // Nor is a text that spells a program by `check`, `format` or `report`.
     ensures checks { (program bytes : List ℕ) (plain : PlainProgram) → IsReading (map string_bytes words.now) program → I.sure inputs.old program
         → I.told inputs.old program ≡ Holds bytes → length bytes ≤ longest_program → Spells bytes plain → NotRefused (plain_status result) }
     // The run of a program tells how the program ends: it isn't refused but for want of memory.
     ensures runs { (program setup : List ℕ) (plain : PlainProgram) (plan : PlainSetup) → IsCommand (map string_bytes words.now) (commands.seq program setup)
         → CanBeRun (I.told inputs.old) (I.sure inputs.old) program setup plain plan → TellsEnd plain plan (plain_status result) }
+    // Nor is the run of its netlist, where its core can be built.
+    ensures runs_netlists { (program setup : List ℕ) (plain : PlainProgram) (plan : PlainSetup) → IsCommand (map string_bytes words.now) (commands.run program setup)
+        → CanBeRun (I.told inputs.old) (I.sure inputs.old) program setup plain plan → CanBeBuilt plain → TellsEnd plain plan (plain_status result) }
     // The simulation of a listing that is done within its setup's cycles isn't refused, nor is the dump of any run.
     ensures simulates { (listing setup : List ℕ) (cells : List PlainCell) (plain : PlainSetup) → IsCommand (map string_bytes words.now) (commands.simulate listing setup)
         → IsRunnable (I.told inputs.old) (I.sure inputs.old) listing setup cells plain → IsDoneInTime cells plain → NotRefused (plain_status result) }

@@ -10,7 +10,7 @@ use Rattle.sp_top.proofs.simulate.run_text.Goals as goal
 pub returns-in-Done-clause-text : goal.returns-in-Done-clause-text
 returns-in-Done-clause-text c =
     let start : c.in_ok-sim.sim ≡ begun (setting_of c.args.netlist.now (plain_setup c.args.setup.now)) = rw c.deref.ensures.value at c.in_ok-sim.ensures.loaded in
-    let last : min (c.in_ok-sim.sim.cycle + c.args.setup.now.cycles) 18446744073709551615 ≡ c.args.setup.now.cycles = omega (arith, ap (λ p. p.cycle) start) in
+    let last : min (c.in_ok-sim.sim.cycle + c.args.most) 18446744073709551615 ≡ c.args.most = omega (arith, ap (λ p. p.cycle) start) in
     let end = c.in-Done.ensures.end in
     let outs = c.in_ok-output-in-Done.output.outs.items in
     let drams : List (List ℕ) = map (λ (words : Vec ℕ). words.items) c.in_ok-output-in-Done.output.drams.items in
@@ -25,11 +25,11 @@ returns-in-Done-clause-text c =
 pub returns-in-Conflict-clause-refused : goal.returns-in-Conflict-clause-refused
 returns-in-Conflict-clause-refused c =
     let start : c.in_ok-sim.sim ≡ begun (setting_of c.args.netlist.now (plain_setup c.args.setup.now)) = rw c.deref.ensures.value at c.in_ok-sim.ensures.loaded in
-    let last : min (c.in_ok-sim.sim.cycle + c.args.setup.now.cycles) 18446744073709551615 ≡ c.args.setup.now.cycles = omega (arith, ap (λ p. p.cycle) start) in
+    let last : min (c.in_ok-sim.sim.cycle + c.args.most) 18446744073709551615 ≡ c.args.most = omega (arith, ap (λ p. p.cycle) start) in
     whole_run c.in_ok-sim.sim _ _ _ _ start last c.in-Conflict.ensures.end
 
 pub returns-clause-refused : goal.returns-clause-refused
 returns-clause-refused c =
     let start : c.in_ok-sim.sim ≡ begun (setting_of c.args.netlist.now (plain_setup c.args.setup.now)) = rw c.deref.ensures.value at c.in_ok-sim.ensures.loaded in
-    let last : min (c.in_ok-sim.sim.cycle + c.args.setup.now.cycles) 18446744073709551615 ≡ c.args.setup.now.cycles = omega (arith, ap (λ p. p.cycle) start) in
+    let last : min (c.in_ok-sim.sim.cycle + c.args.most) 18446744073709551615 ≡ c.args.most = omega (arith, ap (λ p. p.cycle) start) in
     (refl, whole_run c.in_ok-sim.sim _ _ _ _ start last c.in-CyclesSpent.ensures.end)

@@ -1,0 +1,266 @@
+use crate::commands::Answer;
+use sp_edges::{MemFile, MemInputs, MemSink};
+use sp_top::spatialc;
+use std::alloc::{AllocError, Global};
+use std::test::Fail;
+
+/// Programs, each with a setup, what is printed before the line of cycles, and that line's number: exactly (`=`), worked out by hand
+/// from when each part of a circuit is started and done, or at most (`<`), where the answer came from elsewhere.
+const CASES: &str = "\
+val x = ArgIn[Int]
+val y = ArgOut[Int]
+Accel {
+}
+----
+[args]
+x = 5
+----
+out y 0
+----
+=2
+====
+val x = ArgIn[Int]
+val y = ArgOut[Int]
+Accel {
+  y := x + 3
+}
+----
+[args]
+x = 2147483647
+----
+out y -2147483646
+----
+=5
+====
+val x = ArgIn[Int]
+val y = ArgOut[Int]
+Accel {
+  y := x + 3
+  y := x * x
+}
+----
+[args]
+x = 7
+----
+out y 49
+----
+=6
+====
+val x = ArgIn[Int]
+val y = ArgOut[Int]
+Accel {
+  y := x / 3
+}
+----
+[args]
+x = -7
+----
+out y -2
+----
+=8
+====
+val b = ArgIn[Int]
+val q = ArgOut[Int]
+val a = ArgIn[Int]
+val p = ArgOut[Int]
+Accel {
+  p := a - 12
+  q := b
+  p := 70 * b
+}
+----
+[args]
+a = 20
+b = 3
+----
+out q 3
+out p 210
+----
+=6
+====
+val a = ArgIn[Int]
+val b = ArgIn[Int]
+val divisor = ArgOut[Int]
+val steps = ArgOut[Int]
+Accel {
+  val x = Reg[Int]
+  val rest = Reg[Int]
+  val count = Reg[Int](0)
+  x := a
+  FSM(b)(y => y != 0){ y =>
+    rest := x % y
+    x := y
+    count := count + 1
+  }{ y => rest }
+  divisor := x
+  steps := count
+}
+----
+[args]
+a = 1071
+b = 462
+----
+out divisor 21
+out steps 3
+----
+=67
+====
+val k = ArgIn[Int]
+val y = ArgOut[Bit]
+Accel {
+  val r = Reg[Int](-16)
+  r := ~min(k, r)
+  val s = Reg[Bit](true)
+  s := s ^ r.to[Bit]
+  y := s
+}
+----
+[args]
+k = \"-13\"
+----
+out y 0
+----
+<16
+====
+val y0 = ArgOut[Int]
+val y = ArgOut[Int]
+val k = ArgIn[Int]
+val x = ArgIn[Int]
+Accel {
+val v = mux(true, k, x >> 58 | 18 - -6)
+Parallel {
+val acc = Reg[Int]
+acc := (-12 << 0).to[FixPt[FALSE,_33,_0]].to[Int]
+}
+if ((-418802980 ^ k).to[Bit] | false) {
+val v0 = mux(true | true, (x.value % 7 + 7) % 7, 1)
+}
+val acc = Reg[Int](-1)
+y0 := acc
+y0 := acc.to[Int] << 31
+}
+----
+[args]
+k = -11
+x = \"1\"
+----
+out y0 -2147483648
+out y 0
+----
+<47
+====
+val x = ArgIn[FixPt[FALSE,_4,_4]]
+val k1 = ArgIn[FixPt[FALSE,_4,_4]]
+val y = ArgOut[FixPt[FALSE,_4,_4]]
+val k = ArgIn[FixPt[FALSE,_0,_63]]
+Accel {
+FSM(4.to[Int])(st => st < 8){ st =>
+}{ st => st + 2 }
+Foreach(1 until 1 by 1){ k0 =>
+val v = (k0 >> 31 & 3);
+if ((-x) >> 1 >= k1) {
+val n = Reg[Int];
+Foreach(4 by 2){ deq =>
+};
+};
+}
+val acc = Reg[FixPt[FALSE,_4,_4]](1.6875)
+y := acc
+}
+----
+[args]
+k = \"0.363509344423121333518024445030647484600194729864597320556640625\"
+x = \"0.125\"
+k1 = \"8.9375\"
+----
+out y 1.6875
+----
+<41
+";
+
+/// How many cases there are.
+const COUNT: u32 = 9;
+
+fn file(alloc: Global, name: &str, bytes: &[u8]) -> Result<MemFile, AllocError> {
+    Ok(MemFile {
+        name: String::from_str(alloc, name)?,
+        bytes: Vec::from_slice(alloc, bytes)?,
+    })
+}
+
+/// Calls with words that name two files at most.
+fn call(alloc: Global, words: &str, first: MemFile, second: MemFile) -> Result<Answer, AllocError> {
+    let mut said = Vec::new(alloc);
+    for word in words.split(" ") {
+        said.push(String::from_str(alloc, word)?)?;
+    }
+    let files = vec![in alloc; first, second]?;
+    let mut inputs = MemInputs::new(files, Vec::new(alloc));
+    let mut out = MemSink::new(alloc, 1_000_000, Vec::new(alloc))?;
+    let mut aside = MemSink::new(alloc, 1_000_000, Vec::new(alloc))?;
+    let status = spatialc(alloc, &said, &mut inputs, &mut out, &mut aside);
+    Ok(Answer {
+        status,
+        out: Vec::from_slice(alloc, out.bytes())?,
+        aside: Vec::from_slice(alloc, aside.bytes())?,
+    })
+}
+
+/// Whether a result is these lines and a line of cycles with a number that is wanted, exactly or at most.
+fn is_result(text: &str, lines: &str, wanted: &str) -> Option<bool> {
+    let cycles = text.strip_prefix(lines)?.strip_prefix("cycles ")?;
+    let cycles = cycles.strip_suffix("\n")?.parse::<u64>().ok()?;
+    match wanted.strip_prefix("=") {
+        Some(exact) => Some(cycles == exact.parse::<u64>().ok()?),
+        None => Some(cycles <= wanted.strip_prefix("<")?.parse::<u64>().ok()?),
+    }
+}
+
+/// Whether a program, compiled and run, leaves what is wanted; `compile` gives the listing that `run` puts aside, and `simulate` runs it
+/// to the same result.
+fn runs_as_wanted(alloc: Global, case: &str) -> Result<bool, Fail> {
+    let mut parts = case.split("----\n");
+    let program = parts.next().ok_or("a program")?.as_bytes();
+    let setup = parts.next().ok_or("a setup")?.as_bytes();
+    let lines = parts.next().ok_or("lines")?;
+    let wanted = parts.next().ok_or("cycles")?.trim();
+    let ran = call(
+        alloc,
+        "run P S",
+        file(alloc, "P", program)?,
+        file(alloc, "S", setup)?,
+    )?;
+    let text = str::from_utf8(&ran.out)?;
+    let is_right = is_result(text, lines, wanted).ok_or("a result")?;
+    let compiled = call(
+        alloc,
+        "compile P",
+        file(alloc, "P", program)?,
+        file(alloc, "S", setup)?,
+    )?;
+    let again = call(
+        alloc,
+        "simulate L S",
+        file(alloc, "L", &ran.aside)?,
+        file(alloc, "S", setup)?,
+    )?;
+    Ok(
+        ran.status.number() == 0
+            && is_right
+            && ran.aside.starts_with(b"netlist 1\nin ")
+            && compiled.out.as_slice() == ran.aside.as_slice()
+            && again.out.as_slice() == ran.out.as_slice(),
+    )
+}
+
+#[test]
+fn compiled_programs_leave_what_is_wanted(rt: HostRuntime) -> Result<(), Fail> {
+    let alloc = rt.alloc();
+    let mut count = 0u32;
+    for case in CASES.split("====\n") {
+        assert!(rt; runs_as_wanted(alloc, case)?, "{case}");
+        count = count.saturating_add(1);
+    }
+    assert_eq!(rt; count, COUNT);
+    Ok(())
+}
