@@ -147,7 +147,13 @@ def crc(text):
     return {'crc': zlib.crc32(bytes(text))}, turns
 
 
-KERNELS = [dot, matrix, transpose, histogram, prefix_sum, fir, convolution, pooling, power, gcd, biquad, sparse, sort, crc]
+def sieve(n):
+    primes = [p for p in range(2, 64) if all(p % q for q in range(2, p))]
+    turns = 1 + 1 + loop(64, 1) + loop(6 * 30, 2) + 1 + loop(64, 0) + 2
+    return {'primes': len(primes), 'is_prime': int(n in primes)}, turns
+
+
+KERNELS = [dot, matrix, transpose, histogram, prefix_sum, fir, convolution, pooling, power, gcd, biquad, sparse, sort, crc, sieve]
 
 
 def text_of(name):

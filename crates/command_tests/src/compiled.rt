@@ -176,10 +176,45 @@ k1 = \"8.9375\"
 out y 1.6875
 ----
 <41
+====
+val x = ArgIn[Int]
+val y = ArgOut[Int]
+Accel {
+  val t = SRAM[Int](4)
+  t(0) = x
+  t(1) = x + 3
+  y := t(0) * t(1)
+}
+----
+[args]
+x = 7
+----
+out y 70
+----
+=10
+====
+val k = ArgIn[Int]; val y = ArgOut[Int]; val y0 = ArgOut[Int]; Accel {
+val s = SRAM[Int](4, 2)
+Foreach(4 by 1, 2 par 3){ (i, t) => s(i, t) = k
+}
+val n = Reg[Int](-15)
+Fold(n)(4, 2){ (w0, w1) => s(w0, w1) }{_ + _}
+y0 := n
+y := (s((s(3, mux(true, 1, 0)) >> 1 & 3), (-13 * (s(((k) % 4 + 4) % 4, n & 1)) % 2 + 2) % 2)) * s(0, 1) << 1
+y0 := ((k) * -850923524).to[Int]
+}
+----
+[args]
+k = \"-3\"
+----
+out y 18
+out y0 -1742196724
+----
+<81
 ";
 
 /// How many cases there are.
-const COUNT: u32 = 9;
+const COUNT: u32 = 11;
 
 fn file(alloc: Global, name: &str, bytes: &[u8]) -> Result<MemFile, AllocError> {
     Ok(MemFile {

@@ -55,6 +55,7 @@ module _ (core : PlainCore) (plan : PlainPlan) (s : Signals) (events : List Stam
         };
         at = λ t e l h. acts.at t e l (of_write t e h);
         word = λ t e l h c. acts.word t e l (of_write t e h) c;
+        index = λ t e l h. acts.index t e l (of_write t e h);
       };
       stands = write_stands stands;
     };

@@ -10,7 +10,7 @@ use Rattle.sp_core.specs.PlainCore.{PlainCore}
 use Rattle.sp_plan.specs.PlainPlan.{PlainPlan}
 use Rattle.sp_machine.specs.Stamps.{Stamped}
 use Rattle.sp_mem.specs.declared.part.Touch.{Touch}
-use Rattle.sp_part_runs.specs.ActsEntries.{touched_at, word_that_changes}
+use Rattle.sp_part_runs.specs.ActsEntries.{touched_at, index_words, word_that_changes}
 use Rattle.sp_node_runs.specs.BodiesTold.{Happens}
 use Rattle.sp_bank_words.specs.Accesses.{reads_in, writes_in}
 use Rattle.sp_bank_words.specs.Acting.{WriteGoes, ReadGoes}
@@ -50,12 +50,15 @@ unfolding event_or
 its_event n act x t e q h = ap event_or (sym q ∙ (one_event x n t e h).1)
 
 -- the indices of an access, and its copy
+one_small : (t : ℕ) → All (λ net. worked_net t net < 2 ^ 31) (3 ∷ [])
+one_small t zero d l = omega arith
+one_small t (suc k) d l = absurd (omega (arith, l))
+
 small : (t enable : ℕ) (touch : Touch) → IsWorked enable touch → All (λ net. worked_net t net < 2 ^ 31) touch.index.items
-small t enable touch is = subst (λ ns. All (λ net. worked_net t net < 2 ^ 31) ns) (sym is.index_is) one
-  where
-    one : All (λ net. worked_net t net < 2 ^ 31) (3 ∷ [])
-    one zero d l = omega arith
-    one (suc k) d l = absurd (omega (arith, l))
+small t enable touch is = subst (λ ns. All (λ net. worked_net t net < 2 ^ 31) ns) (sym is.index_is) (one_small t)
+
+small_write : (t : ℕ) (touch : Touch) → IsWorked 1 touch → All (λ net. worked_net t net < 2 ^ 31) (index_words kind.Write (touch.index.items ++ touch.word ∷ []))
+small_write t touch is = subst (λ ns. All (λ net. worked_net t net < 2 ^ 31) (index_words kind.Write (ns ++ touch.word ∷ []))) (sym is.index_is) (one_small t)
 
 worked_write : (touch : Touch) (last : ℕ) → IsWorked 1 touch → WriteGoes worked_signals (writes_in 0 worked_events) last 4 touch
 worked_write touch last is = record {
@@ -68,6 +71,7 @@ worked_write touch last is = record {
     };
     at = λ t e l h. ap (λ (x : Event). x.indices) (sym (its_event 4 (writes 7) _ t e refl h)) ∙ its_indices t touch is;
     word = λ t e l h c. its_word t touch is ∙ ap (λ (x : Event). Some x.act) (its_event 4 (writes 7) _ t e refl h);
+    index = λ t e l h. small_write t touch is;
   };
   stands = record {
     copy = λ t c e l h n. rw is.copy_is (one_copy _ t c e h);

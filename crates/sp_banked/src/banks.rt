@@ -6,7 +6,7 @@ ghost use Rattle.sp_netlist.specs.Draft.{IsDraft};
 ghost use Rattle.sp_bank.specs.Places.{product_of, bank_length};
 ghost use Rattle.sp_places.specs.Layouts.{IsLayout, banking_of};
 ghost use Rattle.sp_taps.specs.Wires.{Promises, AreInRows, AreWires, wires_of};
-ghost use Rattle.sp_taps.specs.Stores.{AreStores, bank_cells};
+ghost use Rattle.sp_taps.specs.Stores.{AreStores, AddsBanks, bank_cells};
 ghost use Rattle.sp_banked.specs.Fits.{bank_count, bank_size, IsShape};
 
 use crate::part::Banked;
@@ -56,6 +56,7 @@ pub fn add_banks(
     ensures stores { IfOk result (λ stores. AreStores builder.new part.now.bank (width_of part.now.ty) (bank_size part.now) stores.items) }
     ensures banks { OnOk result (filter is_bank builder.new.cells ≡ filter is_bank builder.old.cells ++ bank_cells part.now.bank (width_of part.now.ty) (bank_size part.now) (bank_count part.now)) }
     ensures more { OnOk result (count_by is_bank builder.new.cells ≡ part.now.bank + bank_count part.now) }
+    ensures cells { OnOk result (AddsBanks builder.old builder.new) }
 {
     let len = bank_len(&part.layout);
     let count = part.duplicates * (part.copies * part.layout.banks);

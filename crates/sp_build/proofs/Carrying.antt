@@ -28,7 +28,6 @@ use Rattle.sp_lane_programs.specs.LanesLaws.{ProgramIsByLane}
 use Rattle.sp_plan.specs.PlainPlan.{PlainPlan}
 use Rattle.sp_plan.specs.Validity.{IsValid}
 use Rattle.sp_plans.specs.Laws.{ChosenAreValid}
-use Rattle.sp_chosen_runs.specs.ChosenLaws.{ChosenPlansRun, HasChosen, RunsWell}
 use Rattle.sp_overlap.specs.Whole.{IsTimed}
 use Rattle.sp_overlap.proofs.Planned.{node_planned}
 use Rattle.sp_machine.specs.Laws.{EndsInCost}
@@ -36,7 +35,7 @@ use Rattle.sp_machine.specs.Timeline.{core_timed}
 use Rattle.sp_machine.specs.Told.{plan_timings}
 use Rattle.sp_machine.specs.Transfers.{Delays}
 use Rattle.sp_program_runs.specs.RunsLaws.{HasLanedPlan, LanedProgramRuns, Runs}
-use Rattle.sp_scalar_cores.specs.Closing.{RunsInTime}
+use Rattle.sp_stored_cores.specs.Closing.{RunsByPlan}
 use Rattle.sp_lower.specs.Carries.{CarriesCore}
 use Rattle.sp_compile.specs.Choices.{lanes_of, forms_of, IsPlanOf}
 use Rattle.sp_build.specs.Buildable.{is_buildable}
@@ -76,17 +75,18 @@ drams_left core h left outs drams none e = sym (ap (λ ports. map (λ m. words_o
 abbrev pub none_waits : Delays
 none_waits k path ask = 0
 
-in_time : (p : PlainProgram) (plan : PlainPlan) → ChosenAreValid → StaysCore p → ProgramIsByLane p → (planned : IsPlanOf p plan) → is_buildable (lanes_of p) plan ≡ true
-    → (delay n turns : ℕ) (input : PlainInput) (outs : List ℕ) (drams : List (List ℕ)) → FitsPorts p.ports input → (r : Runs p plan none_waits delay input n turns outs drams) → RunsInTime (lanes_of p) plan none_waits input r.history r.left
-in_time p plan valid is by planned h delay n turns input outs drams fits r = record {
-  forms = forms_of p;
-  meets = planned.meets;
-  planned = record { is_core = is; is_timed = is_timed p plan h; by_lane = by; valid = valid (lanes_of p) (forms_of p) planned.meets plan is planned.is_planned };
-  fits = fits_lanes p input fits;
-  turns = n;
-  ran = r.ran;
-  found = r.well.found;
-}
+-- a run of the core in lanes, from an input that fits
+found_run : (p : PlainProgram) (plan : PlainPlan) → ChosenAreValid → StaysCore p → ProgramIsByLane p → (planned : IsPlanOf p plan) → is_buildable (lanes_of p) plan ≡ true
+    → (n : ℕ) (input : PlainInput) (h : History) (left : Store) → FitsPorts p.ports input → run_core in_lanes n (lanes_of p) input ≡ went h left → RunsByPlan (lanes_of p) plan none_waits input h left
+found_run p plan valid is by planned built n input h left fits ran =
+    record {
+      meets = planned.meets;
+      meets_are = planned.are_meets;
+      planned = record { is_core = is; is_timed = is_timed p plan built; by_lane = by; valid = valid (lanes_of p) (forms_of p) planned.meets plan is planned.is_planned };
+      fits = fits_lanes p input fits;
+      turns = n;
+      ran = ran;
+    }
 
 less : (took most : ℕ) → took + 2 ≤ most → took ≤ most
 less took most h = omega (arith, h)
@@ -107,25 +107,9 @@ carried p plan valid is by decided runs planned h cells carries = record {
       let r : Runs p plan none_waits delay input n turns outs drams = runs none_waits delay planned.meets has (λ k path ask. omega arith) n input (fits_core p input fits) outs drams turns shape e in
       let within = r.ends n ((decided input).ends n outs drams turns shape e).0 in
       let took = (core_timed core plan none_waits r.history).took in
-      let ends = carries.carries none_waits input r.history r.left (in_time p plan valid is by planned h delay n turns input outs drams fits r) delays (limit n delay core) (less took (limit n delay core) within) in
+      let ends = carries.carries none_waits input r.history r.left (found_run p plan valid is by planned h n input r.history r.left fits r.ran) delays (limit n delay core) (less took (limit n delay core) within) in
       (took, ends_as cells input delays (limit n delay core) took outs (out_words core r.left) drams [] (outs_left core r.history r.left outs drams r.words) (drams_left core r.history r.left outs drams (buildable core plan h).no_drams r.words) ends));
 }
-
--- a run of the core in lanes, from an input that fits
-found_run : (p : PlainProgram) (plan : PlainPlan) → ChosenAreValid → StaysCore p → ProgramIsByLane p → ChosenPlansRun (lanes_of p) plan none_waits 0 → (planned : IsPlanOf p plan) → is_buildable (lanes_of p) plan ≡ true
-    → (n : ℕ) (input : PlainInput) (h : History) (left : Store) → FitsPorts p.ports input → run_core in_lanes n (lanes_of p) input ≡ went h left → RunsInTime (lanes_of p) plan none_waits input h left
-found_run p plan valid is by run planned built n input h left fits ran =
-    let chosen : HasChosen (lanes_of p) planned.meets plan = record { is_core = is; is_timed = is_timed p plan built; by_lane = by; meets_are = planned.are_meets; is_chosen = planned.is_planned } in
-    let well : RunsWell (lanes_of p) plan none_waits 0 input h left = run planned.meets chosen (λ k path ask. omega arith) input n h left (fits_lanes p input fits) ran in
-    record {
-      forms = forms_of p;
-      meets = planned.meets;
-      planned = record { is_core = is; is_timed = is_timed p plan built; by_lane = by; valid = valid (lanes_of p) (forms_of p) planned.meets plan is planned.is_planned };
-      fits = fits_lanes p input fits;
-      turns = n;
-      ran = ran;
-      found = well.found;
-    }
 
 no_dram_words : (core : PlainCore) (left : Store) → core.ports.drams ≡ [] → [] ≡ dram_words core left
 no_dram_words core left none = sym (ap (λ ports. map (λ m. words_of (left m)) (map (dram_number core) (numbers_below (length ports)))) none)
@@ -137,12 +121,12 @@ unfolding run_core
 cost_of_run p plan d ends timed forms meets valid n input h left ran =
     ends (λ k path ask. omega arith) (node_planned (lanes_of p) forms meets plan (lanes_of p).root 0 0 timed valid.kinds) n no_scope (first_store (lanes_of p) input) left h ran
 
-pub cost_kept : (p : PlainProgram) (plan : PlainPlan) → ChosenAreValid → StaysCore p → ProgramIsByLane p → ChosenPlansRun (lanes_of p) plan none_waits 0 → ((delays : Delays) (d : ℕ) → EndsInCost (lanes_of p) plan delays d) → CoresKeepCosts p plan
-cost_kept p plan valid is by run costs planned built cells carries = record {
+pub cost_kept : (p : PlainProgram) (plan : PlainPlan) → ChosenAreValid → StaysCore p → ProgramIsByLane p → ((delays : Delays) (d : ℕ) → EndsInCost (lanes_of p) plan delays d) → CoresKeepCosts p plan
+cost_kept p plan valid is by costs planned built cells carries = record {
   within = λ input delays n h left fits ran. (
       let core = lanes_of p in
       let took = (core_timed core plan none_waits h).took in
       let cost = cost_of_run p plan (greatest_delay delays) (costs none_waits (greatest_delay delays)) (is_timed p plan built) (forms_of p) planned.meets (valid core (forms_of p) planned.meets plan is planned.is_planned) n input h left ran in
-      let ends = carries.carries none_waits input h left (found_run p plan valid is by run planned built n input h left fits ran) delays took (omega arith) in
+      let ends = carries.carries none_waits input h left (found_run p plan valid is by planned built n input h left fits ran) delays took (omega arith) in
       (took, cost, ends_as cells input delays took took (out_words core left) (out_words core left) (dram_words core left) [] refl (no_dram_words core left (buildable core plan built).no_drams) ends));
 }

@@ -19,17 +19,24 @@ use Rattle.sp_overlap.specs.Whole.{IsTimed, AreTimed}
 use Rattle.sp_plans.specs.Planned.{IsPlanned}
 use Rattle.sp_plans.specs.Laws.{ChosenAreValid}
 use Rattle.sp_tree_handed.specs.Lists.{NumberedOps, numbered, standing, bounds_in, lists_in, lists_in_stages}
-use Rattle.sp_tree_handed.specs.Scalars.{IsScalar, AreScalars}
+use Rattle.sp_tree_handed.specs.Scalars.{IsStored, AreStored}
 use Rattle.sp_tree_handed.specs.Standing.{BoundsReadArguments}
 use Rattle.sp_tree_nets.specs.Emitted.{HasNoTransfer, HaveNoTransfer}
 use Rattle.sp_tree_nets.specs.Whole.{HasTreePlan}
 use Rattle.sp_owner_runs.specs.Acting.{AreSingle}
-use Rattle.sp_scalar_cores.specs.Quiet.{HasNoCounters}
+use Rattle.sp_stored_cores.specs.Quiet.{HasNoCounters}
 use Rattle.sp_lower.specs.Carries.{CanLower}
 use Rattle.sp_tree.specs.PlainProgram.{PlainProgram}
+use Rattle.sp_bank.specs.Banking.{Banking, InSpace}
+use Rattle.sp_core.specs.Forms.{PlainForms}
+use Rattle.sp_plan.specs.Ports.{scheme_at}
+use Rattle.sp_plan.specs.Validity.{schemes_of}
+use Rattle.sp_schemes.specs.Chosen.{IsChosen, AreChosen}
+use Rattle.sp_array_nets.specs.Laws.{ValidPlansHaveArrays}
+use Rattle.sp_lane_programs.specs.LanesLaws.{ProgramIsByLane}
 use Rattle.sp_lane_cores.specs.Laws.{StaysCore}
 use Rattle.sp_compile.specs.Choices.{lanes_of, forms_of, IsPlanOf}
-use Rattle.sp_build.specs.Buildable.{is_scalar, is_scalar_mem, is_none, is_single, is_argument, reads_argument, is_early, has_early_bounds, is_node_buildable, are_buildable, is_uncounted_by, is_uncounted, is_buildable}
+use Rattle.sp_build.specs.Buildable.{is_stored, is_stored_mem, is_none, is_single, is_argument, reads_argument, is_early, has_early_bounds, is_node_buildable, are_buildable, is_uncounted_by, is_uncounted, is_buildable}
 use Rattle.sp_build.specs.Laws.{BuildableCanBeLowered}
 use Rattle.sp_build.proofs.Lists.{cons_cases, all_at, only}
 
@@ -167,17 +174,17 @@ uncounted (load r m spans) h = absurd (true≢false (sym h))
 uncounted (store r m spans) h = absurd (true≢false (sym h))
 uncounted (sparse kind r m places spans count par) h = absurd (true≢false (sym h))
 
-scalar_kind : (k : Kind) → is_scalar k ≡ true → IsScalar k
-scalar_kind Reg h = tt
-scalar_kind ArgIn h = tt
-scalar_kind ArgOut h = tt
-scalar_kind Fifo h = absurd (true≢false (sym h))
-scalar_kind Sram h = absurd (true≢false (sym h))
-scalar_kind LineBuf h = absurd (true≢false (sym h))
-scalar_kind Dram h = absurd (true≢false (sym h))
+stored_kind : (k : Kind) → is_stored k ≡ true → IsStored k
+stored_kind Reg h = tt
+stored_kind ArgIn h = tt
+stored_kind ArgOut h = tt
+stored_kind Fifo h = absurd (true≢false (sym h))
+stored_kind Sram h = tt
+stored_kind LineBuf h = absurd (true≢false (sym h))
+stored_kind Dram h = absurd (true≢false (sym h))
 
-scalars : (core : PlainCore) → list_all is_scalar_mem core.mems ≡ true → AreScalars core
-scalars core h m l = subst IsScalar (sym (own_kind core m l)) (scalar_kind (mem core m).kind (all_at is_scalar_mem core.mems (mem core m) h (Contains-get_or core.mems m no_mem l)))
+stored : (core : PlainCore) → list_all is_stored_mem core.mems ≡ true → AreStored core
+stored core h m l = subst IsStored (sym (own_kind core m l)) (stored_kind (mem core m).kind (all_at is_stored_mem core.mems (mem core m) h (Contains-get_or core.mems m no_mem l)))
 
 single : (core : PlainCore) (plan : PlainPlan) → length plan.mems ≡ length core.mems → list_all is_single plan.mems ≡ true → AreSingle core plan
 single core plan same h m l = eqb-true (mem_plan plan m).depth 1 (all_at is_single plan.mems (mem_plan plan m) h (Contains-get_or plan.mems m no_mem_plan (omega (arith, same, l))))
@@ -188,7 +195,7 @@ no_port_there (p ∷ ports) h = absurd (true≢false (sym h))
 
 -- the parts of the test
 pub record Buildable (core : PlainCore) (plan : PlainPlan) : Type 0 where
-  pub are_scalars : list_all is_scalar_mem core.mems ≡ true
+  pub are_stored : list_all is_stored_mem core.mems ≡ true
   pub no_drams : core.ports.drams ≡ []
   pub tree : is_node_buildable core core.root ≡ true
   pub root : is_uncounted core.root ≡ true
@@ -196,14 +203,18 @@ pub record Buildable (core : PlainCore) (plan : PlainPlan) : Type 0 where
 
 pub buildable : (core : PlainCore) (plan : PlainPlan) → is_buildable core plan ≡ true → Buildable core plan
 buildable core plan h =
-    let all = and_parts (list_all is_scalar_mem core.mems && is_none core.ports.drams) ((is_node_buildable core core.root && is_uncounted core.root) && list_all is_single plan.mems) h in
-    let mems = and_parts (list_all is_scalar_mem core.mems) (is_none core.ports.drams) all.0 in
+    let all = and_parts (list_all is_stored_mem core.mems && is_none core.ports.drams) ((is_node_buildable core core.root && is_uncounted core.root) && list_all is_single plan.mems) h in
+    let mems = and_parts (list_all is_stored_mem core.mems) (is_none core.ports.drams) all.0 in
     let rest = and_parts (is_node_buildable core core.root && is_uncounted core.root) (list_all is_single plan.mems) all.1 in
     let tree = and_parts (is_node_buildable core core.root) (is_uncounted core.root) rest.0 in
-    record { are_scalars = mems.0; no_drams = no_port_there core.ports.drams mems.1; tree = tree.0; root = tree.1; singles = rest.1 }
+    record { are_stored = mems.0; no_drams = no_port_there core.ports.drams mems.1; tree = tree.0; root = tree.1; singles = rest.1 }
 
-pub can_lower : (p : PlainProgram) (plan : PlainPlan) → ChosenAreValid → StaysCore p → BuildableCanBeLowered p plan
-can_lower p plan valid is planned short h =
+-- the schemes of the chosen plan are of those that are searched
+in_space : (core : PlainCore) (forms : PlainForms) (plan : PlainPlan) → AreChosen core forms (schemes_of plan) → (m : ℕ) (b : Banking) → scheme_at (schemes_of plan) (Some m) ≡ Some b → InSpace b
+in_space core forms plan chosen m b e = (subst (IsChosen core forms m) e (chosen m)).0.space
+
+pub can_lower : (p : PlainProgram) (plan : PlainPlan) → ChosenAreValid → StaysCore p → ProgramIsByLane p → ValidPlansHaveArrays (lanes_of p) plan → BuildableCanBeLowered p plan
+can_lower p plan valid is by arrays planned short h =
     let core = lanes_of p in
     let b : Buildable core plan = buildable core plan h in
     record {
@@ -216,15 +227,18 @@ can_lower p plan valid is planned short h =
           moves_none = moves_none core core.root b.tree;
           latencies = short;
         };
-        scalars = scalars core b.are_scalars;
+        stored = stored core b.are_stored;
+        arrays = arrays (forms_of p) planned.meets
+            (record { is_core = is; is_timed = timed core core.root b.tree; by_lane = by; valid = valid core (forms_of p) planned.meets plan is planned.is_planned })
+            (in_space core (forms_of p) plan planned.is_planned.schemes);
         bounds = reads_arguments core b.tree;
       };
-      scalar = record {
+      stored = record {
         right = is;
         timed = timed core core.root b.tree;
         moves_none = moves_none core core.root b.tree;
         uncounted = uncounted core.root b.root;
-        scalars = scalars core b.are_scalars;
+        stored = stored core b.are_stored;
         arguments = reads_arguments core b.tree;
         single = single core plan planned.is_planned.memories b.singles;
       };

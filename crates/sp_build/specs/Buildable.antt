@@ -2,7 +2,7 @@
 use Rattle.std.specs.Prelude.{◌≡◌, ℕ, ◌==◌, ◌&&◌, not, Bool, true, false, IsTrue, List, [], ◌∷◌, Option, Some, None}
 use Rattle.std.specs.List.{list_all}
 use Rattle.sp_words.specs.declared.kind.Kind.{Kind}
-use Rattle.sp_words.specs.declared.kind.Kind.TheVariants.{Reg, ArgIn, ArgOut}
+use Rattle.sp_words.specs.declared.kind.Kind.TheVariants.{Reg, Sram, ArgIn, ArgOut}
 use Rattle.sp_words.specs.Ports.{PlainPort}
 use Rattle.sp_tree.specs.PlainProgram.{PlainProgram}
 use Rattle.sp_core.specs.declared.operation.OpKind.{OpKind}
@@ -13,15 +13,16 @@ use Rattle.sp_core.specs.PlainCore.{PlainOp, PlainCounter, PlainNode, PlainStage
 use Rattle.sp_plan.specs.PlainPlan.{PlainMemPlan, PlainPlan}
 use Rattle.sp_compile.specs.Choices.{lanes_of, IsPlanOf}
 
--- a register, an argument or an output
-abbrev pub is_scalar : Kind → Bool
-is_scalar Reg = true
-is_scalar ArgIn = true
-is_scalar ArgOut = true
-is_scalar _ = false
+-- a register, an argument, an output or an SRAM
+abbrev pub is_stored : Kind → Bool
+is_stored Reg = true
+is_stored Sram = true
+is_stored ArgIn = true
+is_stored ArgOut = true
+is_stored _ = false
 
-abbrev pub is_scalar_mem : PlainMem → Bool
-is_scalar_mem m = is_scalar m.kind
+abbrev pub is_stored_mem : PlainMem → Bool
+is_stored_mem m = is_stored m.kind
 
 abbrev pub is_none : List PlainPort → Bool
 is_none [] = true
@@ -75,10 +76,10 @@ is_uncounted (fsm start state test body next) = true
 is_uncounted (branch test first second) = true
 is_uncounted _ = false
 
--- A core all of whose memories are one word, in one copy each by the plan, without DRAMs; its root has no counters.
+-- A core all of whose memories are of these kinds, in one copy each by the plan, without DRAMs; its root has no counters.
 abbrev pub is_buildable : PlainCore → PlainPlan → Bool
 is_buildable core plan =
-    (list_all is_scalar_mem core.mems && is_none core.ports.drams) && ((is_node_buildable core core.root && is_uncounted core.root) && list_all is_single plan.mems)
+    (list_all is_stored_mem core.mems && is_none core.ports.drams) && ((is_node_buildable core core.root && is_uncounted core.root) && list_all is_single plan.mems)
 
 -- so is the core of a program in lanes, by its plan
 abbrev pub CanBeBuilt : PlainProgram → Type 0

@@ -11,7 +11,7 @@ use Rattle.sp_plan.specs.PlainPlan.{PlainPlan, node_plan}
 use Rattle.sp_machine.specs.Timeline.{latency_of}
 use Rattle.sp_lower.specs.Carries.{CanLower, CarriesCore}
 use Rattle.sp_compile.specs.Choices.{lanes_of, IsPlanOf}
-use Rattle.sp_build.specs.Buildable.{is_scalar, is_buildable, CanBeBuilt}
+use Rattle.sp_build.specs.Buildable.{is_stored, is_buildable, CanBeBuilt}
 use Rattle.sp_build.specs.Carries.{Carries, KeepsCost}
 
 -- latencies have 32 bits
@@ -30,6 +30,6 @@ CoresCarryPrograms p plan = IsPlanOf p plan → is_buildable (lanes_of p) plan �
 abbrev pub CoresKeepCosts : PlainProgram → PlainPlan → Type 0
 CoresKeepCosts p plan = IsPlanOf p plan → is_buildable (lanes_of p) plan ≡ true → (cells : List PlainCell) → CarriesCore (lanes_of p) plan cells → KeepsCost p plan cells
 
--- a program whose block is one inner body, over registers, arguments and outputs, can be built
+-- a program whose block is one inner body, over registers, arguments, outputs and SRAMs, can be built
 abbrev pub InnerBlocksCanBeBuilt : PlainProgram → Type 0
-InnerBlocksCanBeBuilt p = is_inner p.body ≡ true → list_all (λ (m : program.PlainMem). is_scalar m.kind) p.mems ≡ true → CanBeBuilt p
+InnerBlocksCanBeBuilt p = is_inner p.body ≡ true → list_all (λ (m : program.PlainMem). is_stored m.kind) p.mems ≡ true → CanBeBuilt p

@@ -5,7 +5,7 @@ ghost use Rattle.sp_core.specs.CoreParts.{plain_core};
 ghost use Rattle.sp_core.specs.Declarations.{is_stream};
 ghost use Rattle.sp_core.specs.Plain.{plain_counter, plain_mem, plain_node, plain_op};
 ghost use Rattle.sp_plan.specs.Plain.{plain_mem_plan, plain_plan};
-ghost use Rattle.sp_build.specs.Buildable.{is_scalar, is_scalar_mem, is_single, is_argument, reads_argument, is_early, has_early_bounds, is_node_buildable, is_uncounted, is_buildable};
+ghost use Rattle.sp_build.specs.Buildable.{is_stored, is_stored_mem, is_single, is_argument, reads_argument, is_early, has_early_bounds, is_node_buildable, is_uncounted, is_buildable};
 
 use sp_core::{Core, CoreCounter, CoreMem, Node, Op, OpKind};
 use sp_plan::{MemPlan, Plan, kind};
@@ -17,25 +17,25 @@ fn both(one: bool, other: bool) -> bool
     one && other
 }
 
-fn is_scalar(kind: Kind) -> bool
-    ensures { result ≡ is_scalar kind }
+fn is_stored(kind: Kind) -> bool
+    ensures { result ≡ is_stored kind }
 {
-    matches!(kind, Kind::Reg | Kind::ArgIn | Kind::ArgOut)
+    matches!(kind, Kind::Reg | Kind::Sram | Kind::ArgIn | Kind::ArgOut)
 }
 
-fn is_scalar_mem(mem: &CoreMem) -> bool
-    ensures { result ≡ is_scalar_mem (plain_mem mem.now) }
+fn is_stored_mem(mem: &CoreMem) -> bool
+    ensures { result ≡ is_stored_mem (plain_mem mem.now) }
 {
-    is_scalar(mem.kind)
+    is_stored(mem.kind)
 }
 
-/// Whether all memories are registers, arguments and outputs.
-fn are_scalars(mems: &[CoreMem]) -> bool
-    ensures { result ≡ list_all is_scalar_mem (map plain_mem mems.now) }
+/// Whether all memories are registers, arguments, outputs and SRAMs.
+fn are_stored(mems: &[CoreMem]) -> bool
+    ensures { result ≡ list_all is_stored_mem (map plain_mem mems.now) }
 {
     let mut all = true;
     for mem in mems {
-        all = both(all, is_scalar_mem(mem));
+        all = both(all, is_stored_mem(mem));
     }
     all
 }
@@ -156,12 +156,12 @@ fn are_single(mems: &[MemPlan]) -> bool
     all
 }
 
-/// Whether a core has a netlist by its plan so far: its memories are registers, arguments and outputs, in one copy each; it has no
-/// DRAM, no transfer and no `Stream` block; bounds of counters read arguments alone.
+/// Whether a core has a netlist by its plan so far: its memories are registers, arguments, outputs and SRAMs, in one copy each; it
+/// has no DRAM, no transfer and no `Stream` block; bounds of counters read arguments alone.
 pub fn is_buildable(core: &Core, plan: &Plan) -> bool
     ensures { result ≡ is_buildable (plain_core core.now) (plain_plan plan.now) }
 {
-    (are_scalars(core.mems()) && core.ports().drams.is_empty())
+    (are_stored(core.mems()) && core.ports().drams.is_empty())
         && ((is_node_buildable(core, core.root()) && is_uncounted(core.root()))
             && are_single(&plan.mems))
 }

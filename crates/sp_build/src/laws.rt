@@ -4,7 +4,7 @@ ghost use Rattle.sp_plan.specs.PlainPlan.{PlainPlan};
 ghost use Rattle.sp_tree.specs.Invariant.{IsProgram};
 ghost use Rattle.sp_tree.specs.PlainProgram.{PlainProgram};
 
-use sp_chosen_runs::chosen_plans_run;
+use sp_array_nets::valid_plans_have_arrays;
 use sp_lane_cores::programs_stay_cores;
 use sp_lane_programs::programs_are_by_lane;
 use sp_machine::cores_end_in_their_cost;
@@ -17,7 +17,9 @@ pub fn buildable_cores_can_be_lowered()
     ensures { (p : PlainProgram) (plan : PlainPlan) → IsProgram p → BuildableCanBeLowered p plan }
 {
     chosen_plans_are_valid();
+    programs_are_by_lane();
     programs_stay_cores();
+    valid_plans_have_arrays();
 }
 
 /// A netlist that carries that core carries the program: where the program ends, its core in lanes has a run with the program's
@@ -37,13 +39,12 @@ pub fn cores_keep_costs()
     ensures { (p : PlainProgram) (plan : PlainPlan) → IsProgram p → CoresKeepCosts p plan }
 {
     chosen_plans_are_valid();
-    chosen_plans_run();
     cores_end_in_their_cost();
     programs_are_by_lane();
     programs_stay_cores();
 }
 
-/// A program whose block is one inner body, without controllers and transfers, over registers, arguments and outputs, can be built.
+/// A program whose block is one inner body, without controllers and transfers, over registers, arguments, outputs and SRAMs, can be built.
 pub fn inner_blocks_can_be_built()
     ensures { (p : PlainProgram) → IsProgram p → InnerBlocksCanBeBuilt p }
 {}

@@ -1,12 +1,11 @@
 -- Each port that a run by a valid plan uses is one that the plan has.
-use Rattle.std.proofs.Common.{◌≡◌, ℕ, ◌-◌, ◌<◌, ◌≤◌, Bool, true, false, cond, List, [], ◌∷◌, Option, Some, None, length, arith, refl, ap, subst}
-use Rattle.std.proofs.lemmas.Bool.{eqb-true, false≢true}
-use Rattle.std.specs.Prelude.{◌%◌, max, min, is_some}
+use Rattle.std.proofs.Common.{◌≡◌, ℕ, ◌-◌, ◌<◌, ◌≤◌, Bool, true, false, cond, List, [], ◌∷◌, Option, Some, None, arith, refl, ap, subst}
+use Rattle.std.proofs.lemmas.Bool.{false≢true}
+use Rattle.std.specs.Prelude.{◌%◌, min, is_some}
 use Rattle.sp_bank.specs.Banking.{Banking}
 use Rattle.sp_core.specs.Declarations.{mem}
 use Rattle.sp_core.specs.Events.{Act, reads, writes, Event, Moment, touches, slices, renews, keeps}
 use Rattle.sp_core.specs.PlainCore.{PlainCore}
-use Rattle.sp_plan.specs.Copies.{readers, duplicates, is_duplicated}
 use Rattle.sp_plan.specs.PlainPlan.{PlainPlan, mem_plan}
 use Rattle.sp_plan.specs.Ports.{has_banks, scheme_at}
 use Rattle.sp_plan.specs.Validity.{schemes_of}
@@ -16,11 +15,10 @@ use Rattle.sp_words.specs.declared.kind.Kind.TheVariants.{LineBuf}
 use Rattle.sp_machine.specs.Stamps.{Stamped}
 use Rattle.sp_machine.specs.Timeline.{core_timed}
 use Rattle.sp_machine.specs.Transfers.{Delays}
-use Rattle.sp_overlap.proofs.Lanes.{all_below}
 use Rattle.sp_core_ports.specs.UsedPorts.{Port, bank_at, port_at, act_port, event_port, moment_port, port_of}
 use Rattle.sp_core_ports.specs.UsedReaders.{readers_of, over_at, duplicate_at}
 use Rattle.sp_core_ports.specs.CopiesLaws.{IsCopy, HasCopy}
-use Rattle.sp_core_ports.proofs.CopiesDepths.{runs_have_copies}
+use Rattle.sp_core_ports.proofs.CopiesDepths.{duplicates_some, runs_have_copies}
 use Rattle.sp_core_ports.proofs.CoreWriting.{on_chip}
 use Rattle.sp_core_ports.specs.BanksLaws.{AreInSpace, bank_count, IsThere, PortsAreThere}
 
@@ -76,7 +74,4 @@ pub ports_are_there : (core : PlainCore) (plan : PlainPlan) (delays : Delays) �
 ports_are_there core plan delays forms meets w space h = all_there core plan space some (core_timed core plan delays h).events (runs_have_copies core plan delays forms meets w h)
   where
     some : (m : ℕ) → has_banks (mem core m).kind ≡ true → 0 < (mem_plan plan m).duplicates
-    some m banked =
-        let given : (mem_plan plan m).duplicates ≡ duplicates core m = eqb-true _ _ (all_below (is_duplicated core plan) (length core.mems) m w.valid.duplicated (on_chip core m banked)) in
-        let all : duplicates core m ≡ max 1 (readers core m core.root) = ap (λ b. cond b (max 1 (readers core m core.root)) 1) banked in
-        omega arith
+    some m banked = duplicates_some core plan forms meets w m (on_chip core m banked) banked

@@ -1,22 +1,23 @@
--- By a valid plan each memory has a copy.
-use Rattle.std.proofs.Common.{◌≡◌, ℕ, suc, ◌+◌, ◌<◌, inl, inr, Bool, true, false, cond, List, [], ◌∷◌, length, arith}
+-- By a valid plan each memory has a copy, and each memory with banks a duplicate.
+use Rattle.std.proofs.Common.{◌≡◌, ℕ, suc, ◌+◌, ◌<◌, inl, inr, Bool, true, false, cond, List, [], ◌∷◌, length, ap, arith}
 use Rattle.std.proofs.lemmas.Bool.{eqb-true, false≢true}
-use Rattle.std.specs.Prelude.{◌==◌, ◌&&◌, ◌||◌, not}
+use Rattle.std.specs.Prelude.{◌==◌, ◌&&◌, ◌||◌, not, max}
 use Rattle.sp_core.specs.declared.access.Meet.{Meet}
-use Rattle.sp_core.specs.Declarations.{is_among, is_stream}
+use Rattle.sp_core.specs.Declarations.{mem, is_among, is_stream}
 use Rattle.sp_core.specs.Forms.{PlainForms}
 use Rattle.sp_core.specs.Numbering.{counters_size, node_count, number_count}
 use Rattle.sp_core.specs.PlainCore.{PlainNode, PlainStages, inner, outer, fsm, branch, load, store, sparse, no_stage, more_stage, PlainCore}
-use Rattle.sp_plan.specs.Copies.{is_loop, owned_by_loops, owned_by_stages, slots_between, used_slots, copies as copy_count, are_copied, is_single}
+use Rattle.sp_plan.specs.Copies.{is_loop, owned_by_loops, owned_by_stages, slots_between, used_slots, copies as copy_count, are_copied, is_single, readers, duplicates, is_duplicated}
 use Rattle.sp_plan.specs.PlainPlan.{PlainNodePlan, inner_plan, outer_plan, other_plan, PlainPlan, mem_plan, node_plan}
+use Rattle.sp_plan.specs.Ports.{has_banks}
 use Rattle.sp_plan.specs.Validity.{copy_rule}
 use Rattle.sp_machine.specs.Transfers.{Delays}
-use Rattle.sp_overlap.specs.Whole.{IsTimed, AreTimed}
+use Rattle.sp_overlap.specs.Whole.{IsTimed, AreTimed, HasPlan}
 use Rattle.sp_overlap.proofs.Depths.{all_among}
 use Rattle.sp_overlap.proofs.Lanes.{all_below, or_choose}
 use Rattle.sp_overlap.proofs.Planned.{Holds, AllHold, outer_holds, fsm_holds, branch_holds, stage_holds}
 use Rattle.sp_overlap.proofs.Scoped.{in_two}
-use Rattle.sp_core_ports.specs.CopiesLaws.{RunsHaveCopies}
+use Rattle.sp_core_ports.specs.CopiesLaws.{RunsHaveCopies, PlansHaveCopies}
 use Rattle.sp_core_ports.proofs.CopiesBelow.{node_has}
 
 module _ (core : PlainCore) (forms : PlainForms) (meets : List Meet) (plan : PlainPlan) where
@@ -68,12 +69,24 @@ module _ (core : PlainCore) (forms : PlainForms) (meets : List Meet) (plan : Pla
           | inr x ↦ stages_some rest (k + node_count node) (n + number_count node) m t.1 q.1 x
         ]
 
+pub copies_some : (core : PlainCore) (plan : PlainPlan) (forms : PlainForms) (meets : List Meet) → HasPlan core forms meets plan → (m : ℕ) → m < length core.mems → 0 < (mem_plan plan m).depth
+copies_some core plan forms meets w m l =
+    elim (or_choose (is_among m (owned_by_loops core.root)) ((mem_plan plan m).depth == 1) (all_below (is_single core plan) (length core.mems) m w.valid.single l)) [
+      | inl i ↦ node_some core forms meets plan core.root 0 0 m w.is_timed w.valid.copied i
+      | inr e ↦ (let q : (mem_plan plan m).depth ≡ 1 = eqb-true _ _ e in omega arith)
+    ]
+
+pub duplicates_some : (core : PlainCore) (plan : PlainPlan) (forms : PlainForms) (meets : List Meet) → HasPlan core forms meets plan → (m : ℕ) → m < length core.mems → has_banks (mem core m).kind ≡ true → 0 < (mem_plan plan m).duplicates
+duplicates_some core plan forms meets w m l banked =
+    let given : (mem_plan plan m).duplicates ≡ duplicates core m = eqb-true _ _ (all_below (is_duplicated core plan) (length core.mems) m w.valid.duplicated l) in
+    let all : duplicates core m ≡ max 1 (readers core m core.root) = ap (λ b. cond b (max 1 (readers core m core.root)) 1) banked in
+    omega arith
+
+pub plans_have_copies : (core : PlainCore) (plan : PlainPlan) → PlansHaveCopies core plan
+plans_have_copies core plan forms meets w m l = record { copy = copies_some core plan forms meets w m l; duplicate = duplicates_some core plan forms meets w m l }
+
 pub runs_have_copies : (core : PlainCore) (plan : PlainPlan) (delays : Delays) → RunsHaveCopies core plan delays
 runs_have_copies core plan delays forms meets w h = node_has core plan delays some core.root 0 0 (record { path = []; counters = [] }) (λ m. 0) h some
   where
     some : (m : ℕ) → m < length core.mems → 0 < (mem_plan plan m).depth
-    some m l =
-        elim (or_choose (is_among m (owned_by_loops core.root)) ((mem_plan plan m).depth == 1) (all_below (is_single core plan) (length core.mems) m w.valid.single l)) [
-          | inl i ↦ node_some core forms meets plan core.root 0 0 m w.is_timed w.valid.copied i
-          | inr e ↦ (let q : (mem_plan plan m).depth ≡ 1 = eqb-true _ _ e in omega arith)
-        ]
+    some m l = copies_some core plan forms meets w m l

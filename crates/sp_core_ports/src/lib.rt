@@ -11,7 +11,7 @@ mod used_examples;
 
 pub use banks::ports_are_there;
 pub use banks_examples::worked_banks;
-pub use copies::runs_have_copies;
+pub use copies::{plans_have_copies, runs_have_copies};
 pub use copies_examples::worked_copies;
 pub use cores::{cores_use_no_port_twice, reads_have_duplicates, stages_take_turns};
 pub use used::{

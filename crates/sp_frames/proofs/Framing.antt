@@ -1,5 +1,5 @@
 -- What the cells of a frame are, one list after the other.
-use Rattle.std.proofs.Common.{◌≡◌, ℕ, zero, suc, ◌+◌, ◌<◌, ◌==◌, Bool, true, false, ◌||◌, cond, List, [], ◌∷◌, ◌++◌, length, map, filter_map, slice_index, Option, None, count_by, refl, sym, ap, ap₂, ◌∙◌, arith, append_assoc, append-nil, eq-eqb, ne_eqb}
+use Rattle.std.proofs.Common.{◌≡◌, ℕ, zero, suc, ◌+◌, ◌<◌, ◌≤◌, ◌==◌, ◌⊎◌, inl, inr, Bool, true, false, not, ◌||◌, cond, List, [], ◌∷◌, ◌++◌, length, map, filter, filter_map, slice_index, Option, None, count_by, refl, sym, ap, ap₂, ◌∙◌, arith, append_assoc, append-nil, eq-eqb, ne_eqb}
 use Rattle.std.specs.List.{list_any}
 use Rattle.std.proofs.lemmas.Bool.{or_parts}
 use Rattle.std.proofs.lemmas.List.Elements.{filter_map-append}
@@ -10,19 +10,20 @@ use Rattle.sp_words.specs.Ports.{PlainPort}
 use Rattle.sp_netlist.specs.declared.cell.Port.{Port}
 use Rattle.sp_netlist.specs.declared.cell.Port.TheVariants.{Read, Write}
 use Rattle.sp_netlist.specs.Cells.{PlainCell, in_cell, out_cell, done_cell, const_cell, op_cell, not_cell, shift_cell, cast_cell, mux_cell, reg_cell, bank_cell, read_tap, write_tap, dram_cell, load_unit, store_unit}
-use Rattle.sp_netlist.specs.Rules.{is_in, is_done, out_name}
+use Rattle.sp_netlist.specs.Rules.{IsNetlist, IsRight, is_in, is_bank, is_done, out_name}
 use Rattle.sp_netlist.specs.Ports.{in_port, out_port, dram_port, ports_of}
 use Rattle.sp_netlist.specs.Parts.{NoCell, names_bank}
 use Rattle.sp_netlist.specs.Signals.{Setting, Signals, IsRun}
-use Rattle.sp_netlist.specs.Cycle.{is_enabled_tap, cell_is_done, is_over, out_words, dram_lists, done_in, EndsAs}
+use Rattle.sp_netlist.specs.Cycle.{is_enabled_tap, SharesNone, cell_is_done, is_over, out_words, dram_lists, done_in, EndsAs}
 use Rattle.sp_netlist.specs.Laws.{HasOneEnding}
 use Rattle.sp_netlist.specs.Draft.{Draft}
-use Rattle.sp_gates.specs.Grows.{is_no_gate, AddsGates}
+use Rattle.sp_gates.specs.Grows.{is_gate, is_no_gate, AddsGates}
 use Rattle.sp_gates.specs.Runs.{RunsOn}
 use Rattle.sp_gates.proofs.Running.{none_joined}
-use Rattle.sp_frames.specs.Framed.{in_cells, out_cells, IsFramed}
+use Rattle.sp_taps.specs.Stores.{is_bank_part, is_no_bank_part, AddsBanks}
+use Rattle.sp_frames.specs.Framed.{in_cells, out_cells, is_outside, AddsInside, IsFramed}
 use Rattle.sp_frames.specs.Ports.{HaveNoDims}
-use Rattle.sp_frames.specs.Laws.{FrameLaws, FramesRight, FramesEnd}
+use Rattle.sp_frames.specs.Laws.{FrameLaws, FramesRight, TapsShareNone, FramesEnd}
 
 -- a cell of none of the kinds that declare a port, read one or end a run
 record IsPlain (x : PlainCell) : Type 0 where
@@ -32,7 +33,6 @@ record IsPlain (x : PlainCell) : Type 0 where
   pub no_name : out_name x ≡ None
   pub no_end : is_done x ≡ false
   pub not_over : (words : ℕ → ℕ) → cell_is_done words x ≡ false
-  pub no_tap : (words : ℕ → ℕ) (port : Port) (bank : ℕ) → is_enabled_tap words port bank x ≡ false
   pub no_word : (words : ℕ → ℕ) (rest : List PlainCell) → out_words (x ∷ rest) words ≡ out_words rest words
   pub no_list : (drams : ℕ → ℕ → ℕ) (rest : List PlainCell) → dram_lists (x ∷ rest) drams ≡ dram_lists rest drams
 
@@ -41,37 +41,81 @@ tap_none : (x : PlainCell) (bank : ℕ) (words : ℕ → ℕ) → is_enabled_tap
 tap_none x bank words read write Read = read
 tap_none x bank words read write Write = write
 
-gate_plain : (x : PlainCell) → is_no_gate x ≡ false → IsPlain x
-gate_plain (const_cell net width word) e = record { no_in = refl; no_out = refl; no_dram = refl; no_name = refl; no_end = refl; not_over = λ words. refl; no_tap = λ words port bank. tap_none _ bank words refl refl port; no_word = λ words rest. refl; no_list = λ drams rest. refl }
-gate_plain (op_cell net ty op a b) e = record { no_in = refl; no_out = refl; no_dram = refl; no_name = refl; no_end = refl; not_over = λ words. refl; no_tap = λ words port bank. tap_none _ bank words refl refl port; no_word = λ words rest. refl; no_list = λ drams rest. refl }
-gate_plain (not_cell net ty a) e = record { no_in = refl; no_out = refl; no_dram = refl; no_name = refl; no_end = refl; not_over = λ words. refl; no_tap = λ words port bank. tap_none _ bank words refl refl port; no_word = λ words rest. refl; no_list = λ drams rest. refl }
-gate_plain (shift_cell net ty side a places) e = record { no_in = refl; no_out = refl; no_dram = refl; no_name = refl; no_end = refl; not_over = λ words. refl; no_tap = λ words port bank. tap_none _ bank words refl refl port; no_word = λ words rest. refl; no_list = λ drams rest. refl }
-gate_plain (cast_cell net from to a) e = record { no_in = refl; no_out = refl; no_dram = refl; no_name = refl; no_end = refl; not_over = λ words. refl; no_tap = λ words port bank. tap_none _ bank words refl refl port; no_word = λ words rest. refl; no_list = λ drams rest. refl }
-gate_plain (mux_cell net width choice a b) e = record { no_in = refl; no_out = refl; no_dram = refl; no_name = refl; no_end = refl; not_over = λ words. refl; no_tap = λ words port bank. tap_none _ bank words refl refl port; no_word = λ words rest. refl; no_list = λ drams rest. refl }
-gate_plain (reg_cell net width first next enable) e = record { no_in = refl; no_out = refl; no_dram = refl; no_name = refl; no_end = refl; not_over = λ words. refl; no_tap = λ words port bank. tap_none _ bank words refl refl port; no_word = λ words rest. refl; no_list = λ drams rest. refl }
-gate_plain (in_cell name net ty) e = absurd (cc)
-gate_plain (out_cell name net ty) e = absurd (cc)
-gate_plain (done_cell net) e = absurd (cc)
-gate_plain (bank_cell bank width len) e = absurd (cc)
-gate_plain (read_tap net bank enable addr) e = absurd (cc)
-gate_plain (write_tap bank enable addr word) e = absurd (cc)
-gate_plain (dram_cell dram name ty dims) e = absurd (cc)
-gate_plain (load_unit channel dram ready net request last addr) e = absurd (cc)
-gate_plain (store_unit channel dram ready request last addr word) e = absurd (cc)
+inside_plain : (x : PlainCell) → is_outside x ≡ false → IsPlain x
+inside_plain (const_cell net width word) e = record { no_in = refl; no_out = refl; no_dram = refl; no_name = refl; no_end = refl; not_over = λ words. refl; no_word = λ words rest. refl; no_list = λ drams rest. refl }
+inside_plain (op_cell net ty op a b) e = record { no_in = refl; no_out = refl; no_dram = refl; no_name = refl; no_end = refl; not_over = λ words. refl; no_word = λ words rest. refl; no_list = λ drams rest. refl }
+inside_plain (not_cell net ty a) e = record { no_in = refl; no_out = refl; no_dram = refl; no_name = refl; no_end = refl; not_over = λ words. refl; no_word = λ words rest. refl; no_list = λ drams rest. refl }
+inside_plain (shift_cell net ty side a places) e = record { no_in = refl; no_out = refl; no_dram = refl; no_name = refl; no_end = refl; not_over = λ words. refl; no_word = λ words rest. refl; no_list = λ drams rest. refl }
+inside_plain (cast_cell net from to a) e = record { no_in = refl; no_out = refl; no_dram = refl; no_name = refl; no_end = refl; not_over = λ words. refl; no_word = λ words rest. refl; no_list = λ drams rest. refl }
+inside_plain (mux_cell net width choice a b) e = record { no_in = refl; no_out = refl; no_dram = refl; no_name = refl; no_end = refl; not_over = λ words. refl; no_word = λ words rest. refl; no_list = λ drams rest. refl }
+inside_plain (reg_cell net width first next enable) e = record { no_in = refl; no_out = refl; no_dram = refl; no_name = refl; no_end = refl; not_over = λ words. refl; no_word = λ words rest. refl; no_list = λ drams rest. refl }
+inside_plain (bank_cell bank width len) e = record { no_in = refl; no_out = refl; no_dram = refl; no_name = refl; no_end = refl; not_over = λ words. refl; no_word = λ words rest. refl; no_list = λ drams rest. refl }
+inside_plain (read_tap net bank enable addr) e = record { no_in = refl; no_out = refl; no_dram = refl; no_name = refl; no_end = refl; not_over = λ words. refl; no_word = λ words rest. refl; no_list = λ drams rest. refl }
+inside_plain (write_tap bank enable addr word) e = record { no_in = refl; no_out = refl; no_dram = refl; no_name = refl; no_end = refl; not_over = λ words. refl; no_word = λ words rest. refl; no_list = λ drams rest. refl }
+inside_plain (in_cell name net ty) e = absurd (cc)
+inside_plain (out_cell name net ty) e = absurd (cc)
+inside_plain (done_cell net) e = absurd (cc)
+inside_plain (dram_cell dram name ty dims) e = absurd (cc)
+inside_plain (load_unit channel dram ready net request last addr) e = absurd (cc)
+inside_plain (store_unit channel dram ready request last addr word) e = absurd (cc)
 
--- a test that no gate passes, no list of gates passes
-gates_fail : (test : PlainCell → Bool) → ((x : PlainCell) → IsPlain x → test x ≡ false) → (gates : List PlainCell) → NoCell is_no_gate gates → list_any test gates ≡ false
-gates_fail test fails [] all = refl
-gates_fail test fails (x ∷ gates) all =
-    let both = or_parts (is_no_gate x) (list_any is_no_gate gates) all in
-    rw (fails x (gate_plain x both.0), gates_fail test fails gates both.1) refl
+-- no gate is a tap
+gate_taps : (words : ℕ → ℕ) (port : Port) (of : ℕ) (x : PlainCell) → is_no_gate x ≡ false → is_enabled_tap words port of x ≡ false
+gate_taps words port of (const_cell net width word) e = tap_none (const_cell net width word) of words refl refl port
+gate_taps words port of (op_cell net ty op a b) e = tap_none (op_cell net ty op a b) of words refl refl port
+gate_taps words port of (not_cell net ty a) e = tap_none (not_cell net ty a) of words refl refl port
+gate_taps words port of (shift_cell net ty side a places) e = tap_none (shift_cell net ty side a places) of words refl refl port
+gate_taps words port of (cast_cell net from to a) e = tap_none (cast_cell net from to a) of words refl refl port
+gate_taps words port of (mux_cell net width choice a b) e = tap_none (mux_cell net width choice a b) of words refl refl port
+gate_taps words port of (reg_cell net width first next enable) e = tap_none (reg_cell net width first next enable) of words refl refl port
+gate_taps words port of (bank_cell bank width len) e = absurd (cc)
+gate_taps words port of (read_tap net bank enable addr) e = absurd (cc)
+gate_taps words port of (write_tap bank enable addr word) e = absurd (cc)
+gate_taps words port of (in_cell name net ty) e = absurd (cc)
+gate_taps words port of (out_cell name net ty) e = absurd (cc)
+gate_taps words port of (done_cell net) e = absurd (cc)
+gate_taps words port of (dram_cell dram name ty dims) e = absurd (cc)
+gate_taps words port of (load_unit channel dram ready net request last addr) e = absurd (cc)
+gate_taps words port of (store_unit channel dram ready request last addr word) e = absurd (cc)
 
--- gates give nothing that no gate gives
-gates_give : {X : Type 0} (f : PlainCell → Option X) → ((x : PlainCell) → IsPlain x → f x ≡ None) → (gates : List PlainCell) → NoCell is_no_gate gates → filter_map f gates ≡ []
-gates_give f none [] all = refl
-gates_give f none (x ∷ gates) all =
-    let both = or_parts (is_no_gate x) (list_any is_no_gate gates) all in
-    rw (none x (gate_plain x both.0), gates_give f none gates both.1) refl
+-- gates, and banks with their taps, stand inside
+either_gate : (a b : Bool) → not a ≡ false → not (a || b) ≡ false
+either_gate true b e = refl
+either_gate false b e = absurd (cc)
+
+either_bank : (a b : Bool) → not b ≡ false → not (a || b) ≡ false
+either_bank true b e = refl
+either_bank false b e = e
+
+no_other : (p q : PlainCell → Bool) → ((x : PlainCell) → p x ≡ false → q x ≡ false) → (cells : List PlainCell) → NoCell p cells → NoCell q cells
+no_other p q sub [] h = refl
+no_other p q sub (x ∷ cells) h =
+    let both = or_parts (p x) (list_any p cells) h in
+    rw (sub x both.0, no_other p q sub cells both.1) refl
+
+pub gates_inside : (old new : Draft) → AddsGates old new → AddsInside old new
+gates_inside old new a = record { added = a.added; stands = a.stands; all = no_other is_no_gate is_outside (λ x e. either_gate (is_gate x) (is_bank_part x) e) a.added a.all }
+
+pub banks_inside : (old new : Draft) → AddsBanks old new → AddsInside old new
+banks_inside old new a = record { added = a.added; stands = a.stands; all = no_other is_no_bank_part is_outside (λ x e. either_bank (is_gate x) (is_bank_part x) e) a.added a.all }
+
+pub inside_join : (old mid new : Draft) → AddsInside old mid → AddsInside mid new → AddsInside old new
+inside_join old mid new a b = record {
+  added = a.added ++ b.added;
+  stands = b.stands ∙ ap (λ cells. cells ++ b.added) a.stands ∙ append_assoc old.cells a.added b.added;
+  all = none_joined is_outside a.added b.added a.all b.all;
+}
+
+-- a test that no such cell passes, no list of them passes
+inside_fail : (test : PlainCell → Bool) → ((x : PlainCell) → IsPlain x → test x ≡ false) → (inside : List PlainCell) → NoCell is_outside inside → list_any test inside ≡ false
+inside_fail test fails inside all = no_other is_outside test (λ x e. fails x (inside_plain x e)) inside all
+
+-- they give nothing that none of them gives
+inside_give : {X : Type 0} (f : PlainCell → Option X) → ((x : PlainCell) → IsPlain x → f x ≡ None) → (inside : List PlainCell) → NoCell is_outside inside → filter_map f inside ≡ []
+inside_give f none [] all = refl
+inside_give f none (x ∷ inside) all =
+    let both = or_parts (is_outside x) (list_any is_outside inside) all in
+    rw (none x (inside_plain x both.0), inside_give f none inside both.1) refl
 
 -- the same of the cells of arguments and of outputs
 ins_fail : (test : PlainCell → Bool) → ((name : List ℕ) (net : ℕ) (ty : Ty) → test (in_cell name net ty) ≡ false) → (ports : List PlainPort) (nets : List ℕ) → list_any test (in_cells ports nets) ≡ false
@@ -140,17 +184,17 @@ outs_words [] (net ∷ nets) words e = absurd (omega (arith, e))
 outs_words (port ∷ ports) [] words e = absurd (omega (arith, e))
 outs_words (port ∷ ports) (net ∷ nets) words e = ap (λ rest. words net ∷ rest) (outs_words ports nets words (omega (arith, e)))
 
-gates_words : (gates : List PlainCell) → NoCell is_no_gate gates → (words : ℕ → ℕ) → out_words gates words ≡ []
-gates_words [] all words = refl
-gates_words (x ∷ gates) all words =
-    let both = or_parts (is_no_gate x) (list_any is_no_gate gates) all in
-    (gate_plain x both.0).no_word words gates ∙ gates_words gates both.1 words
+inside_words : (inside : List PlainCell) → NoCell is_outside inside → (words : ℕ → ℕ) → out_words inside words ≡ []
+inside_words [] all words = refl
+inside_words (x ∷ inside) all words =
+    let both = or_parts (is_outside x) (list_any is_outside inside) all in
+    (inside_plain x both.0).no_word words inside ∙ inside_words inside both.1 words
 
-gates_lists : (gates : List PlainCell) → NoCell is_no_gate gates → (drams : ℕ → ℕ → ℕ) → dram_lists gates drams ≡ []
-gates_lists [] all drams = refl
-gates_lists (x ∷ gates) all drams =
-    let both = or_parts (is_no_gate x) (list_any is_no_gate gates) all in
-    (gate_plain x both.0).no_list drams gates ∙ gates_lists gates both.1 drams
+inside_lists : (inside : List PlainCell) → NoCell is_outside inside → (drams : ℕ → ℕ → ℕ) → dram_lists inside drams ≡ []
+inside_lists [] all drams = refl
+inside_lists (x ∷ inside) all drams =
+    let both = or_parts (is_outside x) (list_any is_outside inside) all in
+    (inside_plain x both.0).no_list drams inside ∙ inside_lists inside both.1 drams
 
 -- a test that only the end may pass
 any_framed : (test : PlainCell → Bool) (ins gates outs : List PlainCell) (x : PlainCell) → list_any test ins ≡ false → list_any test gates ≡ false → list_any test outs ≡ false → list_any test (ins ++ gates ++ outs ++ x ∷ []) ≡ (test x || false)
@@ -189,104 +233,180 @@ pub first_words : (ports : List PlainPort) (nets : List ℕ) (rest : List PlainC
     → (t i : ℕ) → i < length nets → s.net t (slice_index nets i) ≡ slice_index g.args i
 first_words ports nets rest g s many run is t i l = words_from ports nets [] rest 0 g s many run is refl t i l ∙ ap (slice_index g.args) (omega arith)
 
-module _ (cells : List PlainCell) (args : List PlainPort) (arg_nets : List ℕ) (gates : List PlainCell) (outs : List PlainPort) (out_nets : List ℕ) (done : ℕ) (f : IsFramed cells args arg_nets gates outs out_nets done) where
+module _ (cells : List PlainCell) (args : List PlainPort) (arg_nets : List ℕ) (inside : List PlainCell) (outs : List PlainPort) (out_nets : List ℕ) (done : ℕ) (f : IsFramed cells args arg_nets inside outs out_nets done) where
   whole : List PlainCell
-  whole = in_cells args arg_nets ++ gates ++ out_cells outs out_nets ++ done_cell done ∷ []
-
-  no_tap : (words : ℕ → ℕ) (port : Port) (bank : ℕ) → list_any (is_enabled_tap words port bank) cells ≡ false
-  no_tap words port bank =
-      ap (list_any (is_enabled_tap words port bank)) f.stands
-      ∙ any_framed (is_enabled_tap words port bank) (in_cells args arg_nets) gates (out_cells outs out_nets) (done_cell done)
-      (ins_fail _ (λ name net ty. tap_none (in_cell name net ty) bank words refl refl port) args arg_nets)
-      (gates_fail _ (λ x p. p.no_tap words port bank) gates f.all_gates)
-      (outs_fail _ (λ name net ty. tap_none (out_cell name net ty) bank words refl refl port) outs out_nets)
-      ∙ ap (λ b. b || false) (tap_none (done_cell done) bank words refl refl port)
+  whole = in_cells args arg_nets ++ inside ++ out_cells outs out_nets ++ done_cell done ∷ []
 
   over : (words : ℕ → ℕ) → is_over cells words ≡ (words done == 1)
   over words =
       ap (list_any (cell_is_done words)) f.stands
-      ∙ any_framed (cell_is_done words) (in_cells args arg_nets) gates (out_cells outs out_nets) (done_cell done)
-      (ins_fail _ (λ name net ty. refl) args arg_nets) (gates_fail _ (λ x p. p.not_over words) gates f.all_gates) (outs_fail _ (λ name net ty. refl) outs out_nets)
+      ∙ any_framed (cell_is_done words) (in_cells args arg_nets) inside (out_cells outs out_nets) (done_cell done)
+      (ins_fail _ (λ name net ty. refl) args arg_nets) (inside_fail _ (λ x p. p.not_over words) inside f.all_inside) (outs_fail _ (λ name net ty. refl) outs out_nets)
       ∙ or-none (words done == 1)
 
   outs_read : (words : ℕ → ℕ) → out_words cells words ≡ map words out_nets
   outs_read words =
       ap (λ xs. out_words xs words) f.stands
-      ∙ out_words-append (in_cells args arg_nets ++ gates ++ out_cells outs out_nets) (done_cell done ∷ []) words
-      ∙ append-nil (out_words (in_cells args arg_nets ++ gates ++ out_cells outs out_nets) words)
-      ∙ out_words-append (in_cells args arg_nets ++ gates) (out_cells outs out_nets) words
-      ∙ ap₂ (λ (xs ys : List ℕ). xs ++ ys) (out_words-append (in_cells args arg_nets) gates words ∙ ap₂ (λ (xs ys : List ℕ). xs ++ ys) (ins_words args arg_nets words) (gates_words gates f.all_gates words))
+      ∙ out_words-append (in_cells args arg_nets ++ inside ++ out_cells outs out_nets) (done_cell done ∷ []) words
+      ∙ append-nil (out_words (in_cells args arg_nets ++ inside ++ out_cells outs out_nets) words)
+      ∙ out_words-append (in_cells args arg_nets ++ inside) (out_cells outs out_nets) words
+      ∙ ap₂ (λ (xs ys : List ℕ). xs ++ ys) (out_words-append (in_cells args arg_nets) inside words ∙ ap₂ (λ (xs ys : List ℕ). xs ++ ys) (ins_words args arg_nets words) (inside_words inside f.all_inside words))
       (outs_words outs out_nets words f.out_for_each)
 
   no_drams : (drams : ℕ → ℕ → ℕ) → dram_lists cells drams ≡ []
   no_drams drams =
-      let front = dram_lists-append (in_cells args arg_nets) gates drams (ins_lists args arg_nets drams) ∙ gates_lists gates f.all_gates drams in
-      let middle = dram_lists-append (in_cells args arg_nets ++ gates) (out_cells outs out_nets) drams front ∙ outs_lists outs out_nets drams in
-      ap (λ xs. dram_lists xs drams) f.stands ∙ dram_lists-append (in_cells args arg_nets ++ gates ++ out_cells outs out_nets) (done_cell done ∷ []) drams middle
+      let front = dram_lists-append (in_cells args arg_nets) inside drams (ins_lists args arg_nets drams) ∙ inside_lists inside f.all_inside drams in
+      let middle = dram_lists-append (in_cells args arg_nets ++ inside) (out_cells outs out_nets) drams front ∙ outs_lists outs out_nets drams in
+      ap (λ xs. dram_lists xs drams) f.stands ∙ dram_lists-append (in_cells args arg_nets ++ inside ++ out_cells outs out_nets) (done_cell done ∷ []) drams middle
 
-  declared : {X : Type 0} (k : PlainCell → Option X) (a b : List X) → filter_map k (in_cells args arg_nets) ≡ a → filter_map k gates ≡ [] → filter_map k (out_cells outs out_nets) ≡ b → filter_map k (done_cell done ∷ []) ≡ []
+  declared : {X : Type 0} (k : PlainCell → Option X) (a b : List X) → filter_map k (in_cells args arg_nets) ≡ a → filter_map k inside ≡ [] → filter_map k (out_cells outs out_nets) ≡ b → filter_map k (done_cell done ∷ []) ≡ []
       → filter_map k cells ≡ a ++ b
   declared {X} k a b ea eg eb ed =
       ap (filter_map k) f.stands
-      ∙ filter_map-append k (in_cells args arg_nets ++ gates ++ out_cells outs out_nets) (done_cell done ∷ [])
+      ∙ filter_map-append k (in_cells args arg_nets ++ inside ++ out_cells outs out_nets) (done_cell done ∷ [])
       ∙ ap₂ (λ (xs ys : List X). xs ++ ys)
-      (filter_map-append k (in_cells args arg_nets ++ gates) (out_cells outs out_nets)
-      ∙ ap₂ (λ (xs ys : List X). xs ++ ys) (filter_map-append k (in_cells args arg_nets) gates ∙ ap₂ (λ (xs ys : List X). xs ++ ys) ea eg ∙ append-nil a) eb) ed
+      (filter_map-append k (in_cells args arg_nets ++ inside) (out_cells outs out_nets)
+      ∙ ap₂ (λ (xs ys : List X). xs ++ ys) (filter_map-append k (in_cells args arg_nets) inside ∙ ap₂ (λ (xs ys : List X). xs ++ ys) ea eg ∙ append-nil a) eb) ed
       ∙ append-nil (a ++ b)
 
   ports : HaveNoDims args → HaveNoDims outs → ports_of cells ≡ record { args = args; outs = outs; drams = [] }
   ports no_arg_dims no_out_dims =
-      let ins = declared in_port args [] (ins_declare args arg_nets f.arg_for_each no_arg_dims) (gates_give in_port (λ x p. p.no_in) gates f.all_gates) (outs_give in_port (λ name net ty. refl) outs out_nets) refl ∙ append-nil args in
-      let out = declared out_port [] outs (ins_give out_port (λ name net ty. refl) args arg_nets) (gates_give out_port (λ x p. p.no_out) gates f.all_gates) (outs_declare outs out_nets f.out_for_each no_out_dims) refl in
-      let drams = declared dram_port [] [] (ins_give dram_port (λ name net ty. refl) args arg_nets) (gates_give dram_port (λ x p. p.no_dram) gates f.all_gates) (outs_give dram_port (λ name net ty. refl) outs out_nets) refl in
+      let ins = declared in_port args [] (ins_declare args arg_nets f.arg_for_each no_arg_dims) (inside_give in_port (λ x p. p.no_in) inside f.all_inside) (outs_give in_port (λ name net ty. refl) outs out_nets) refl ∙ append-nil args in
+      let out = declared out_port [] outs (ins_give out_port (λ name net ty. refl) args arg_nets) (inside_give out_port (λ x p. p.no_out) inside f.all_inside) (outs_declare outs out_nets f.out_for_each no_out_dims) refl in
+      let drams = declared dram_port [] [] (ins_give dram_port (λ name net ty. refl) args arg_nets) (inside_give dram_port (λ x p. p.no_dram) inside f.all_inside) (outs_give dram_port (λ name net ty. refl) outs out_nets) refl in
       rw (ins, out, drams) refl
 
   frame_laws : FrameLaws cells args arg_nets outs out_nets done
   frame_laws = record {
     ports = ports;
-    shares_none = λ words port bank. let none = none_counted (is_enabled_tap words port bank) cells (no_tap words port bank) in omega (arith, none);
     over = over;
     outs_read = outs_read;
     no_drams = no_drams;
     args_stand = λ g s same run t i l.
-        let split = same ∙ f.stands ∙ append_assoc (in_cells args arg_nets ++ gates) (out_cells outs out_nets) (done_cell done ∷ []) ∙ append_assoc (in_cells args arg_nets) gates (out_cells outs out_nets ++ done_cell done ∷ []) in
-        first_words args arg_nets (gates ++ (out_cells outs out_nets ++ done_cell done ∷ [])) g s f.arg_for_each run split t i l;
+        let split = same ∙ f.stands ∙ append_assoc (in_cells args arg_nets ++ inside) (out_cells outs out_nets) (done_cell done ∷ []) ∙ append_assoc (in_cells args arg_nets) inside (out_cells outs out_nets ++ done_cell done ∷ []) in
+        first_words args arg_nets (inside ++ (out_cells outs out_nets ++ done_cell done ∷ [])) g s f.arg_for_each run split t i l;
   }
+
+  of_gates : NoCell is_no_gate inside → (words : ℕ → ℕ) → SharesNone cells words
+  of_gates all words port bank =
+      let none = none_counted (is_enabled_tap words port bank) cells no_tap in
+      omega (arith, none)
+    where
+      no_tap : list_any (is_enabled_tap words port bank) cells ≡ false
+      no_tap =
+          ap (list_any (is_enabled_tap words port bank)) f.stands
+          ∙ any_framed (is_enabled_tap words port bank) (in_cells args arg_nets) inside (out_cells outs out_nets) (done_cell done)
+          (ins_fail _ (λ name net ty. tap_none (in_cell name net ty) bank words refl refl port) args arg_nets)
+          (no_other is_no_gate (is_enabled_tap words port bank) (gate_taps words port bank) inside all)
+          (outs_fail _ (λ name net ty. tap_none (out_cell name net ty) bank words refl refl port) outs out_nets)
+          ∙ ap (λ b. b || false) (tap_none (done_cell done) bank words refl refl port)
+
+pub gates_share_none : (begun d : Draft) (gates : AddsGates begun d) (cells : List PlainCell) (args : List PlainPort) (arg_nets : List ℕ) (outs : List PlainPort) (out_nets : List ℕ) (done : ℕ)
+    → IsFramed cells args arg_nets (gates_inside begun d gates).added outs out_nets done → (words : ℕ → ℕ) → SharesNone cells words
+unfolding gates_inside
+gates_share_none begun d gates cells args arg_nets outs out_nets done f words = of_gates cells args arg_nets gates.added outs out_nets done f gates.all words
+
+lt_or : (a b : ℕ) → (a < b) ⊎ (b ≤ a)
+lt_or a b = grind arith
+
+-- a tap names a bank that stands
+tap_stands : (cells before : List PlainCell) (x : PlainCell) → IsRight cells before x → (words : ℕ → ℕ) (port : Port) (bank : ℕ) → count_by is_bank cells ≤ bank → is_enabled_tap words port bank x ≡ false
+tap_stands cells before (const_cell net width word) r words port of l = tap_none (const_cell net width word) of words refl refl port
+tap_stands cells before (op_cell net ty op a b) r words port of l = tap_none (op_cell net ty op a b) of words refl refl port
+tap_stands cells before (not_cell net ty a) r words port of l = tap_none (not_cell net ty a) of words refl refl port
+tap_stands cells before (shift_cell net ty side a places) r words port of l = tap_none (shift_cell net ty side a places) of words refl refl port
+tap_stands cells before (cast_cell net from to a) r words port of l = tap_none (cast_cell net from to a) of words refl refl port
+tap_stands cells before (mux_cell net width choice a b) r words port of l = tap_none (mux_cell net width choice a b) of words refl refl port
+tap_stands cells before (reg_cell net width first next enable) r words port of l = tap_none (reg_cell net width first next enable) of words refl refl port
+tap_stands cells before (bank_cell bank width len) r words port of l = tap_none (bank_cell bank width len) of words refl refl port
+tap_stands cells before (read_tap net of enable addr) r words port bank l = tap_none (read_tap net of enable addr) bank words (rw (ne_eqb of bank (λ e. absurd (omega (arith, r, l, e)))) refl) refl port
+tap_stands cells before (write_tap of enable addr word) r words port bank l = tap_none (write_tap of enable addr word) bank words refl (rw (ne_eqb of bank (λ e. absurd (omega (arith, r, l, e)))) refl) port
+tap_stands cells before (in_cell name net ty) r words port of l = tap_none (in_cell name net ty) of words refl refl port
+tap_stands cells before (out_cell name net ty) r words port of l = tap_none (out_cell name net ty) of words refl refl port
+tap_stands cells before (done_cell net) r words port of l = tap_none (done_cell net) of words refl refl port
+tap_stands cells before (dram_cell dram name ty dims) r words port of l = tap_none (dram_cell dram name ty dims) of words refl refl port
+tap_stands cells before (load_unit channel dram ready net request last addr) r words port of l = tap_none (load_unit channel dram ready net request last addr) of words refl refl port
+tap_stands cells before (store_unit channel dram ready request last addr word) r words port of l = tap_none (store_unit channel dram ready request last addr word) of words refl refl port
+
+none_named : (cells : List PlainCell) → IsNetlist cells → (words : ℕ → ℕ) (port : Port) (bank : ℕ) → count_by is_bank cells ≤ bank → (before rest : List PlainCell) → cells ≡ before ++ rest → list_any (is_enabled_tap words port bank) rest ≡ false
+none_named cells is words port bank l before [] e = refl
+none_named cells is words port bank l before (x ∷ rest) e =
+    rw (tap_stands cells before x (is.right before x rest e) words port bank l, none_named cells is words port bank l (before ++ x ∷ []) rest (e ∙ sym (append_assoc before (x ∷ []) rest))) refl
+
+-- no gate is a bank
+gate_no_bank : (x : PlainCell) → is_no_gate x ≡ false → is_bank x ≡ false
+gate_no_bank (const_cell net width word) e = refl
+gate_no_bank (op_cell net ty op a b) e = refl
+gate_no_bank (not_cell net ty a) e = refl
+gate_no_bank (shift_cell net ty side a places) e = refl
+gate_no_bank (cast_cell net from to a) e = refl
+gate_no_bank (mux_cell net width choice a b) e = refl
+gate_no_bank (reg_cell net width first next enable) e = refl
+gate_no_bank (bank_cell bank width len) e = absurd (cc)
+gate_no_bank (read_tap net bank enable addr) e = refl
+gate_no_bank (write_tap bank enable addr word) e = refl
+gate_no_bank (in_cell name net ty) e = refl
+gate_no_bank (out_cell name net ty) e = refl
+gate_no_bank (done_cell net) e = refl
+gate_no_bank (dram_cell dram name ty dims) e = refl
+gate_no_bank (load_unit channel dram ready net request last addr) e = refl
+gate_no_bank (store_unit channel dram ready request last addr word) e = refl
+
+-- so behind banks that stand there are no more
+same_banks : (stored d : Draft) (outs : List PlainPort) (out_nets : List ℕ) (done : ℕ) (cells : List PlainCell) → AddsGates stored d → cells ≡ d.cells ++ out_cells outs out_nets ++ done_cell done ∷ [] → count_by is_bank cells ≡ count_by is_bank stored.cells
+same_banks stored d outs out_nets done cells a stands =
+    let none : count_by is_bank a.added ≡ 0 = none_counted is_bank a.added (no_other is_no_gate is_bank gate_no_bank a.added a.all) in
+    let out : count_by is_bank (out_cells outs out_nets) ≡ 0 = none_counted is_bank (out_cells outs out_nets) (outs_fail is_bank (λ name net ty. refl) outs out_nets) in
+    let split = ap (count_by is_bank) stands ∙ sum_by-append (λ x. cond (is_bank x) 1 0) (d.cells ++ out_cells outs out_nets) (done_cell done ∷ []) in
+    let middle = sum_by-append (λ x. cond (is_bank x) 1 0) d.cells (out_cells outs out_nets) in
+    let front = ap (count_by is_bank) a.stands ∙ sum_by-append (λ x. cond (is_bank x) 1 0) stored.cells a.added in
+    omega (arith, none, out, split, middle, front)
+
+of_banks : (cells : List PlainCell) (words : ℕ → ℕ) → IsNetlist cells → ((bank : ℕ) (port : Port) → bank < count_by is_bank cells → count_by (is_enabled_tap words port bank) cells ≤ 1) → SharesNone cells words
+of_banks cells words is each port bank = either (lt_or bank (count_by is_bank cells))
+  where
+    either : (bank < count_by is_bank cells) ⊎ (count_by is_bank cells ≤ bank) → count_by (is_enabled_tap words port bank) cells ≤ 1
+    either (inl l) = each bank port l
+    either (inr l) = let none = none_counted (is_enabled_tap words port bank) cells (none_named cells is words port bank l [] cells refl) in omega (arith, none)
+
+pub taps_share_none : TapsShareNone
+taps_share_none stored d outs out_nets done cells words a stands is each =
+    of_banks cells words is (λ bank port l. each bank port (let same = same_banks stored d outs out_nets done cells a stands in omega (arith, same, l)))
 
 pub frames_right : FramesRight
 frames_right = frame_laws
 
 pub frames_end : HasOneEnding → FramesEnd
-frames_end one g s args arg_nets gates outs out_nets done cycle last f run first within = record { of_run = ends; of_netlist = λ netlist. (one g netlist last).of_run s _ run ends }
+frames_end one g s args arg_nets inside outs out_nets done cycle last f run none first within = record { of_run = ends; of_netlist = λ netlist. (one g netlist last).of_run s _ run ends }
   where
     laws : FrameLaws g.cells args arg_nets outs out_nets done
-    laws = frames_right g.cells args arg_nets gates outs out_nets done f
+    laws = frames_right g.cells args arg_nets inside outs out_nets done f
 
     ends : EndsAs g s last (done_in cycle (map (s.net cycle) out_nets) [])
     ends = (
       within,
-      λ t l. record { shares_none = laws.shares_none (s.net t); not_over = laws.over (s.net t) ∙ ne_eqb (s.net t done) 1 (first.not_before t l) },
-      laws.shares_none (s.net cycle),
+      λ t l. record { shares_none = none t (omega (arith, l)); not_over = laws.over (s.net t) ∙ ne_eqb (s.net t done) 1 (first.not_before t l) },
+      none cycle (omega arith),
       laws.over (s.net cycle) ∙ eq-eqb (s.net cycle done) 1 first.is_one,
       sym (laws.outs_read (s.net cycle)),
       sym (laws.no_drams (s.dram cycle)),
     )
 
-pub no_output : (begun d : Draft) (ports : List PlainPort) (nets : List ℕ) → begun.cells ≡ in_cells ports nets → AddsGates begun d → filter_map out_name d.cells ≡ []
+pub no_output : (begun d : Draft) (ports : List PlainPort) (nets : List ℕ) → begun.cells ≡ in_cells ports nets → AddsInside begun d → filter_map out_name d.cells ≡ []
 no_output begun d ports nets is a =
     ap (filter_map out_name) (a.stands ∙ ap (λ cells. cells ++ a.added) is) ∙ filter_map-append out_name (in_cells ports nets) a.added
-    ∙ ap₂ (λ (xs ys : List (List ℕ)). xs ++ ys) (ins_give out_name (λ name net ty. refl) ports nets) (gates_give out_name (λ x p. p.no_name) a.added a.all)
+    ∙ ap₂ (λ (xs ys : List (List ℕ)). xs ++ ys) (ins_give out_name (λ name net ty. refl) ports nets) (inside_give out_name (λ x p. p.no_name) a.added a.all)
 
-pub no_end : (begun d : Draft) (ports : List PlainPort) (nets : List ℕ) → begun.cells ≡ in_cells ports nets → AddsGates begun d → NoCell is_done d.cells
+pub no_end : (begun d : Draft) (ports : List PlainPort) (nets : List ℕ) → begun.cells ≡ in_cells ports nets → AddsInside begun d → NoCell is_done d.cells
 no_end begun d ports nets is a =
     ap (list_any is_done) (a.stands ∙ ap (λ cells. cells ++ a.added) is)
-    ∙ none_joined is_done (in_cells ports nets) a.added (ins_fail is_done (λ name net ty. refl) ports nets) (gates_fail is_done (λ x p. p.no_end) a.added a.all)
+    ∙ none_joined is_done (in_cells ports nets) a.added (ins_fail is_done (λ name net ty. refl) ports nets) (inside_fail is_done (λ x p. p.no_end) a.added a.all)
 
-pub framed : (begun d : Draft) (args : List PlainPort) (arg_nets : List ℕ) (outs : List PlainPort) (out_nets : List ℕ) (done : ℕ) (cells : List PlainCell) → begun.cells ≡ in_cells args arg_nets → (a : AddsGates begun d)
+pub framed : (begun d : Draft) (args : List PlainPort) (arg_nets : List ℕ) (outs : List PlainPort) (out_nets : List ℕ) (done : ℕ) (cells : List PlainCell) → begun.cells ≡ in_cells args arg_nets → (a : AddsInside begun d)
     → cells ≡ d.cells ++ out_cells outs out_nets ++ done_cell done ∷ [] → length arg_nets ≡ length args → length out_nets ≡ length outs → IsFramed cells args arg_nets a.added outs out_nets done
 framed begun d args arg_nets outs out_nets done cells is a stands many more = record {
   stands = stands ∙ ap (λ front. front ++ out_cells outs out_nets ++ done_cell done ∷ []) (a.stands ∙ ap (λ front. front ++ a.added) is);
-  all_gates = a.all;
+  all_inside = a.all;
   arg_for_each = many;
   out_for_each = more;
 }
@@ -302,6 +422,18 @@ runs_on d outs out_nets done g s is run = (
   },
   refl,
 )
+
+-- no bank stands among arguments
+none_kept : (test : PlainCell → Bool) (cells : List PlainCell) → list_any test cells ≡ false → filter test cells ≡ []
+none_kept test [] h = refl
+none_kept test (x ∷ cells) h =
+    let both = or_parts (test x) (list_any test cells) h in
+    rw (both.0, none_kept test cells both.1) refl
+
+pub no_banks : (begun : Draft) (ports : List PlainPort) (nets : List ℕ) → begun.cells ≡ in_cells ports nets → (count_by is_bank begun.cells ≡ 0) × (filter is_bank begun.cells ≡ [])
+no_banks begun ports nets is =
+    let none = ap (list_any is_bank) is ∙ ins_fail is_bank (λ name net ty. refl) ports nets in
+    (none_counted is_bank begun.cells none, none_kept is_bank begun.cells none)
 
 -- cells of arguments alone
 pub ports_alone : (ports : List PlainPort) (nets : List ℕ) (cells : List PlainCell) → cells ≡ in_cells ports nets → length nets ≡ length ports → HaveNoDims ports → ports_of cells ≡ record { args = ports; outs = []; drams = [] }

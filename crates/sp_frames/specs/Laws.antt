@@ -1,20 +1,22 @@
 -- What a frame says of a netlist's ports and of its runs.
-use Rattle.std.specs.Prelude.{◌≡◌, ◌≢◌, ℕ, ◌<◌, ◌≤◌, ◌==◌, true, List, [], ◌∷◌, ◌++◌, length, map, filter_map, slice_index, slice_index_or}
+use Rattle.std.specs.Prelude.{◌≡◌, ◌≢◌, ℕ, ◌<◌, ◌≤◌, ◌==◌, true, List, [], ◌∷◌, ◌++◌, length, map, filter_map, filter, count_by, slice_index, slice_index_or}
 use Rattle.sp_words.specs.Ports.{PlainPort}
 use Rattle.sp_words.specs.Types.{width_of}
 use Rattle.sp_netlist.specs.Cells.{PlainCell, done_cell}
-use Rattle.sp_netlist.specs.Rules.{IsNetlist, is_done, out_name}
+use Rattle.sp_netlist.specs.Rules.{IsNetlist, is_bank, is_done, out_name}
 use Rattle.sp_netlist.specs.Ports.{ports_of}
 use Rattle.sp_netlist.specs.Parts.{NoCell}
 use Rattle.sp_netlist.specs.Signals.{Setting, Signals, IsRun}
-use Rattle.sp_netlist.specs.Cycle.{SharesNone, is_over, out_words, dram_lists, done_in, EndsAs, Ends}
+use Rattle.sp_netlist.specs.declared.cell.Port.{Port}
+use Rattle.sp_netlist.specs.Cycle.{is_enabled_tap, SharesNone, is_over, out_words, dram_lists, done_in, EndsAs, Ends}
 use Rattle.sp_netlist.specs.Draft.{Draft}
 use Rattle.sp_gates.specs.Grows.{AddsGates, Grows}
 use Rattle.sp_gates.specs.Nets.{HasNet}
 use Rattle.sp_gates.specs.Runs.{RunsOn}
+use Rattle.sp_taps.specs.Stores.{AddsBanks}
 use Rattle.sp_core.specs.MemoryRules.{names_of, are_port_names, are_ports_of}
 use Rattle.sp_core.specs.PlainCore.{PlainMem}
-use Rattle.sp_frames.specs.Framed.{in_cells, out_cells, IsFramed}
+use Rattle.sp_frames.specs.Framed.{in_cells, out_cells, AddsInside, IsFramed}
 use Rattle.sp_frames.specs.Ports.{AreNamed, HaveNoDims, HaveNets}
 
 -- what follows from the rules of a core, and from parts that are added later
@@ -27,11 +29,17 @@ pub record PortLaws : Type 0 where
       → ((i : ℕ) (other : PlainPort) → i < length ports → HasNet d (slice_index nets i) (width_of (slice_index_or ports i other).ty)) → HaveNets d ports nets
   pub each_net : (d : Draft) (ports : List PlainPort) (nets : List ℕ) → HaveNets d ports nets
       → (i : ℕ) (other : PlainPort) → i < length ports → HasNet d (slice_index nets i) (width_of (slice_index_or ports i other).ty)
-  -- behind arguments and gates there is no output and no end
-  pub no_output : (begun d : Draft) (ports : List PlainPort) (nets : List ℕ) → begun.cells ≡ in_cells ports nets → AddsGates begun d → filter_map out_name d.cells ≡ []
-  pub no_end : (begun d : Draft) (ports : List PlainPort) (nets : List ℕ) → begun.cells ≡ in_cells ports nets → AddsGates begun d → NoCell is_done d.cells
+  -- arguments alone are no banks
+  pub no_banks : (begun : Draft) (ports : List PlainPort) (nets : List ℕ) → begun.cells ≡ in_cells ports nets → (count_by is_bank begun.cells ≡ 0) × (filter is_bank begun.cells ≡ [])
+  -- gates stand inside, and so do banks with their taps, one behind the other
+  pub gates_inside : (old new : Draft) → AddsGates old new → AddsInside old new
+  pub banks_inside : (old new : Draft) → AddsBanks old new → AddsInside old new
+  pub inside_join : (old mid new : Draft) → AddsInside old mid → AddsInside mid new → AddsInside old new
+  -- behind arguments and these there is no output and no end
+  pub no_output : (begun d : Draft) (ports : List PlainPort) (nets : List ℕ) → begun.cells ≡ in_cells ports nets → AddsInside begun d → filter_map out_name d.cells ≡ []
+  pub no_end : (begun d : Draft) (ports : List PlainPort) (nets : List ℕ) → begun.cells ≡ in_cells ports nets → AddsInside begun d → NoCell is_done d.cells
   -- where these stand behind them, the cells stand in a frame
-  pub framed : (begun d : Draft) (args : List PlainPort) (arg_nets : List ℕ) (outs : List PlainPort) (out_nets : List ℕ) (done : ℕ) (cells : List PlainCell) → begun.cells ≡ in_cells args arg_nets → (a : AddsGates begun d)
+  pub framed : (begun d : Draft) (args : List PlainPort) (arg_nets : List ℕ) (outs : List PlainPort) (out_nets : List ℕ) (done : ℕ) (cells : List PlainCell) → begun.cells ≡ in_cells args arg_nets → (a : AddsInside begun d)
       → cells ≡ d.cells ++ out_cells outs out_nets ++ done_cell done ∷ [] → length arg_nets ≡ length args → length out_nets ≡ length outs → IsFramed cells args arg_nets a.added outs out_nets done
   -- a run of such a netlist runs on what stands before its outputs
   pub runs_on : (d : Draft) (outs : List PlainPort) (out_nets : List ℕ) (done : ℕ) (g : Setting) (s : Signals) → g.cells ≡ d.cells ++ out_cells outs out_nets ++ done_cell done ∷ [] → IsRun g s → (r : RunsOn s d.cells) × (r.setting ≡ g)
@@ -42,7 +50,6 @@ pub record PortLaws : Type 0 where
 -- what the cells are that stand in the frame, and what they are at the words of a cycle
 pub record FrameLaws (cells : List PlainCell) (args : List PlainPort) (arg_nets : List ℕ) (outs : List PlainPort) (out_nets : List ℕ) (done : ℕ) : Type 0 where
   pub ports : HaveNoDims args → HaveNoDims outs → ports_of cells ≡ record { args = args; outs = outs; drams = [] }
-  pub shares_none : (words : ℕ → ℕ) → SharesNone cells words
   pub over : (words : ℕ → ℕ) → is_over cells words ≡ (words done == 1)
   pub outs_read : (words : ℕ → ℕ) → out_words cells words ≡ map words out_nets
   pub no_drams : (drams : ℕ → ℕ → ℕ) → dram_lists cells drams ≡ []
@@ -50,13 +57,23 @@ pub record FrameLaws (cells : List PlainCell) (args : List PlainPort) (arg_nets 
 
 abbrev pub FramesRight : Type 0
 FramesRight =
-    (cells : List PlainCell) (args : List PlainPort) (arg_nets : List ℕ) (gates : List PlainCell) (outs : List PlainPort) (out_nets : List ℕ) (done : ℕ)
-    → IsFramed cells args arg_nets gates outs out_nets done → FrameLaws cells args arg_nets outs out_nets done
+    (cells : List PlainCell) (args : List PlainPort) (arg_nets : List ℕ) (inside : List PlainCell) (outs : List PlainPort) (out_nets : List ℕ) (done : ℕ)
+    → IsFramed cells args arg_nets inside outs out_nets done → FrameLaws cells args arg_nets outs out_nets done
 
 -- in this run the net is 1 in the cycle, and in no cycle before
 pub record IsFirst (s : Signals) (done cycle : ℕ) : Type 0 where
   pub is_one : s.net cycle done ≡ 1
   pub not_before : (t : ℕ) → t < cycle → s.net t done ≢ 1
+
+-- no two taps meet up to the cycle
+abbrev pub SharesNoneUpTo : Setting → Signals → (cycle : ℕ) → Type 0
+SharesNoneUpTo g s cycle = (t : ℕ) → t ≤ cycle → SharesNone g.cells (s.net t)
+
+-- Behind the banks that stand there are gates, outputs and the end. Where no two taps of any of these banks meet, none of all taps do.
+abbrev pub TapsShareNone : Type 0
+TapsShareNone =
+    (stored d : Draft) (outs : List PlainPort) (out_nets : List ℕ) (done : ℕ) (cells : List PlainCell) (words : ℕ → ℕ) → AddsGates stored d → cells ≡ d.cells ++ out_cells outs out_nets ++ done_cell done ∷ [] → IsNetlist cells
+    → ((bank : ℕ) (port : Port) → bank < count_by is_bank stored.cells → count_by (is_enabled_tap words port bank) cells ≤ 1) → SharesNone cells words
 
 -- such a run ends in that cycle, with the words that the outputs' nets have then; and so does the netlist
 pub record FrameEnds (g : Setting) (s : Signals) (out_nets : List ℕ) (cycle last : ℕ) : Type 0 where
@@ -65,5 +82,5 @@ pub record FrameEnds (g : Setting) (s : Signals) (out_nets : List ℕ) (cycle la
 
 abbrev pub FramesEnd : Type 0
 FramesEnd =
-    (g : Setting) (s : Signals) (args : List PlainPort) (arg_nets : List ℕ) (gates : List PlainCell) (outs : List PlainPort) (out_nets : List ℕ) (done cycle last : ℕ)
-    → IsFramed g.cells args arg_nets gates outs out_nets done → IsRun g s → IsFirst s done cycle → cycle ≤ last → FrameEnds g s out_nets cycle last
+    (g : Setting) (s : Signals) (args : List PlainPort) (arg_nets : List ℕ) (inside : List PlainCell) (outs : List PlainPort) (out_nets : List ℕ) (done cycle last : ℕ)
+    → IsFramed g.cells args arg_nets inside outs out_nets done → IsRun g s → SharesNoneUpTo g s cycle → IsFirst s done cycle → cycle ≤ last → FrameEnds g s out_nets cycle last

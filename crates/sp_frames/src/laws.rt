@@ -1,22 +1,28 @@
 //! Laws of frames. The functions do nothing: what they ensure are the laws.
 
-ghost use Rattle.sp_frames.specs.Laws.{FramesEnd, FramesRight, PortLaws};
+ghost use Rattle.sp_frames.specs.Laws.{FramesEnd, FramesRight, PortLaws, TapsShareNone};
 
 use sp_netlist::one_ending;
 
 /// The ports of a core are named, and have no dimensions where they are of its memories; nets that stand for ports go on to;
-/// behind arguments and gates there is no output and no end, and where these are added the cells stand in a frame; a run of
-/// the whole runs on what stands before the outputs; and in each run the net of an argument has its word.
+/// gates stand inside of a frame, and so do banks with their taps; behind arguments and these there is no output and no end, and
+/// where these are added the cells stand in a frame; a run of the whole runs on what stands before the outputs; and in each run
+/// the net of an argument has its word.
 pub fn port_laws()
     ensures { PortLaws }
 {}
 
-/// A frame declares its ports, no two of its taps meet, it is over where its end's net is 1, and its outputs are their nets' words.
+/// A frame declares its ports, it is over where its end's net is 1, and its outputs are their nets' words.
 pub fn frame_laws()
     ensures { FramesRight }
 {}
 
-/// Where the end's net is 1 in a cycle and in none before, the netlist is done in that cycle with the words of its outputs' nets.
+/// Behind banks that stand there are gates, outputs and the end: where no two taps of any of these banks meet, none of all taps do.
+pub fn taps_share_none()
+    ensures { TapsShareNone }
+{}
+
+/// Where the end's net is 1 in a cycle and in none before, and no two taps meet up to it, the netlist is done in that cycle with the words of its outputs' nets.
 pub fn frames_end()
     ensures { FramesEnd }
 {

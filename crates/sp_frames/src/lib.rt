@@ -1,4 +1,4 @@
-//! The frame around the gates of a netlist without DRAMs and banks: the cells of its arguments before them, the cells of its
+//! The frame around the gates and the banks of a netlist without DRAMs: the cells of its arguments before them, the cells of its
 //! outputs and its end behind them.
 #![tactic(auto)]
 
@@ -9,5 +9,5 @@ mod worked;
 
 pub use closing::{add_outputs, close_frame};
 pub use inputs::add_inputs;
-pub use laws::{frame_laws, frames_end, port_laws};
+pub use laws::{frame_laws, frames_end, port_laws, taps_share_none};
 pub use worked::worked_frame;

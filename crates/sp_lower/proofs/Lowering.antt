@@ -1,26 +1,30 @@
 -- The frame is closed around the circuit of a core, and what it then carries.
-use Rattle.std.proofs.Common.{◌≡◌, ◌≢◌, ℕ, zero, suc, ◌<◌, ◌≤◌, ◌==◌, true, false, List, [], ◌∷◌, ◌++◌, map, length, slice_index, slice_index_or, inl, inr, refl, sym, ap, subst, ◌∙◌, arith, if◌then◌else◌, eq-eqb, ne_eqb}
+use Rattle.std.proofs.Common.{◌≡◌, ◌≢◌, ℕ, zero, suc, cond, append_assoc, ◌<◌, ◌≤◌, ◌==◌, true, false, List, [], ◌∷◌, ◌++◌, map, length, count_by, Contains, slice_index, slice_index_or, inl, inr, refl, sym, ap, subst, ◌∙◌, arith, if◌then◌else◌, eq-eqb, ne_eqb}
 use Rattle.std.specs.List.{AllZip}
 use Rattle.std.proofs.lemmas.Bool.{cases_eq, lt-ltb}
-use Rattle.sp_words.specs.declared.kind.Kind.TheVariants.{ArgIn}
+use Rattle.sp_words.specs.declared.kind.Kind.{Kind}
+use Rattle.sp_words.specs.declared.kind.Kind.TheVariants.{Sram, ArgIn, ArgOut}
 use Rattle.sp_words.specs.Ports.{PlainPort, PlainInput}
 use Rattle.sp_words.specs.Types.{width_of}
 use Rattle.sp_words.specs.Words.{IsWord}
 use Rattle.sp_netlist.specs.declared.parts.Child.{Child}
 use Rattle.sp_netlist.specs.Cells.{PlainCell, done_cell}
-use Rattle.sp_netlist.specs.Cycle.{Ends, done_in}
+use Rattle.sp_netlist.specs.declared.cell.Port.{Port}
+use Rattle.sp_netlist.specs.Cycle.{is_enabled_tap, Ends, done_in}
 use Rattle.sp_netlist.specs.Draft.{Draft}
 use Rattle.sp_netlist.specs.Laws.{HasOneRun}
 use Rattle.sp_netlist.specs.Ports.{ports_of}
-use Rattle.sp_netlist.specs.Rules.{IsNetlist}
+use Rattle.sp_netlist.specs.Rules.{IsNetlist, is_bank}
 use Rattle.sp_netlist.specs.Signals.{Setting, Signals, IsRun, Holds}
 use Rattle.sp_gates.specs.Bits.{IsOne}
 use Rattle.sp_gates.specs.Grows.{Grows, Fills}
 use Rattle.sp_gates.specs.Nets.{HasNet, IsOpen}
 use Rattle.sp_gates.specs.Runs.{RunsOn}
 use Rattle.sp_gates.specs.Tested.{is_on}
-use Rattle.sp_gates.proofs.Growing.{Fills-join, HasNet-stays}
-use Rattle.sp_gates.proofs.Running.{runs_earlier}
+use Rattle.sp_gates.proofs.Growing.{Fills-join, Grows-join, HasNet-stays}
+use Rattle.sp_gates.proofs.Running.{none_joined, runs_earlier}
+use Rattle.sp_netlist.specs.Parts.{names_bank}
+use Rattle.std.proofs.lemmas.List.Sums.{sum_by-append}
 use Rattle.sp_core.specs.Declarations.{mem, kind_of}
 use Rattle.sp_core.specs.History.{History}
 use Rattle.sp_core.specs.Invariant.{IsCore}
@@ -30,14 +34,17 @@ use Rattle.sp_core.specs.Store.{Store, words_of}
 use Rattle.sp_plan.specs.PlainPlan.{PlainPlan}
 use Rattle.sp_machine.specs.Timeline.{core_timed}
 use Rattle.sp_machine.specs.Transfers.{Delays}
-use Rattle.sp_frames.specs.Framed.{in_cells, out_cells, IsFramed}
-use Rattle.sp_frames.specs.Laws.{PortLaws, FramesRight, FramesEnd, IsFirst}
+use Rattle.sp_frames.specs.Framed.{in_cells, out_cells, AddsInside, IsFramed}
+use Rattle.sp_frames.specs.Laws.{PortLaws, FramesRight, FramesEnd, SharesNoneUpTo, TapsShareNone, IsFirst}
 use Rattle.sp_frames.specs.Ports.{AreNamed, HaveNoDims, HaveNets}
 use Rattle.sp_port_nets.specs.Laws.{ArgumentsArePorts, OutputsArePorts, ArgumentsHaveWords}
 use Rattle.sp_port_nets.specs.Nets.{nets_of_arguments}
-use Rattle.sp_scalar_cores.specs.Circuits.{ScalarCircuit, StartsOnce}
-use Rattle.sp_scalar_cores.specs.Closing.{RunsInTime, GoesAlong, ScalarCoresGo}
-use Rattle.sp_scalar_trees.specs.Fits.{ArgumentsStand, WordsStand}
+use Rattle.sp_taps.specs.Laws.{TapLaws}
+use Rattle.sp_taps.specs.Stores.{AddsBanks, HasNoConflict}
+use Rattle.sp_taps.specs.Wires.{Promises}
+use Rattle.sp_stored_cores.specs.Circuits.{StoredCircuit, StartsOnce}
+use Rattle.sp_stored_cores.specs.Closing.{RunsByPlan, GoesAlong, StoredCoresGo}
+use Rattle.sp_stored_trees.specs.Fits.{ArgumentsStand, WordsStand}
 use Rattle.sp_lower.specs.Carries.{CanLower, CarriesCore}
 
 -- an element of a list whose words are changed
@@ -70,6 +77,14 @@ same_number a b e = elim (cases_eq a b) [
   | inr other ↦ absurd (let clash : true ≡ false = sym e ∙ ne_eqb a b other in cc)
 ]
 
+-- an output is no SRAM
+no_array : {k : Kind} → k ≡ ArgOut → k ≢ Sram
+no_array {k} out array = absurd (let clash : true ≡ false = ap is_out (sym out ∙ array) in cc)
+  where
+    is_out : Kind → Rattle.std.proofs.Common.Bool
+    is_out ArgOut = true
+    is_out _ = false
+
 kind_is : (core : PlainCore) (m : ℕ) → m < length core.mems → kind_of core m ≡ (mem core m).kind
 kind_is core m l = rw (lt-ltb m (length core.mems) l) refl
 
@@ -98,7 +113,7 @@ module _ (core : PlainCore) (right : IsCore core) (law : PortLaws) (arg_ports : 
       (λ i other l. (
       let at = (out_ports core right).at i l in
       let inside : i < length (outs_of core) = (let e = (out_ports core right).each in omega (arith, e, l)) in
-      let net = HasNet-stays d final _ _ g (stand.nets (slice_index (outs_of core) i) at.within) in
+      let net = HasNet-stays d final _ _ g (stand.nets (slice_index (outs_of core) i) at.within (no_array (kind_is core (slice_index (outs_of core) i) at.within ∙ at.of_kind))) in
       subst (λ n. HasNet final n (width_of (slice_index_or core.ports.outs i other).ty)) (sym (at_map (slice_index words) (outs_of core) i inside))
       (subst (λ ty. HasNet final (slice_index words (slice_index (outs_of core) i)) (width_of ty)) (sym at.port.ty ∙ ap (λ (p : PlainPort). p.ty) (any_port core.ports.outs i no_port other l)) net)))
     where
@@ -107,51 +122,87 @@ module _ (core : PlainCore) (right : IsCore core) (law : PortLaws) (arg_ports : 
       any_port (x ∷ ps) zero p q l = refl
       any_port (x ∷ ps) (suc i) p q l = any_port ps i p q (omega (arith, l))
 
-pub joined : (begun a b c e final : Draft) → Fills begun a [] → Fills a b [] → Fills b c [] → Fills c e [] → Fills e final [] → Fills begun final []
-joined begun a b c e final f g h i j = Fills-join begun a final [] [] f (Fills-join a b final [] [] g (Fills-join b c final [] [] h (Fills-join c e final [] [] i j)))
+-- what runs on a draft runs on the one before, in the same setting
+more_banks : (xs ys : List PlainCell) → count_by is_bank xs ≤ count_by is_bank (xs ++ ys)
+more_banks xs ys = let e = sum_by-append (λ x. cond (is_bank x) 1 0) xs ys in omega (arith, e)
+
+earlier : (old new : Draft) (s : Signals) → Grows old new → (r : RunsOn s new.cells) → (q : RunsOn s old.cells) × (q.setting ≡ r.setting)
+earlier old new s g r = (
+  record {
+    setting = r.setting;
+    rest = g.added ++ r.rest;
+    run = r.run;
+    stands = r.stands ∙ ap (λ cells. cells ++ r.rest) g.stands ∙ append_assoc old.cells g.added r.rest;
+    banks = λ bank within.
+        let more : count_by is_bank old.cells ≤ count_by is_bank new.cells = subst (λ cells. count_by is_bank old.cells ≤ count_by is_bank cells) (sym g.stands) (more_banks old.cells g.added) in
+        none_joined (names_bank bank) g.added r.rest (g.apart bank within) (r.banks bank (omega (arith, within, more)));
+  },
+  refl,
+)
+
+none_in : (n : ℕ) → Contains [] n → ⊥
+none_in n (k, l, e) = absurd (omega (arith, l))
+
+pub joined : (stored a b c e final : Draft) (wires : List ℕ) → Fills stored a [] → Fills a b [] → Fills b c [] → Fills c e wires → Fills e final [] → Fills stored final (wires ++ [])
+joined stored a b c e final wires f g h i j = Fills-join stored a final [] (wires ++ []) f (Fills-join a b final [] (wires ++ []) g (Fills-join b c final [] (wires ++ []) h (Fills-join c e final wires [] i j)))
+
+-- banks, and gates behind them, stand inside of a frame
+pub inside : (law : PortLaws) (begun stored a b c e final : Draft) (wires : List ℕ) → AddsBanks begun stored → Fills stored a [] → Fills a b [] → Fills b c [] → Fills c e wires → Fills e final [] → AddsInside begun final
+inside law begun stored a b c e final wires banks f g h i j =
+    law.inside_join begun stored final (law.banks_inside begun stored banks) (law.gates_inside stored final (joined stored a b c e final wires f g h i j).gates)
+
+-- of the nets that are open in the end none is
+pub closed : (taps : TapLaws) (begun stored a b c e final : Draft) (wires : List ℕ) → ((net : ℕ) → IsOpen begun net → ⊥) → Promises begun stored wires → Fills stored a [] → Fills a b [] → Fills b c [] → Fills c e wires → Fills e final []
+    → (net : ℕ) → IsOpen final net → ⊥
+closed taps begun stored a b c e final wires none promises f g h i j net o = none net ((taps.driven begun stored final wires [] promises (joined stored a b c e final wires f g h i j)).no_other net o).0
+
+-- nets that are promised with banks are open as long as nothing drives them
+pub open_later : (stored a b c : Draft) → Fills stored a [] → Fills a b [] → Fills b c [] → (net : ℕ) → IsOpen stored net → IsOpen c net
+open_later stored a b c f g h net o = h.still_open net (g.still_open net (f.still_open net o (none_in net)) (none_in net)) (none_in net)
+
+pub grown : (begun stored a b c : Draft) (wires : List ℕ) → Promises begun stored wires → Fills stored a [] → Fills a b [] → Fills b c [] → Grows begun c
+grown begun stored a b c wires promises f g h = Grows-join begun stored c promises.grows (Fills-join stored a c [] [] f (Fills-join a b c [] [] g h)).grows
 
 -- the drafts one after the other, and what is known of the nets that were added
-pub record Steps (core : PlainCore) (plan : PlainPlan) (begun a b c e final : Draft) (ports : List ℕ) (always never start : ℕ) (child : Child) (arguments words : List ℕ) (done : ℕ) : Type 0 where
+pub record Steps (core : PlainCore) (plan : PlainPlan) (begun stored a b c e final : Draft) (ports wires : List ℕ) (always never start : ℕ) (child : Child) (arguments words : List ℕ) (done : ℕ) : Type 0 where
   pub inputs : begun.cells ≡ in_cells core.ports.args ports
   pub have : HaveNets begun core.ports.args ports
-  pub closed : (net : ℕ) → IsOpen begun net → ⊥
-  pub one : Fills begun a []
+  pub banks : AddsBanks begun stored
+  pub no_conflict : (bank : ℕ) → bank < count_by is_bank stored.cells → HasNoConflict stored bank
+  pub one : Fills stored a []
   pub is_one : IsOne a always
   pub none : Fills a b []
   pub is_zero : (s : Signals) → RunsOn s b.cells → (t : ℕ) → s.net t never ≡ 0
   pub held : Fills b c []
   pub starts : (s : Signals) → RunsOn s c.cells → Holds (λ t. s.net t start) 1 (λ t. s.net t always) (λ t. s.net t never)
-  pub tree : Fills c e []
+  pub tree : Fills c e wires
   pub begins : child.start ≡ start
   pub arguments_are : arguments ≡ nets_of_arguments core.mems ports
-  pub circuit : (s : Signals) → RunsOn s e.cells → ScalarCircuit core plan s child arguments words
+  pub circuit : (s : Signals) → RunsOn s e.cells → StoredCircuit core plan s child arguments words
   pub last : Fills e final []
   pub dones : (s : Signals) → RunsOn s final.cells → Holds (λ t. s.net t done) 0 (λ t. s.net t always) (λ t. s.net t child.done)
 
 module _ (core : PlainCore) (plan : PlainPlan) (can : CanLower core plan) (right : IsCore core) (law : PortLaws) (arg_ports : ArgumentsArePorts) (out_ports : OutputsArePorts)
-    (begun a b c e final : Draft) (ports : List ℕ) (always never start : ℕ) (child : Child) (arguments words : List ℕ) (done : ℕ) (x : Steps core plan begun a b c e final ports always never start child arguments words done) where
-  pub before : Fills begun c []
-  before = Fills-join begun a c [] [] x.one (Fills-join a b c [] [] x.none x.held)
+    (begun stored a b c e final : Draft) (ports wires : List ℕ) (always never start : ℕ) (child : Child) (arguments words : List ℕ) (done : ℕ) (x : Steps core plan begun stored a b c e final ports wires always never start child arguments words done) where
+  behind : Fills stored final (wires ++ [])
+  behind = joined stored a b c e final wires x.one x.none x.held x.tree x.last
 
-  pub whole : Fills begun final []
-  whole = Fills-join begun c final [] [] before (Fills-join c e final [] [] x.tree x.last)
+  whole : AddsInside begun final
+  whole = inside law begun stored a b c e final wires x.banks x.one x.none x.held x.tree x.last
 
-  pub none_open : (net : ℕ) → IsOpen final net → ⊥
-  none_open net o = x.closed net (whole.no_other net o).0
-
-  module _ (frames : FramesRight) (ends : FramesEnd) (go : (delays : Delays) → ScalarCoresGo core plan delays) (have_words : ArgumentsHaveWords) (run : HasOneRun)
+  module _ (frames : FramesRight) (ends : FramesEnd) (sharing : TapsShareNone) (go : (delays : Delays) → StoredCoresGo core plan delays) (have_words : ArgumentsHaveWords) (run : HasOneRun)
       (cells : List PlainCell) (cells_are : cells ≡ final.cells ++ out_cells core.ports.outs (map (slice_index words) (outs_of core)) ++ done_cell done ∷ []) (is : IsNetlist cells) where
     outs : List ℕ
     outs = map (slice_index words) (outs_of core)
 
-    framed : IsFramed cells core.ports.args ports whole.gates.added core.ports.outs (map (slice_index words) (outs_of core)) done
+    framed : IsFramed cells core.ports.args ports whole.added core.ports.outs (map (slice_index words) (outs_of core)) done
     framed =
-        law.framed begun final core.ports.args ports core.ports.outs (map (slice_index words) (outs_of core)) done cells x.inputs whole.gates cells_are (law.net_for_each begun core.ports.args ports x.have)
+        law.framed begun final core.ports.args ports core.ports.outs (map (slice_index words) (outs_of core)) done cells x.inputs whole cells_are (law.net_for_each begun core.ports.args ports x.have)
         (as_long (slice_index words) (outs_of core) ∙ (out_ports core right).each)
 
     ports_are : ports_of cells ≡ core.ports
     ports_are =
-        (frames cells core.ports.args ports whole.gates.added core.ports.outs (map (slice_index words) (outs_of core)) done framed).ports (no_dims core.ports.args (λ k l. ((arg_ports core right).0.at k l).port.dims))
+        (frames cells core.ports.args ports whole.added core.ports.outs (map (slice_index words) (outs_of core)) done framed).ports (no_dims core.ports.args (λ k l. ((arg_ports core right).0.at k l).port.dims))
         (no_dims core.ports.outs (λ k l. ((out_ports core right).at k l).port.dims))
         ∙ ap (λ ds. record { args = core.ports.args; outs = core.ports.outs; drams = ds }) (sym can.no_drams)
       where
@@ -159,13 +210,17 @@ module _ (core : PlainCore) (plan : PlainPlan) (can : CanLower core plan) (right
         no_dims [] h = tt
         no_dims (p ∷ ps) h = (h 0 (omega arith), no_dims ps (λ k l. h (suc k) (omega (arith, l))))
 
-    module _ (timing : Delays) (input : PlainInput) (h : History) (left : Store) (r : RunsInTime core plan timing input h left) (delays : List ℕ) (s : Signals)
+    module _ (timing : Delays) (input : PlainInput) (h : History) (left : Store) (r : RunsByPlan core plan timing input h left) (delays : List ℕ) (s : Signals)
         (is_run : IsRun (record { cells = cells; args = input.args; drams = input.drams; delays = delays }) s) where
       setting : Setting
       setting = record { cells = cells; args = input.args; drams = input.drams; delays = delays }
 
       on_final : RunsOn s final.cells
       on_final = (law.runs_on final core.ports.outs (map (slice_index words) (outs_of core)) done (record { cells = cells; args = input.args; drams = input.drams; delays = delays }) s cells_are is_run).0
+
+      setting_is : on_final.setting ≡ record { cells = cells; args = input.args; drams = input.drams; delays = delays }
+      unfolding on_final
+      setting_is = (law.runs_on final core.ports.outs (map (slice_index words) (outs_of core)) done (record { cells = cells; args = input.args; drams = input.drams; delays = delays }) s cells_are is_run).1
 
       on_e : RunsOn s e.cells
       on_e = runs_earlier e final s x.last.grows on_final
@@ -195,10 +250,10 @@ module _ (core : PlainCore) (plan : PlainPlan) (can : CanLower core plan) (right
       given m l arg t =
           ap (λ ns. s.net t (slice_index ns m)) x.arguments_are
           ∙ have_words core input ports s.net right (law.net_for_each begun core.ports.args ports x.have) (sym (zip_length (λ (port : PlainPort) word. IsWord port.ty word) core.ports.args input.args r.fits.args))
-          ((frames cells core.ports.args ports whole.gates.added core.ports.outs (map (slice_index words) (outs_of core)) done framed).args_stand (record { cells = cells; args = input.args; drams = input.drams; delays = delays }) s refl is_run) m l arg t
+          ((frames cells core.ports.args ports whole.added core.ports.outs (map (slice_index words) (outs_of core)) done framed).args_stand (record { cells = cells; args = input.args; drams = input.drams; delays = delays }) s refl is_run) m l arg t
 
       along : GoesAlong core plan timing s child words h left
-      along = go timing s child arguments words can.scalar (x.circuit s on_e) starts input h left r given
+      along = go timing s child arguments words can.stored (x.circuit s on_e) starts input h left r given
 
       next : (t : ℕ) → s.net (suc t) done ≡ s.net t child.done
       next t = (x.dones s on_final).1 t ∙ passed t (s.net t child.done) (s.net t done)
@@ -214,6 +269,15 @@ module _ (core : PlainCore) (plan : PlainPlan) (can : CanLower core plan) (right
           not_before took still zero l one_is = absurd (let clash : 0 ≡ 1 = sym (x.dones s on_final).0 ∙ one_is in omega (arith, clash))
           not_before took still (suc u) l one_is = absurd (let over = along.only u (eq-eqb (s.net u child.done) 1 (sym (next u) ∙ one_is)) in omega (arith, still, l, over))
 
+      on_stored : (q : RunsOn s stored.cells) × (q.setting ≡ on_final.setting)
+      on_stored = earlier stored final s behind.grows on_final
+
+      none_shared : SharesNoneUpTo (record { cells = cells; args = input.args; drams = input.drams; delays = delays }) s (core_timed core plan timing h).took
+      none_shared t l = sharing stored final core.ports.outs (map (slice_index words) (outs_of core)) done cells (s.net t) behind.gates cells_are is (λ bank port within. at_most bank port (x.no_conflict bank within s on_stored.0 t port))
+        where
+          at_most : (bank : ℕ) (port : Port) → count_by (is_enabled_tap (s.net t) port bank) on_stored.0.setting.cells ≤ 1 → count_by (is_enabled_tap (s.net t) port bank) cells ≤ 1
+          at_most bank port most = subst (λ cs. count_by (is_enabled_tap (s.net t) port bank) cs ≤ 1) (ap (λ (g : Setting). g.cells) (on_stored.1 ∙ setting_is)) most
+
       words_left : map (s.net (core_timed core plan timing h).took) (map (slice_index words) (outs_of core)) ≡ out_words core left
       words_left =
           twice (s.net (core_timed core plan timing h).took) (slice_index words) (outs_of core)
@@ -226,8 +290,8 @@ module _ (core : PlainCore) (plan : PlainPlan) (can : CanLower core plan) (right
       ended : (last : ℕ) → (core_timed core plan timing h).took ≤ last → Ends (record { cells = cells; args = input.args; drams = input.drams; delays = delays }) last (done_in (core_timed core plan timing h).took (out_words core left) [])
       ended last le =
           subst (λ ws. Ends (record { cells = cells; args = input.args; drams = input.drams; delays = delays }) last (done_in (core_timed core plan timing h).took ws [])) words_left
-          ((ends (record { cells = cells; args = input.args; drams = input.drams; delays = delays }) s core.ports.args ports whole.gates.added core.ports.outs (map (slice_index words) (outs_of core)) done (core_timed core plan timing h).took last framed
-          is_run (first_at (core_timed core plan timing h).took refl) le).of_netlist is)
+          ((ends (record { cells = cells; args = input.args; drams = input.drams; delays = delays }) s core.ports.args ports whole.added core.ports.outs (map (slice_index words) (outs_of core)) done (core_timed core plan timing h).took last framed
+          is_run none_shared (first_at (core_timed core plan timing h).took refl) le).of_netlist is)
 
     pub carried : CarriesCore core plan cells
     carried = record {

@@ -5,19 +5,21 @@ ghost use Rattle.sp_core.specs.CoreParts.{plain_core};
 ghost use Rattle.sp_plan.specs.Plain.{plain_plan};
 ghost use Rattle.sp_lower.specs.Carries.{CanLower, CarriesCore};
 
+use sp_array_nets::{add_arrays, arrays_are_open, arrays_share_none, arrays_stay};
 use sp_core::Core;
-use sp_frames::{add_inputs, close_frame, frame_laws, frames_end, port_laws};
+use sp_frames::{add_inputs, close_frame, frame_laws, frames_end, port_laws, taps_share_none};
 use sp_gates::{constant, hold, one};
 use sp_netlist::{Builder, Netlist, NoMemory, one_run};
 use sp_plan::Plan;
 use sp_port_nets::{
     argument_nets, arguments_are_ports, arguments_have_words, output_nets, outputs_are_ports,
 };
-use sp_scalar_cores::scalar_cores_go;
-use sp_scalar_trees::emit_scalar_core;
+use sp_stored_cores::stored_cores_go;
+use sp_stored_trees::emit_stored_core;
+use sp_taps::tap_laws;
 use std::alloc::Global;
 
-/// The netlist of a core all of whose memories are registers, arguments and outputs, in one copy each by a valid plan. It is started
+/// The netlist of a core all of whose memories are registers, arguments, outputs and SRAMs, in one copy each by a valid plan. It is started
 /// in cycle 0, and done in the cycle after the last one of the timeline; its outputs then have the words that the core's run leaves.
 pub fn lower(alloc: Global, core: &Core, plan: &Plan) -> Result<Netlist, NoMemory>
     requires { CanLower (plain_core core.now) (plain_plan plan.now) }
@@ -26,19 +28,25 @@ pub fn lower(alloc: Global, core: &Core, plan: &Plan) -> Result<Netlist, NoMemor
 {
     arguments_are_ports();
     arguments_have_words();
+    arrays_are_open();
+    arrays_share_none();
+    arrays_stay();
     frame_laws();
     frames_end();
     one_run();
     outputs_are_ports();
     port_laws();
-    scalar_cores_go();
+    stored_cores_go();
+    tap_laws();
+    taps_share_none();
     let mut builder = Builder::new(alloc);
     let ports = add_inputs(alloc, &mut builder, &core.ports().args)?;
     let arguments = argument_nets(alloc, core, &ports)?;
+    let arrays = add_arrays(alloc, &mut builder, core, plan, 0)?;
     let always = one(&mut builder)?;
     let zero = constant(&mut builder, 1, 0)?;
     let start = hold(&mut builder, 1, 1, zero, always)?;
-    let tree = emit_scalar_core(alloc, &mut builder, core, plan, &arguments, start)?;
+    let tree = emit_stored_core(alloc, &mut builder, core, plan, &arguments, &arrays, start)?;
     let done = hold(&mut builder, 1, 0, tree.child.done, always)?;
     let outs = output_nets(alloc, core, &tree.words)?;
     let netlist = close_frame(alloc, builder, &core.ports().outs, &outs, done)?;

@@ -1,6 +1,10 @@
 -- Accesses that act where they were made act at the events of their operations.
-use Rattle.std.proofs.Common.{◌≡◌, ℕ, ◌+◌, ◌<◌, ◌≤◌, Bool, true, false, List, [], map, length, take, slice_index, slice_index_or, Some, None, refl, sym, ap, subst, ◌∙◌, arith, length-take, get_or-take}
-use Rattle.std.specs.List.{Contains}
+use Rattle.std.proofs.Common.{◌≡◌, ℕ, ◌+◌, ◌-◌, ◌^◌, ◌<◌, ◌≤◌, Bool, true, false, List, [], ◌∷◌, map, length, take, slice_index, slice_index_or, Some, None, refl, sym, ap, subst, ◌∙◌, arith, length-take, get_or-take}
+use Rattle.std.proofs.lemmas.List.{length-map, take-map}
+use Rattle.std.proofs.lemmas.List.Elements.{All-nil, All-cons, All-head, All-tail}
+use Rattle.std.specs.List.{All, Contains}
+use Rattle.sp_words.specs.Types.{int_type}
+use Rattle.sp_words.specs.Words.{IsWord}
 use Rattle.sp_netlist.specs.Draft.{Draft}
 use Rattle.sp_netlist.specs.Signals.{Signals}
 use Rattle.sp_gates.specs.Tested.{is_on}
@@ -17,7 +21,7 @@ use Rattle.sp_pipe.specs.declared.part.PipeOp.{PipeOp}
 use Rattle.sp_pipe.specs.Right.{IsAt}
 use Rattle.sp_pipe.proofs.WordLemmas.{map_same}
 use Rattle.sp_part_runs.specs.ActsCircuits.{IsActOf, of_word, of_count, of_live, of_read, of_write, of_enq, of_deq, of_reset, of_one, of_two, of_shift, of_mux, of_cast, is_answered, net_of, answer_of, AreAnswered}
-use Rattle.sp_part_runs.specs.ActsEntries.{touches_memory, touched_at, changes_by_word, word_that_changes, IsTouch, Did, IsOpAt, entry_at}
+use Rattle.sp_part_runs.specs.ActsEntries.{touches_memory, touched_at, index_words, changes_by_word, word_that_changes, IsTouch, Did, IsOpAt, entry_at}
 use Rattle.sp_part_runs.specs.ActsLaws.{IsGroup, is_made}
 use Rattle.sp_part_runs.specs.BodiesActing.{BodyRun, entries_of, group_cycle, AccessRight}
 use Rattle.sp_part_runs.specs.BodiesRuns.{IsOnAt}
@@ -52,6 +56,32 @@ module _ (scope : Scope) (op : PlainOp) (before : List Entry) (e : Entry) (did :
 -- by the entry itself
 same_touch : (is : List ℕ) (w : ℕ) (at : List ℕ) (word : ℕ) → touched is w ≡ touched at word → (is ≡ at) × (w ≡ word)
 same_touch is w at word e = (cc (e), cc (e))
+
+-- words of `Int` that have no sign where they are some
+both_small : (ws : List ℕ) → All (λ w. IsWord int_type w → w < 2 ^ 31) ws → All (IsWord int_type) ws → All (λ w. w < 2 ^ 31) ws
+both_small ws small words i other l = small i other l (words i other l)
+
+-- so have the nets of an access, by their words
+unmapped : (f : ℕ → ℕ) (nets : List ℕ) → All (λ w. w < 2 ^ 31) (map f nets) → All (λ net. f net < 2 ^ 31) nets
+unmapped f [] h = All-nil (λ net. f net < 2 ^ 31)
+unmapped f (net ∷ nets) h = All-cons (λ net. f net < 2 ^ 31) net nets (All-head (λ w. w < 2 ^ 31) (f net) (map f nets) h) (unmapped f nets (All-tail (λ w. w < 2 ^ 31) (f net) (map f nets) h))
+
+small_nets : (k : OpKind) (f : ℕ → ℕ) (nets : List ℕ) → All (λ w. w < 2 ^ 31) (index_words k (map f nets)) → All (λ net. f net < 2 ^ 31) (index_words k nets)
+small_nets kind.Read f nets h = unmapped f nets h
+small_nets kind.Write f nets h =
+    unmapped f (take (length nets - 1) nets)
+    (subst (All (λ w. w < 2 ^ 31)) (ap (λ n. take (n - 1) (map f nets)) (length-map nets f) ∙ take-map f (length nets - 1) nets) h)
+small_nets kind.Enq f nets h = All-nil (λ net. f net < 2 ^ 31)
+small_nets kind.Deq f nets h = All-nil (λ net. f net < 2 ^ 31)
+small_nets kind.Reset f nets h = All-nil (λ net. f net < 2 ^ 31)
+small_nets (kind.Word w) f nets h = All-nil (λ net. f net < 2 ^ 31)
+small_nets (kind.Count c lane) f nets h = All-nil (λ net. f net < 2 ^ 31)
+small_nets (kind.Live c first last) f nets h = All-nil (λ net. f net < 2 ^ 31)
+small_nets (kind.One op) f nets h = All-nil (λ net. f net < 2 ^ 31)
+small_nets (kind.Two op) f nets h = All-nil (λ net. f net < 2 ^ 31)
+small_nets (kind.Shift left by) f nets h = All-nil (λ net. f net < 2 ^ 31)
+small_nets kind.Mux f nets h = All-nil (λ net. f net < 2 ^ 31)
+small_nets (kind.Cast to) f nets h = All-nil (λ net. f net < 2 ^ 31)
 
 module _ (s : Signals) (events : List Stamped) (interval : ℕ) (time : ℕ → ℕ) (ops : List PlainOp) (ps : List PipeOp) (first last : ℕ) (runs : List BodyRun) (told : AreTold interval time ops first runs events) (d : Draft)
     (groups : (r : BodyRun) (g : ℕ) → Contains runs r → g < length r.groups → IsGroup d (r.scopes g) ops ps (entries_of r g)) (times : (k : ℕ) (p : PipeOp) → IsAt ps k p → p.time ≡ time k) where
@@ -115,5 +145,19 @@ module _ (s : Signals) (events : List Stamped) (interval : ℕ) (time : ℕ → 
           λ f. ap (λ ws. act_of op.kind (word_that_changes op.kind ws)) words ∙ ap (act_of op.kind) (sym (both.1 ∙ touch.changed f)) ∙ m.act,
         )
 
+    -- the words of its indices have no sign, as those that it took
+    index_at : (t : ℕ) (e : Event) → t ≤ last → Happens events (first + k) t e → All (λ net. s.net t net < 2 ^ 31) (index_words op.kind operands)
+    index_at t e late h =
+        let m = told.told k op t e at h in
+        let c = m.cycle in
+        let x = times k p there in
+        let now : group_cycle interval m.run m.group + p.time ≡ t = omega (arith, c, x) in
+        let took = take k (entries_of m.run m.group) in
+        let touch = made_touch (m.run.scopes m.group) op took (entry_at (entries_of m.run m.group) k) (does m.run m.group m.there m.within) touches (ap is_made m.entry) in
+        let words = ap (λ u. map (s.net u) operands) (sym now) ∙ words_are m.run m.group m.there m.within (omega (arith, now, late)) in
+        small_nets op.kind (s.net t) operands
+        (subst (λ ws. All (λ w. w < 2 ^ 31) (index_words op.kind ws)) (sym words)
+        (both_small (index_words op.kind (map (word_at took) op.args)) touch.small ((groups m.run m.group m.there m.within).indices k op at)))
+
     pub acts_in_time : ActsInTime s events last (first + k) op.kind enable operands
-    acts_in_time = record { enabled = enabled; at = λ t e l h. (at_event t e l h).0; word = λ t e l h f. (at_event t e l h).1 f }
+    acts_in_time = record { enabled = enabled; at = λ t e l h. (at_event t e l h).0; word = λ t e l h f. (at_event t e l h).1 f; index = λ t e l h. index_at t e l h }

@@ -41,6 +41,7 @@ use Rattle.sp_pipe.specs.Values.{time_of}
 use Rattle.sp_part_runs.specs.ActsCircuits.{net_of, answer_of, AreAnswered}
 use Rattle.sp_part_runs.specs.ActsEntries.{IsOpAt}
 use Rattle.sp_part_runs.specs.ActsLaws.{WordsAgree}
+use Rattle.sp_part_runs.proofs.ActsIndices.{indices_are_words}
 use Rattle.sp_part_runs.proofs.ActsListed.{entries_done}
 use Rattle.sp_node_runs.specs.BodiesBounds.{DidBound, DidBounds, IsBoundNet, AreBoundNets, no_bound, two_bounds, BoundsStand, RunsTakeBounds}
 use Rattle.sp_node_runs.specs.BodiesGiven.{Nets, AreStanding}
@@ -108,7 +109,7 @@ module _ (words : LanesHaveWords) (agree : WordsAgree) (s : Signals) (d : Draft)
       let t = b.timed.times b.place p.0 p.1 in
       let z = ap (time_of p.0.act p.0.mask) t ∙ no_time p.0.act p.0.mask (b.directly b.place p.0 p.1) in
       ap (λ v. s.net v net) {x = u} {y = u + 0} (omega arith) ∙ b.word s r u
-      ∙ agree d scope ops b.ps es s u u (record { ops_of = b.timed.ops_of; fits = b.timed.fits; entries = did.entries; bits = did.bits }) (given_stand words s u near env scope stand ops b.ps b.given) answers b.place p.0 p.1 (b.gives p.0 p.1) (omega (arith, z))
+      ∙ agree d scope ops b.ps es s u u (record { ops_of = b.timed.ops_of; fits = b.timed.fits; entries = did.entries; bits = did.bits; indices = did.indices }) (given_stand words s u near env scope stand ops b.ps b.given) answers b.place p.0 p.1 (b.gives p.0 p.1) (omega (arith, z))
       ∙ last_is es b.place (omega (arith, e, each))
     where
       answers : AreAnswered s u u b.ps es
@@ -174,7 +175,7 @@ module _ (core : PlainCore) (lists : ListsFit core) (reading : Reading) (turns :
       let w = word_list_right core around ops int_type (and_parts (is_word_list core around ops int_type) (list_all (is_early core around) ops) right).0 in
       let f = lists around scope ops s t es memories w.0 fits h in
       let word = last_fits ops es int_type w.1 f.entries in
-      (record { list = record { entries = entries_done core scope ops s t es h; bits = f.masks }; fits = word }, f.left)
+      (record { list = record { entries = entries_done core scope ops s t es h; bits = f.masks; indices = indices_are_words core around ops es w.0 f.entries }; fits = word }, f.left)
 
   bounds_did : (counters : List PlainCounter) (s t : Store) (bs : List Bounds) → list_all (is_counter_right core around) counters ≡ true → StoreFits core s → in_order (bounds_step core reading turns scope) counters s ≡ went bs t → DidBounds scope counters bs
   unfolding in_order

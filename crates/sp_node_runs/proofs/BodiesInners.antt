@@ -239,7 +239,7 @@ module _ (core : PlainCore) (plan : PlainPlan) (delays : Delays) (k n : ℕ) (co
         module _ (s : Signals) (d : Draft) (ps : List PipeOp) (last : ℕ) (timed : AreTimedOps d ops ps (slice_index (times_of p))) where
           group_in : (r : Placed) → Contains runs r → (g : ℕ) → g < length (groups_in r.history) → IsGroup d (group_scope (scopes r) (loops_in counters r.history) g) ops ps (slice_index_or (groups_in r.history) g [])
           group_in r c = subst (λ h. (g : ℕ) → g < length (groups_in h) → IsGroup d (group_scope (scopes r) (loops_in counters h) g) ops ps (slice_index_or (groups_in h) g [])) (sym (did r c).is)
-              (λ g l. record { ops_of = timed.ops_of; fits = timed.fits; entries = (did r c).done.entries g l; bits = (did r c).done.bits g l })
+              (λ g l. record { ops_of = timed.ops_of; fits = timed.fits; entries = (did r c).done.entries g l; bits = (did r c).done.bits g l; indices = (did r c).done.indices g l })
 
           groups_are : (b : BodyRun) (g : ℕ) → Contains bodies b → g < length b.groups → IsGroup d (b.scopes g) ops ps (entries_of b g)
           groups_are b g c l =

@@ -175,7 +175,7 @@ module _ (core : PlainCore) (n : ℕ) (ops : List PlainOp) where
           subst (λ (b : BodyRun). g < length b.groups → IsGroup d (b.scopes g) ops ps (entries_of b g)) x.2 (λ l. of_run x.0 x.1 g l) l
         where
           of_run : (q : ListRun) → Contains runs q → (g : ℕ) → g < 1 → IsGroup d q.scope ops ps (slice_index_or (q.entries ∷ []) g [])
-          of_run q c zero l = record { ops_of = timed.ops_of; fits = timed.fits; entries = (did q c).entries; bits = (did q c).bits }
+          of_run q c zero l = record { ops_of = timed.ops_of; fits = timed.fits; entries = (did q c).entries; bits = (did q c).bits; indices = (did q c).indices }
           of_run q c (suc g) l = absurd (omega (arith, l))
 
       given : (q : ListRun) → Contains runs q → (g : ℕ) → g < 1 → group_cycle 1 (list_body q) g ≤ last → AreGiven s (group_cycle 1 (list_body q) g) q.scope ops ps

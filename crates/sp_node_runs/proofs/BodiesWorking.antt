@@ -1,6 +1,7 @@
 -- The worked body.
-use Rattle.std.proofs.Common.{◌≡◌, ℕ, zero, suc, ◌<◌, nat_eq, ◌==◌, Bool, true, false, if◌then◌else◌, [], ◌∷◌, slice_index_or, Some, refl, sym, ap, ◌∙◌, arith}
+use Rattle.std.proofs.Common.{◌≡◌, ℕ, zero, suc, ◌<◌, ◌^◌, nat_eq, ◌==◌, Bool, true, false, if◌then◌else◌, [], ◌∷◌, slice_index_or, Some, refl, sym, ap, ◌∙◌, arith}
 use Rattle.std.proofs.lemmas.Bool.{eqb-true, eq-eqb}
+use Rattle.std.proofs.lemmas.List.Elements.{All-nil}
 use Rattle.sp_core.specs.declared.operation.OpKind.TheVariants.{Write}
 use Rattle.sp_core.specs.Events.{Event, touches, inside_at, in_group_of, writes}
 use Rattle.sp_machine.specs.Examples.{always, chosen, chosen_plan}
@@ -45,4 +46,5 @@ acts last = record {
   };
   at = λ t e l h. (only_one t e h).indices;
   word = λ t e l h f. sym (only_one t e h).act;
+  index = λ t e l h. All-nil (λ net. waves.net t net < 2 ^ 31);
 }

@@ -19,7 +19,7 @@ use Rattle.sp_pipe.specs.Acts.{ActsAt, HasWord}
 use Rattle.sp_pipe.specs.Issues.{IssuesOne}
 use Rattle.sp_pipe.specs.Right.{IsAt}
 use Rattle.sp_pipe.specs.Values.{gives_word, time_of}
-use Rattle.sp_part_runs.specs.ActsEntries.{AreEntries, IsOpAt, touches_memory}
+use Rattle.sp_part_runs.specs.ActsEntries.{AreEntries, IndicesAreWords, IsOpAt, touches_memory}
 use Rattle.sp_part_runs.specs.BodiesActing.{BodyRun}
 use Rattle.sp_part_runs.specs.BodiesRuns.{IsOnAt}
 use Rattle.sp_part_runs.specs.ControlParts.{Ran, Ends}
@@ -28,10 +28,11 @@ use Rattle.sp_node_runs.specs.Bodies.{AreTimedOps}
 use Rattle.sp_node_runs.specs.BodiesGiven.{Nets, AreStanding, AreGivenBy}
 use Rattle.sp_node_runs.specs.BodiesTold.{ActsInTime, AreAnsweredInTime}
 
--- what the operations of a list did in the scope of a run; masks are bits
+-- what the operations of a list did in the scope of a run; masks are bits, and indices words of `Int`
 pub record DidList (scope : Scope) (ops : List PlainOp) (es : List Entry) : Type 0 where
   pub entries : AreEntries scope ops es
   pub bits : MasksAreBits ops es
+  pub indices : IndicesAreWords ops es
 
 -- a run from a cycle on: where it stands, the copies at hand, the counters around, and what each operation did
 pub record ListRun : Type 0 where

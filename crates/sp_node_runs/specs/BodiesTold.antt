@@ -1,6 +1,6 @@
 -- Accesses of a circuit in the cycles of the events of a timeline, by the numbers of their operations.
-use Rattle.std.specs.Prelude.{◌≡◌, ℕ, ◌+◌, ◌<◌, ◌≤◌, true, List, length, map, Some}
-use Rattle.std.specs.List.{Contains}
+use Rattle.std.specs.Prelude.{◌≡◌, ℕ, ◌+◌, ◌^◌, ◌<◌, ◌≤◌, true, List, length, map, Some}
+use Rattle.std.specs.List.{All, Contains}
 use Rattle.sp_netlist.specs.Signals.{Signals}
 use Rattle.sp_gates.specs.Tested.{is_on}
 use Rattle.sp_core.specs.declared.operation.OpKind.{OpKind}
@@ -11,7 +11,7 @@ use Rattle.sp_machine.specs.Stamps.{Stamped}
 use Rattle.sp_pipe.specs.declared.part.PipeOp.{PipeOp}
 use Rattle.sp_pipe.specs.Right.{IsAt}
 use Rattle.sp_part_runs.specs.ActsCircuits.{is_answered, net_of, answer_of}
-use Rattle.sp_part_runs.specs.ActsEntries.{IsOpAt, touches_memory, touched_at, changes_by_word, word_that_changes, entry_at}
+use Rattle.sp_part_runs.specs.ActsEntries.{IsOpAt, touches_memory, touched_at, index_words, changes_by_word, word_that_changes, entry_at}
 use Rattle.sp_part_runs.specs.BodiesActing.{BodyRun, entries_of, group_cycle}
 use Rattle.sp_part_runs.specs.BodiesRuns.{IsOnAt}
 
@@ -25,11 +25,12 @@ abbrev pub SomeHappens : List Stamped → (number t : ℕ) → Type 0
 SomeHappens events n t = (e : Event) × Happens events n t e
 
 -- Up to a cycle an access is enabled in the cycles of the events of its operation and in no other; its operands have the event's
--- element there, and its word where it writes or puts one.
+-- element there, indices without a sign, and its word where it writes or puts one.
 pub record ActsInTime (s : Signals) (events : List Stamped) (last number : ℕ) (kind : OpKind) (enable : ℕ) (operands : List ℕ) : Type 0 where
   pub enabled : IsOnAt (is_on s enable) (SomeHappens events number) last
   pub at : (t : ℕ) (e : Event) → t ≤ last → Happens events number t e → e.indices ≡ touched_at kind (map (s.net t) operands)
   pub word : (t : ℕ) (e : Event) → t ≤ last → Happens events number t e → changes_by_word kind ≡ true → act_of kind (word_that_changes kind (map (s.net t) operands)) ≡ Some e.act
+  pub index : (t : ℕ) (e : Event) → t ≤ last → Happens events number t e → All (λ net. s.net t net < 2 ^ 31) (index_words kind operands)
 
 -- up to a cycle each event that reads or takes a word is answered with that word
 abbrev pub AreAnsweredInTime : Signals → List Stamped → (last first : ℕ) → List PlainOp → List PipeOp → Type 0

@@ -1,6 +1,7 @@
 -- The entries of a list that ran, one by one.
 use Rattle.std.proofs.Common.{◌≡◌, ℕ, zero, suc, ◌+◌, ◌-◌, ◌<◌, Bool, true, false, List, [], ◌∷◌, ◌++◌, length, map, take, slice_index, slice_index_or, Option, Some, None, refl, sym, ap, subst, ◌∙◌, arith, append_assoc}
 use Rattle.std.proofs.lemmas.List.{append-nil}
+use Rattle.std.proofs.lemmas.List.Elements.{All-nil}
 use Rattle.sp_words.specs.declared.types.Ty.{Ty}
 use Rattle.sp_core.specs.declared.operation.OpKind.{OpKind}
 use Rattle.sp_core.specs.declared.operation.OpKind.TheVariants.{Word, Count, Live, Read, Write, Enq, Deq, Reset, One, Two, Shift, Mux, Cast}
@@ -14,6 +15,7 @@ use Rattle.sp_core.specs.Step.{Step, Went, went, pure, stop}
 use Rattle.sp_core.specs.Store.{Store}
 use Rattle.sp_hold.proofs.ListSteps.{first_step, at_end}
 use Rattle.sp_hold.proofs.Steps.{bound, was_pure, no_stop}
+use Rattle.sp_part_runs.proofs.ActsIndices.{went_small}
 use Rattle.sp_part_runs.specs.ActsEntries.{touches_memory, computed_word, index_of, touched_at, changes_by_word, word_that_changes, IsTouch, Did, IsOpAt, entry_at, AreEntries}
 
 module _ (core : PlainCore) (scope : Scope) where
@@ -45,6 +47,7 @@ module _ (core : PlainCore) (scope : Scope) where
         word = b.value;
         entry = sym (was_pure (touched a.value b.value) e b.middle t b.later).value ∙ ap (λ is. touched is b.value) (were_inside m ws a.value s a.middle a.first);
         changed = λ f. absurd (cc);
+        small = went_small core m ws a.value s a.middle a.first;
       })
 
   write_gave : (ty : Ty) (m : ℕ) (ws : List ℕ) (e : Entry) (s t : Store) → access_of core scope Write (Some m) ws s ≡ went e t → Gave Write ty ws e
@@ -56,6 +59,7 @@ module _ (core : PlainCore) (scope : Scope) where
         entry = sym (was_pure (touched a.value (slice_index ws (length ws - 1))) e b.middle t b.later).value
             ∙ ap (λ is. touched is (slice_index ws (length ws - 1))) (were_inside m (take (length ws - 1) ws) a.value s a.middle a.first);
         changed = λ f. refl;
+        small = went_small core m (take (length ws - 1) ws) a.value s a.middle a.first;
       })
 
   enq_gave : (ty : Ty) (m : ℕ) (ws : List ℕ) (e : Entry) (s t : Store) → access_of core scope Enq (Some m) ws s ≡ went e t → Gave Enq ty ws e
@@ -65,6 +69,7 @@ module _ (core : PlainCore) (scope : Scope) where
         word = slice_index ws 0;
         entry = sym (was_pure (touched [] (slice_index ws 0)) e a.middle t a.later).value;
         changed = λ f. refl;
+        small = All-nil _;
       })
 
   deq_gave : (ty : Ty) (m : ℕ) (ws : List ℕ) (e : Entry) (s t : Store) → access_of core scope Deq (Some m) ws s ≡ went e t → Gave Deq ty ws e
@@ -74,6 +79,7 @@ module _ (core : PlainCore) (scope : Scope) where
         word = a.value;
         entry = sym (was_pure (touched [] a.value) e a.middle t a.later).value;
         changed = λ f. absurd (cc);
+        small = All-nil _;
       })
 
   reset_gave : (ty : Ty) (m : ℕ) (ws : List ℕ) (e : Entry) (s t : Store) → access_of core scope Reset (Some m) ws s ≡ went e t → Gave Reset ty ws e
@@ -83,6 +89,7 @@ module _ (core : PlainCore) (scope : Scope) where
         word = 0;
         entry = sym (was_pure (touched [] 0) e a.middle t a.later).value;
         changed = λ f. absurd (cc);
+        small = All-nil _;
       })
 
   -- an access that names no memory stops

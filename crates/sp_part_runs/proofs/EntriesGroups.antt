@@ -21,6 +21,7 @@ use Rattle.sp_fitting.proofs.Lists.{masks_are_bits}
 use Rattle.sp_fitting.proofs.Rules.{here_right}
 use Rattle.sp_hold.proofs.Steps.{bound, was_pure}
 use Rattle.sp_part_runs.specs.ActsEntries.{AreEntries}
+use Rattle.sp_part_runs.proofs.ActsIndices.{group_indices}
 use Rattle.sp_part_runs.proofs.ActsListed.{entries_done}
 use Rattle.sp_part_runs.specs.EntriesLaws.{GroupsDone}
 
@@ -69,6 +70,7 @@ groups_done core fit reading turns around earlier counters owned ops comb scope 
       each = sym (ap length e.1) ∙ r.each ∙ ap (λ bs. length (group_values (loops_of reading counters bs))) e.0;
       entries = λ g l. entries_at a.value bounds b.value groups e.0 e.1 r.went_so g l;
       bits = bits_of core (within around counters owned) ops p.1 groups f.history.1;
+      indices = group_indices core (within around counters owned) ops p.1 groups f.history.1;
     }
   where
     entries_at : (bs others : List Bounds) (xs ys : List (List Entry)) → bs ≡ others → xs ≡ ys

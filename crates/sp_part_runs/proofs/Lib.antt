@@ -1,4 +1,5 @@
 pub mod ActsAgreeing
+pub mod ActsIndices
 pub mod ActsListed
 mod EntriesGroups
 pub mod BodiesActing

@@ -1,7 +1,9 @@
 -- What the operations of a list did, one by one: by the words of those before it, what the entry of each tells.
-use Rattle.std.specs.Prelude.{◌≡◌, ℕ, ◌-◌, ◌<◌, Bool, true, false, List, length, map, take, slice_index, slice_index_or}
+use Rattle.std.specs.Prelude.{◌≡◌, ℕ, ◌-◌, ◌^◌, ◌<◌, Bool, true, false, List, length, map, take, slice_index, slice_index_or}
+use Rattle.std.specs.List.{All}
 use Rattle.sp_words.specs.declared.types.Ty.{Ty}
-use Rattle.sp_words.specs.Words.{word_cast}
+use Rattle.sp_words.specs.Types.{int_type}
+use Rattle.sp_words.specs.Words.{IsWord, word_cast}
 use Rattle.sp_core.specs.declared.operation.OpKind.{OpKind}
 use Rattle.sp_core.specs.declared.operation.OpKind.TheVariants.{Word, Count, Live, Read, Write, Enq, Deq, Reset, One, Two, Shift, Mux, Cast}
 use Rattle.sp_core.specs.Elements.{index_value, natural}
@@ -40,6 +42,12 @@ touched_at Read ws = map index_of ws
 touched_at Write ws = map index_of (take (length ws - 1) ws)
 touched_at kind ws = List.[]
 
+-- of the words that an access takes those of its indices
+abbrev pub index_words : OpKind → List ℕ → List ℕ
+index_words Read ws = ws
+index_words Write ws = take (length ws - 1) ws
+index_words kind ws = List.[]
+
 abbrev pub changes_by_word : OpKind → Bool
 changes_by_word Write = true
 changes_by_word Enq = true
@@ -50,11 +58,12 @@ word_that_changes Write ws = slice_index ws (length ws - 1)
 word_that_changes Enq ws = slice_index ws 0
 word_that_changes kind ws = 0
 
--- the entry of an access that was made
+-- the entry of an access that was made; its indices have no sign
 pub record IsTouch (kind : OpKind) (ws : List ℕ) (e : Entry) : Type 0 where
   pub word : ℕ
   pub entry : e ≡ touched (touched_at kind ws) word
   pub changed : changes_by_word kind ≡ true → word ≡ word_that_changes kind ws
+  pub small : All (λ w. IsWord int_type w → w < 2 ^ 31) (index_words kind ws)
 
 -- what an operation did after others
 pub record Did (scope : Scope) (op : PlainOp) (done : List Entry) (e : Entry) : Type 0 where
@@ -74,3 +83,7 @@ entry_at es k = slice_index_or es k left_out
 pub record AreEntries (scope : Scope) (ops : List PlainOp) (es : List Entry) : Type 0 where
   pub each : length es ≡ length ops
   pub did : (k : ℕ) (op : PlainOp) → IsOpAt ops k op → Did scope op (take k es) (entry_at es k)
+
+-- the indices of the accesses of a list are words of `Int`
+abbrev pub IndicesAreWords : List PlainOp → List Entry → Type 0
+IndicesAreWords ops es = (k : ℕ) (op : PlainOp) → IsOpAt ops k op → All (IsWord int_type) (index_words op.kind (map (word_at (take k es)) op.args))

@@ -16,18 +16,20 @@ use Rattle.sp_pipe.specs.Acts.{ActsAt}
 use Rattle.sp_pipe.specs.Right.{IsAt, OpsFit}
 use Rattle.sp_pipe.specs.Values.{gives_word, time_of, words_of}
 use Rattle.sp_part_runs.specs.ActsCircuits.{AreOpsOf, AreGiven, AreAnswered}
-use Rattle.sp_part_runs.specs.ActsEntries.{AreEntries, entry_at}
+use Rattle.sp_part_runs.specs.ActsEntries.{AreEntries, IndicesAreWords, entry_at}
 
 -- the entries of a list that ran are what its operations did
 abbrev pub EntriesAreDone : Type 0
 EntriesAreDone = (core : PlainCore) (scope : Scope) (ops : List PlainOp) (s t : Store) (es : List Entry) → operations core scope ops s ≡ went es t → AreEntries scope ops es
 
--- A group of a body: its operations as those of a circuit that fits some draft, what they did, and that masks are bits.
+-- A group of a body: its operations as those of a circuit that fits some draft, what they did, and that masks are bits and
+-- indices words of `Int`.
 pub record IsGroup (d : Draft) (scope : Scope) (ops : List PlainOp) (ps : List PipeOp) (es : List Entry) : Type 0 where
   pub ops_of : AreOpsOf ops ps
   pub fits : OpsFit d ps
   pub entries : AreEntries scope ops es
   pub bits : MasksAreBits ops es
+  pub indices : IndicesAreWords ops es
 
 -- A group is issued in a cycle with its counters' words, and up to a cycle its accesses are answered with what they found: up
 -- to that cycle the words over the run's nets are those of its entries.

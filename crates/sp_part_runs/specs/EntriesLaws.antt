@@ -10,13 +10,14 @@ use Rattle.sp_core.specs.Sequential.{run}
 use Rattle.sp_core.specs.Step.{went}
 use Rattle.sp_core.specs.Store.{Store}
 use Rattle.sp_fitting.specs.Fitting.{StoreFits, MasksAreBits}
-use Rattle.sp_part_runs.specs.ActsEntries.{AreEntries}
+use Rattle.sp_part_runs.specs.ActsEntries.{AreEntries, IndicesAreWords}
 
 -- the groups are those of the loops that the bounds tell, and each did what the operations do in the scope of its values
 pub record GroupsDone (scope : Scope) (reading : Reading) (counters : List PlainCounter) (ops : List PlainOp) (bounds : List Bounds) (groups : List (List Entry)) : Type 0 where
   pub each : length groups ≡ length (group_values (loops_of reading counters bounds))
   pub entries : (g : ℕ) → g < length groups → AreEntries (in_group scope (loops_of reading counters bounds) (slice_index_or (group_values (loops_of reading counters bounds)) g [])) ops (slice_index_or groups g [])
   pub bits : (g : ℕ) → g < length groups → MasksAreBits ops (slice_index_or groups g [])
+  pub indices : (g : ℕ) → g < length groups → IndicesAreWords ops (slice_index_or groups g [])
 
 -- so it is in a run from a store whose words fit
 abbrev pub InnerRunsAreDone : PlainCore → Type 0

@@ -25,7 +25,7 @@ use Rattle.sp_mem.specs.Fits.{CopyFits, FreshFits, ReadFits, RegisterFits, AreAp
 use Rattle.sp_mem.proofs.Kept.{copy_kept}
 use Rattle.sp_mem.proofs.Waiting.{awaits_kept}
 use Rattle.sp_op_nets.specs.Reserved.{Rise}
-use Rattle.sp_part_runs.specs.ActsEntries.{word_that_changes}
+use Rattle.sp_part_runs.specs.ActsEntries.{index_words, word_that_changes}
 use Rattle.sp_access_nets.specs.declared.access.AccessNets.{AccessNets}
 use Rattle.sp_access_nets.specs.Picking.{is_to, PicksAccessesTo}
 use Rattle.sp_tree_handed.specs.declared.owners.OwnerNets.{OwnerNets}
@@ -45,6 +45,8 @@ access_stays a b core x g h = record {
   word = λ e. HasNet-stays a b _ _ g (h.word e);
   answer = λ w e. HasNet-stays a b _ _ g (h.answer w e);
   later = h.later;
+  index = λ banks. All-weaker (λ net. HasNet a net 32) (λ net. HasNet b net 32) (λ net s. HasNet-stays a b net 32 g s) (index_words x.kind x.operands.items) (h.index banks);
+  each_index = h.each_index;
 }
 
 pub accesses_stay : (a b : Draft) (core : PlainCore) (xs : List AccessNets) → Grows a b → All (AccessStands a core) xs → All (AccessStands b core) xs

@@ -1,5 +1,4 @@
 pub mod Picked
 pub mod Answering
 pub mod Fitting
-pub mod Collecting
 pub mod Single

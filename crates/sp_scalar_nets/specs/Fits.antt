@@ -1,5 +1,5 @@
--- When the circuits of memories of one word can be emitted.
-use Rattle.std.specs.Prelude.{◌≡◌, ℕ, ◌<◌, List, length, slice_index, All}
+-- When the circuit of a memory of one word can be emitted.
+use Rattle.std.specs.Prelude.{◌≡◌, ℕ, ◌<◌, List, length, All}
 use Rattle.std.specs.List.{Contains}
 use Rattle.sp_words.specs.declared.kind.Kind.TheVariants.{ArgIn}
 use Rattle.sp_words.specs.Types.{width_of}
@@ -9,13 +9,12 @@ use Rattle.sp_core.specs.Declarations.{mem, kind_of}
 use Rattle.sp_core.specs.PlainCore.{PlainCore}
 use Rattle.sp_op_nets.specs.Reserved.{Rise}
 use Rattle.sp_access_nets.specs.declared.access.AccessNets.{AccessNets}
-use Rattle.sp_access_nets.specs.Laws.{answer_nets}
 use Rattle.sp_tree_handed.specs.declared.owners.OwnerNets.{OwnerNets}
-use Rattle.sp_tree_handed.specs.Scalars.{IsScalar, AreScalars}
+use Rattle.sp_tree_handed.specs.Scalars.{IsScalar}
 use Rattle.sp_tree_handed.specs.Standing.{AccessStands, OwnersStand}
 use Rattle.sp_scalar_nets.specs.Lists.{answers_to}
 
--- of one memory; an argument has the net of its port
+-- an argument has the net of its port
 pub record ScalarFits (d : Draft) (core : PlainCore) (accesses : List AccessNets) (owners : OwnerNets) (port start m : ℕ) : Type 0 where
   pub within : m < length core.mems
   pub scalar : IsScalar (kind_of core m)
@@ -26,16 +25,3 @@ pub record ScalarFits (d : Draft) (core : PlainCore) (accesses : List AccessNets
   -- its readers wait for their words, each on a net of its own
   pub awaiting : (net : ℕ) → Contains (answers_to m accesses) net → IsOpen d net
   pub rise : Rise 0 (answers_to m accesses)
-
--- of all memories of a core; `arguments` has the nets of the arguments' ports, by the memory's number
-pub record ScalarsFit (d : Draft) (core : PlainCore) (accesses : List AccessNets) (owners : OwnerNets) (arguments : List ℕ) (start : ℕ) : Type 0 where
-  pub scalars : AreScalars core
-  pub starts : HasNet d start 1
-  pub each : length arguments ≡ length core.mems
-  pub ports : (m : ℕ) → m < length core.mems → kind_of core m ≡ ArgIn → HasNet d (slice_index arguments m) (width_of (mem core m).ty)
-  pub accesses_stand : All (AccessStands d core) accesses
-  pub within : All (λ (a : AccessNets). a.mem < length core.mems) accesses
-  pub owners_stand : OwnersStand d core owners
-  -- accesses wait for their answers, each on a net of its own
-  pub awaiting : (net : ℕ) → Contains (answer_nets accesses) net → IsOpen d net
-  pub rise : Rise 0 (answer_nets accesses)

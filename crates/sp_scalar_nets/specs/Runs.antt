@@ -1,5 +1,5 @@
 -- What the circuit of a memory of one word does in a run.
-use Rattle.std.specs.Prelude.{◌≡◌, ◌≢◌, ℕ, suc, ◌<◌, List, [], ◌∷◌, length, map, slice_index, Some}
+use Rattle.std.specs.Prelude.{◌≡◌, ◌≢◌, ℕ, suc, List, [], ◌∷◌, map, Some}
 use Rattle.std.specs.List.{Contains}
 use Rattle.sp_words.specs.declared.kind.Kind.TheVariants.{ArgIn}
 use Rattle.sp_netlist.specs.Signals.{Signals}
@@ -40,7 +40,3 @@ IsFollowed s accesses m net = (a : AccessNets) (w : WordNet) → Contains access
 pub data RunsScalar (core : PlainCore) (s : Signals) (accesses : List AccessNets) (owners : OwnerNets) (port m net : ℕ) : Type 0 where
   an_argument : kind_of core m ≡ ArgIn → net ≡ port → IsFollowed s accesses m port → RunsScalar core s accesses owners port m net
   a_register : kind_of core m ≢ ArgIn → RunsWord core s accesses owners m net → RunsScalar core s accesses owners port m net
-
--- each memory's, by its number
-abbrev pub RunScalars : PlainCore → Signals → List AccessNets → OwnerNets → (arguments words : List ℕ) → Type 0
-RunScalars core s accesses owners arguments words = (m : ℕ) → m < length core.mems → RunsScalar core s accesses owners (slice_index arguments m) m (slice_index words m)

@@ -5,4 +5,4 @@ mod followers;
 mod lists;
 mod scalars;
 
-pub use scalars::{ScalarNets, emit_scalars};
+pub use scalars::emit_scalar;

@@ -1,5 +1,5 @@
-//! The circuits of all memories of a core of which each is one word.
-ghost use Rattle.std.specs.Prelude.{◌≡◌, ◌≢◌, ℕ, ◌<◌, length, slice_index, IfOk, OnOk};
+//! The circuit of a memory of a core that is one word.
+ghost use Rattle.std.specs.Prelude.{◌≡◌, ◌≢◌, ℕ, ◌<◌, length, IfOk, OnOk};
 ghost use Rattle.sp_words.specs.declared.kind.Kind.TheVariants.{ArgIn};
 ghost use Rattle.sp_words.specs.Types.{width_of};
 ghost use Rattle.sp_netlist.specs.Signals.{Signals};
@@ -10,10 +10,9 @@ ghost use Rattle.sp_core.specs.CoreParts.{plain_core};
 ghost use Rattle.sp_core.specs.Declarations.{mem, kind_of};
 ghost use Rattle.sp_core.specs.Invariant.{IsCore};
 ghost use Rattle.sp_core.specs.Plain.{plain_mem};
-ghost use Rattle.sp_access_nets.specs.Laws.{answer_nets};
-ghost use Rattle.sp_scalar_nets.specs.Fits.{ScalarFits, ScalarsFit};
+ghost use Rattle.sp_scalar_nets.specs.Fits.{ScalarFits};
 ghost use Rattle.sp_scalar_nets.specs.Lists.{answers_to};
-ghost use Rattle.sp_scalar_nets.specs.Runs.{IsPartOf, IsFollowed, RunsWord, RunsScalar, RunScalars};
+ghost use Rattle.sp_scalar_nets.specs.Runs.{IsPartOf, IsFollowed, RunsWord, RunsScalar};
 
 use crate::followers::emit_followers;
 use crate::lists::{fresh_to, has_reset, reads_to, writes_to};
@@ -25,12 +24,6 @@ use sp_netlist::{Builder, NetId, NoMemory};
 use sp_tree_handed::OwnerNets;
 use sp_words::Kind;
 use std::alloc::Global;
-
-/// The nets of the words of a core's memories, by the memory's number.
-#[derive(Debug, Drop)]
-pub struct ScalarNets {
-    pub words: Vec<NetId>,
-}
 
 /// The memory of a number.
 fn memory(core: &Core, m: u32) -> &CoreMem
@@ -113,8 +106,9 @@ fn emit_argument(
     Ok(())
 }
 
-/// Emits a memory. The net has its word; that of an argument is its port.
-fn emit_scalar(
+/// Emits a memory that is a register, an argument or an output, in one copy. The net has its word; that of an argument is its port.
+/// Each access that is to be answered is a cycle later. `start` is 1 in the cycle in which a run begins.
+pub fn emit_scalar(
     alloc: Global,
     builder: &mut Builder,
     core: &Core,
@@ -139,39 +133,4 @@ fn emit_scalar(
             Ok(net)
         }
     }
-}
-
-/// Emits the memories of a core of which each is a register, an argument or an output, in one copy. Each access that is to be
-/// answered is a cycle later. `arguments` has the nets of the arguments' ports by the memory's number, and anything else at
-/// other numbers; `start` is 1 in the cycle in which a run begins.
-pub fn emit_scalars(
-    alloc: Global,
-    builder: &mut Builder,
-    core: &Core,
-    accesses: &[AccessNets],
-    owners: &OwnerNets,
-    arguments: &[NetId],
-    start: NetId,
-) -> Result<ScalarNets, NoMemory>
-    requires { ScalarsFit builder.old (plain_core core.now) accesses.now owners.now arguments.now start }
-    ensures fills { OnOk result (Fills builder.old builder.new (answer_nets accesses.now)) }
-    ensures each { IfOk result (λ nets. length nets.words.items ≡ length (plain_core core.now).mems) }
-    ensures nets { IfOk result (λ nets. (m : ℕ) → m < length (plain_core core.now).mems → HasNet builder.new (slice_index nets.words.items m) (width_of (mem (plain_core core.now) m).ty)) }
-    ensures runs { IfOk result (λ nets. (s : Signals) → RunsOn s builder.new.cells → RunScalars (plain_core core.now) s accesses.now owners.now arguments.now nets.words.items) }
-{
-    let mut words = Vec::new(alloc);
-    for m in 0..core.mems().len() {
-        let net = emit_scalar(
-            alloc,
-            builder,
-            core,
-            accesses,
-            owners,
-            arguments[m],
-            start,
-            m as u32,
-        )?;
-        words.push(net)?;
-    }
-    Ok(ScalarNets { words })
 }

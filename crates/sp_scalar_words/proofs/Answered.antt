@@ -1,5 +1,5 @@
 -- Registers hold what stands at their places, and reads are answered.
-use Rattle.std.proofs.Common.{Bool, true, false, if◌then◌else◌, ◌≡◌, ◌≢◌, ℕ, zero, suc, ◌+◌, ◌<◌, ◌&&◌, List, [], ◌∷◌, length, slice_index, slice_index_or, Contains, Option, Some, None, refl, sym, ap, subst, ◌∙◌, arith, lt-ltb}
+use Rattle.std.proofs.Common.{Bool, true, false, if◌then◌else◌, ◌≡◌, ◌≢◌, ℕ, zero, suc, ◌+◌, ◌<◌, ◌&&◌, List, [], ◌∷◌, length, slice_index_or, Contains, Option, Some, None, refl, sym, ap, subst, ◌∙◌, arith, lt-ltb}
 use Rattle.std.specs.List.{list_all}
 use Rattle.std.proofs.lemmas.Bool.{true≢false, and_parts}
 use Rattle.std.proofs.lemmas.List.Elements.{All-contains}
@@ -36,11 +36,12 @@ use Rattle.sp_memory_words.specs.Registers.{IsRegister, copy_place, HasWord, Reg
 use Rattle.sp_access_nets.specs.declared.access.AccessNets.{AccessNets}
 use Rattle.sp_access_nets.specs.Picking.{PicksAccessesTo}
 use Rattle.sp_tree_handed.specs.declared.owners.OwnerNets.{OwnerNets}
+use Rattle.sp_tree_handed.specs.Scalars.{IsScalar}
 use Rattle.sp_tree_handed.specs.Standing.{AccessStands}
 use Rattle.sp_scalar_nets.specs.Lists.{PlainTouch, plain_touch, answer_net, read_of}
 use Rattle.sp_scalar_nets.specs.Runs.{IsFollowed, RunsWord, an_argument, a_register}
 use Rattle.sp_scalar_nets.proofs.Answering.{read_in}
-use Rattle.sp_scalar_words.specs.InTime.{ScalarsInTime, RegistersAreAsked, ScalarsHold, OutputsAreLeft, ScalarsAnswer}
+use Rattle.sp_scalar_words.specs.InTime.{MemoriesInTime, RegistersAreAsked, ScalarsHold, OutputsAreLeft, ScalarsAnswer}
 use Rattle.sp_scalar_words.proofs.Asked.{from_mapped, not_argument, still, names, all_writes, all_fresh}
 
 right_at : (ms : List PlainMem) (m : ℕ) → list_all is_mem_right ms ≡ true → m < length ms → is_mem_right (slice_index_or ms m no_mem) ≡ true
@@ -93,9 +94,8 @@ one_later Dram h = absurd h
 
 module _ (core : PlainCore) (plan : PlainPlan) where
   pub asked : PicksAccessesTo → AccessesAsk core plan → ((input : PlainInput) → ContentsBegin core input) → OperationsStay core plan → RegistersAreAsked core plan
-  asked picks asks from stays s events last accesses owners input h well m net l not w =
+  asked picks asks from stays s events last accesses owners input h well m net l scalar not w =
       let first = first_contents core input in
-      let scalar = h.scalars m l in
       let kind = not_argument (kind_of core m) scalar not in
       let answers = asks h.right events first well m (still (kind_of core m) scalar) in
       record {
@@ -109,28 +109,25 @@ module _ (core : PlainCore) (plan : PlainPlan) where
       }
 
   pub holds : RegistersAreAsked core plan → RegistersHold core plan → ScalarsHold core plan
-  holds are_asked hold s events last accesses owners input h well arguments words run m l not t until = elim (run m l) [
-    | an_argument is same follows ↦ absurd (not is)
-    | a_register other w ↦
-        hold events (first_contents core input) well m s last w.part (slice_index words m ∷ []) (are_asked s events last accesses owners input h well m (slice_index words m) l not w) t 0 until (let one = w.is.copies in omega (arith, one))
-  ]
+  holds are_asked hold s events last accesses owners input h well m net l scalar not w t until =
+      hold events (first_contents core input) well m s last w.part (net ∷ []) (are_asked s events last accesses owners input h well m net l scalar not w) t 0 until (let one = w.is.copies in omega (arith, one))
 
-  module _ (s : Signals) (events : List Stamped) (last : ℕ) (accesses : List AccessNets) (owners : OwnerNets) (input : PlainInput) (h : ScalarsInTime core plan s events last accesses owners) (well : HappensWell core plan events (first_contents core input)) (stays : OperationsStay core plan) (a : AccessNets) (w : WordNet) (c : Contains accesses a) (k : a.kind ≡ Read) (e : a.answer ≡ Some w) where
+  module _ (s : Signals) (events : List Stamped) (last : ℕ) (accesses : List AccessNets) (owners : OwnerNets) (input : PlainInput) (h : MemoriesInTime core plan s events last accesses owners) (well : HappensWell core plan events (first_contents core input)) (stays : OperationsStay core plan) (a : AccessNets) (w : WordNet) (c : Contains accesses a) (k : a.kind ≡ Read) (e : a.answer ≡ Some w) where
     operation : IsOperation core a.mem Read a.number
     operation = subst (λ q. IsOperation core a.mem q a.number) k (h.is_operation a c)
 
     inside : a.mem < length core.mems
     inside = All-contains (λ (x : AccessNets). x.mem < length core.mems) accesses a h.within c
 
-    by_register : RegistersAreAsked core plan → RegistersAnswer core plan → (net : ℕ) → kind_of core a.mem ≢ ArgIn → RunsWord core s accesses owners a.mem net → IsAnswered s events (suc last) a.number Read w.after w.net
-    by_register are_asked answer net not r =
+    by_register : RegistersAreAsked core plan → RegistersAnswer core plan → (net : ℕ) → IsScalar (kind_of core a.mem) → kind_of core a.mem ≢ ArgIn → RunsWord core s accesses owners a.mem net → IsAnswered s events (suc last) a.number Read w.after w.net
+    by_register are_asked answer net scalar not r =
         let first = first_contents core input in
-        let after : w.after ≡ 1 = (All-contains (AccessStands h.draft core) accesses a h.stand c).later w k e not ∙ one_later (kind_of core a.mem) (not_argument (kind_of core a.mem) (h.scalars a.mem inside) not) in
+        let after : w.after ≡ 1 = (All-contains (AccessStands h.draft core) accesses a h.stand c).later w k e not ∙ one_later (kind_of core a.mem) (not_argument (kind_of core a.mem) scalar not) in
         let read = from_mapped plain_touch r.part.reads.items (read_of a) (subst (λ xs. Contains xs (read_of a)) (sym r.is.reads) (read_in a.mem accesses a w c refl e)) in
         let on : read.0.word ≡ w.net = ap (λ (p : PlainTouch). p.word) read.2 ∙ ap answer_net e in
         let none : read.0.copy ≡ None = ap (λ (p : PlainTouch). p.copy) read.2 in
         let now =
-        (answer events first well a.mem s last r.part (net ∷ []) (are_asked s events last accesses owners input h well a.mem net inside not r)).later a.number read.0 read.1 (stays events first well a.mem a.number Read operation)
+        (answer events first well a.mem s last r.part (net ∷ []) (are_asked s events last accesses owners input h well a.mem net inside scalar not r)).later a.number read.0 read.1 (stays events first well a.mem a.number Read operation)
         (names core plan s events last accesses owners h first well a.mem inside stays a.number Read read.0.copy none operation last) in
         subst (λ n. IsAnswered s events (suc last) a.number Read n w.net) (sym after) (subst (λ n. IsAnswered s events (suc last) a.number Read 1 n) on now)
 
@@ -145,10 +142,9 @@ module _ (core : PlainCore) (plan : PlainPlan) where
         one_before (suc n) l on = follows a w c refl e n ∙ given n ∙ sym (given (suc n)) ∙ on
 
   pub answer : RegistersAreAsked core plan → RegistersAnswer core plan → ArgumentsAnswer core plan → ((input : PlainInput) → ContentsBegin core input) → OperationsStay core plan → ScalarsAnswer core plan
-  answer are_asked registers arguments_do from stays s events last accesses owners input h well arguments words run given later a w c k e = elim (run a.mem (inside s events last accesses owners input h well stays a w c k e)) [
-    | an_argument is same follows ↦
-        by_port s events last accesses owners input h well stays a w c k e arguments_do (from input) (slice_index arguments a.mem) is (given a.mem (inside s events last accesses owners input h well stays a w c k e) is) follows (later a w c is e)
-    | a_register other r ↦ by_register s events last accesses owners input h well stays a w c k e are_asked registers (slice_index words a.mem) other r
+  answer are_asked registers arguments_do from stays s events last accesses owners input h well later a w c k e scalar port net run given = elim run [
+    | an_argument is same follows ↦ by_port s events last accesses owners input h well stays a w c k e arguments_do (from input) port is (given is) follows (later a w c is e)
+    | a_register other r ↦ by_register s events last accesses owners input h well stays a w c k e are_asked registers net scalar other r
   ]
 
 -- what holds of all moments of a timeline holds of its events
@@ -161,6 +157,6 @@ each_event core t (x ∷ xs) h = by_case (is_done core x.moment) (each_event cor
     by_case false rest = rest
 
 pub left : (core : PlainCore) (plan : PlainPlan) → ScalarsHold core plan → OutputsAreLeft core plan
-left core plan hold s events last accesses owners input h well arguments words run m l out t until before word is =
-    hold s events last accesses owners input h well arguments words run m l (λ e. absurd (cc (e, out))) t until word
+left core plan hold s events last accesses owners input h well m net l out w t until before word is =
+    hold s events last accesses owners input h well m net l (subst IsScalar (sym out) tt) (λ e. absurd (cc (e, out))) w t until word
     (well.in_time.last t (copy_place m 0) (each_event core t events before) ∙ is)

@@ -39,7 +39,7 @@ use Rattle.sp_tree_handed.specs.Standing.{AccessStands}
 use Rattle.sp_scalar_nets.specs.Lists.{PlainTouch, plain_touch, write_of, state_of, reset_of, renewal_of, is_kept, is_renewed, writes_to, renewals_to, fresh_to}
 use Rattle.sp_scalar_nets.specs.Runs.{IsPartOf}
 use Rattle.sp_scalar_nets.proofs.Picked.{none_there, here, there, first_or_later, picked, mapped, from_picked}
-use Rattle.sp_scalar_words.specs.InTime.{ScalarsInTime}
+use Rattle.sp_scalar_words.specs.InTime.{MemoriesInTime}
 
 -- what is taken for an element of a list
 pub from_mapped : {A B : Type 0} (f : A → B) (xs : List A) (y : B) → Contains (map f xs) y → (x : A) × Contains xs x × (f x ≡ y)
@@ -81,7 +81,7 @@ both_true : (a b : Bool) → a ≡ true → b ≡ true → (a && b) ≡ true
 both_true true b e f = f
 both_true false b e f = e
 
-module _ (core : PlainCore) (plan : PlainPlan) (s : Signals) (events : List Stamped) (last : ℕ) (accesses : List AccessNets) (owners : OwnerNets) (h : ScalarsInTime core plan s events last accesses owners) (first : Place → Option Contents) (well : HappensWell core plan events first) (m : ℕ) (within : m < length core.mems) where
+module _ (core : PlainCore) (plan : PlainPlan) (s : Signals) (events : List Stamped) (last : ℕ) (accesses : List AccessNets) (owners : OwnerNets) (h : MemoriesInTime core plan s events last accesses owners) (first : Place → Option Contents) (well : HappensWell core plan events first) (m : ℕ) (within : m < length core.mems) where
   -- all that happens to the memory is at copy 0
   pub at_zero : (c k : ℕ) → k ≡ m → (k < length core.mems → c < (mem_plan plan k).depth) → c ≡ 0
   at_zero c k e below =

@@ -1,6 +1,6 @@
--- A core of memories of one word over the timeline of a run: its accesses and its owners do what the timeline has, up to a cycle, so its
--- registers hold what stands at their places, and each read is answered.
-use Rattle.std.specs.Prelude.{◌≡◌, ◌≢◌, ℕ, suc, ◌+◌, ◌<◌, ◌≤◌, true, List, [], ◌∷◌, length, slice_index, slice_index_or, All, Some}
+-- The memories of a core over the timeline of a run: accesses and owners do what the timeline has, up to a cycle, so registers hold what
+-- stands at their places, and each read of a memory of one word is answered.
+use Rattle.std.specs.Prelude.{◌≡◌, ◌≢◌, ℕ, suc, ◌+◌, ◌<◌, ◌≤◌, true, List, [], ◌∷◌, length, slice_index, slice_index_or, All, Some, None}
 use Rattle.std.specs.List.{Contains}
 use Rattle.sp_words.specs.declared.kind.Kind.TheVariants.{ArgIn, ArgOut}
 use Rattle.sp_words.specs.Ports.{PlainInput}
@@ -34,9 +34,9 @@ use Rattle.sp_access_nets.specs.declared.access.AccessNets.{AccessNets}
 use Rattle.sp_tree_handed.specs.declared.owners.Keeping.{Keeping}
 use Rattle.sp_tree_handed.specs.declared.owners.OwnerNets.{OwnerNets}
 use Rattle.sp_tree_handed.specs.declared.owners.Renewal.{Renewal}
-use Rattle.sp_tree_handed.specs.Scalars.{AreScalars}
+use Rattle.sp_tree_handed.specs.Scalars.{IsScalar, IsInBanks}
 use Rattle.sp_tree_handed.specs.Standing.{AccessStands}
-use Rattle.sp_scalar_nets.specs.Runs.{RunsWord, RunScalars}
+use Rattle.sp_scalar_nets.specs.Runs.{RunsWord, RunsScalar}
 
 -- Owners do what the timeline has them do, and all of it. Where a memory has a reset its loops make it fresh; any other one is left alone.
 pub record OwnersInTime (core : PlainCore) (s : Signals) (events : List Stamped) (last : ℕ) (owners : OwnerNets) : Type 0 where
@@ -45,24 +45,30 @@ pub record OwnersInTime (core : PlainCore) (s : Signals) (events : List Stamped)
   pub all_renewals : (t c m : ℕ) → t ≤ last → IsAt events t c (renews m) → is_done core (renews m) ≡ true → (r : Renewal) × Contains owners.renewed.items r × (r.mem ≡ m) × (is_on s r.first t ≡ true)
   pub all_keepings : (t c m word : ℕ) → t ≤ last → IsAt events t c (keeps m word) → (k : Keeping) × Contains owners.kept.items k × (k.mem ≡ m) × (is_on s k.done t ≡ true)
 
--- Accesses are those of the core's operations, and all of them; those that aren't reads act at their operations' events. Each memory is
--- one word and has one copy.
-pub record ScalarsInTime (core : PlainCore) (plan : PlainPlan) (s : Signals) (events : List Stamped) (last : ℕ) (accesses : List AccessNets) (owners : OwnerNets) : Type 0 where
+-- Accesses are those of the core's operations, and all of them. They act at their operations' events, but for reads of memories that bounds
+-- and slices read, too. Each memory has one copy, so no access names one; and what is answered is a read.
+pub record MemoriesInTime (core : PlainCore) (plan : PlainPlan) (s : Signals) (events : List Stamped) (last : ℕ) (accesses : List AccessNets) (owners : OwnerNets) : Type 0 where
   pub right : IsCore core
-  pub scalars : AreScalars core
   pub one_copy : (m : ℕ) → m < length core.mems → (mem_plan plan m).depth ≡ 1
   pub is_operation : (a : AccessNets) → Contains accesses a → IsOperation core a.mem a.kind a.number
   pub all_operations : (m n : ℕ) (kind : OpKind) → is_access kind ≡ true → IsOperation core m kind n → (a : AccessNets) × Contains accesses a × (a.number ≡ n) × (a.mem ≡ m) × (a.kind ≡ kind)
   pub act : (a : AccessNets) → Contains accesses a → a.kind ≢ Read → ActsInTime s events last a.number a.kind a.enable a.operands.items
+  pub in_banks : (a : AccessNets) → Contains accesses a → IsInBanks (kind_of core a.mem) → ActsInTime s events last a.number a.kind a.enable a.operands.items
+  pub uncopied : (a : AccessNets) → Contains accesses a → a.copy ≡ None
+  pub asked : (a : AccessNets) (w : WordNet) → Contains accesses a → a.answer ≡ Some w → a.kind ≡ Read
   pub owners_act : OwnersInTime core s events last owners
   -- the nets of accesses, as some draft has them
   pub within : All (λ (a : AccessNets). a.mem < length core.mems) accesses
   pub draft : Draft
   pub stand : All (AccessStands draft core) accesses
 
--- the port of each argument has the argument's word in each cycle
+-- the port of an argument has the argument's word in each cycle
+abbrev pub IsGiven : PlainCore → PlainInput → Signals → (mem port : ℕ) → Type 0
+IsGiven core input s m port = kind_of core m ≡ ArgIn → (t : ℕ) → s.net t port ≡ slice_index_or (words_of (first_store core input m)) 0 0
+
+-- so has that of each, by its number
 abbrev pub ArgumentsGiven : PlainCore → PlainInput → Signals → (arguments : List ℕ) → Type 0
-ArgumentsGiven core input s arguments = (m : ℕ) → m < length core.mems → kind_of core m ≡ ArgIn → (t : ℕ) → s.net t (slice_index arguments m) ≡ slice_index_or (words_of (first_store core input m)) 0 0
+ArgumentsGiven core input s arguments = (m : ℕ) → m < length core.mems → IsGiven core input s m (slice_index arguments m)
 
 -- A net that follows a port has its word from cycle 1 on, so no read of an argument is to be answered in cycle 0.
 abbrev pub ArgumentsAreLater : PlainCore → List Stamped → List AccessNets → Type 0
@@ -70,29 +76,29 @@ ArgumentsAreLater core events accesses =
     (a : AccessNets) (w : WordNet) → Contains accesses a → kind_of core a.mem ≡ ArgIn → a.answer ≡ Some w → (t : ℕ) (e : Event) → Happens events a.number t e → 0 < t + w.after
 
 module _ (core : PlainCore) (plan : PlainPlan) where
-  -- the circuit of a memory that is no argument is asked what happens to the memory
+  -- the circuit of a register or an output is asked what happens to it
   abbrev pub RegistersAreAsked : Type 0
   RegistersAreAsked =
-      (s : Signals) (events : List Stamped) (last : ℕ) (accesses : List AccessNets) (owners : OwnerNets) (input : PlainInput) → ScalarsInTime core plan s events last accesses owners → HappensWell core plan events (first_contents core input)
-      → (m net : ℕ) → m < length core.mems → kind_of core m ≢ ArgIn → (w : RunsWord core s accesses owners m net) → IsRegisterOf core plan m s events (first_contents core input) last w.part (net ∷ [])
+      (s : Signals) (events : List Stamped) (last : ℕ) (accesses : List AccessNets) (owners : OwnerNets) (input : PlainInput) → MemoriesInTime core plan s events last accesses owners → HappensWell core plan events (first_contents core input)
+      → (m net : ℕ) → m < length core.mems → IsScalar (kind_of core m) → kind_of core m ≢ ArgIn → (w : RunsWord core s accesses owners m net) → IsRegisterOf core plan m s events (first_contents core input) last w.part (net ∷ [])
 
   -- so up to the cycle after its net has the word that stands there
   abbrev pub ScalarsHold : Type 0
   ScalarsHold =
-      (s : Signals) (events : List Stamped) (last : ℕ) (accesses : List AccessNets) (owners : OwnerNets) (input : PlainInput) → ScalarsInTime core plan s events last accesses owners → HappensWell core plan events (first_contents core input)
-      → (arguments words : List ℕ) → RunScalars core s accesses owners arguments words → (m : ℕ) → m < length core.mems → kind_of core m ≢ ArgIn
-      → (t : ℕ) → t ≤ suc last → HasWord core (standing core events (first_contents core input) t (copy_place m 0)) (s.net t (slice_index words m))
+      (s : Signals) (events : List Stamped) (last : ℕ) (accesses : List AccessNets) (owners : OwnerNets) (input : PlainInput) → MemoriesInTime core plan s events last accesses owners → HappensWell core plan events (first_contents core input)
+      → (m net : ℕ) → m < length core.mems → IsScalar (kind_of core m) → kind_of core m ≢ ArgIn → RunsWord core s accesses owners m net
+      → (t : ℕ) → t ≤ suc last → HasWord core (standing core events (first_contents core input) t (copy_place m 0)) (s.net t net)
 
   -- after all that happens an output's net has the word that is left
   abbrev pub OutputsAreLeft : Type 0
   OutputsAreLeft =
-      (s : Signals) (events : List Stamped) (last : ℕ) (accesses : List AccessNets) (owners : OwnerNets) (input : PlainInput) → ScalarsInTime core plan s events last accesses owners → HappensWell core plan events (first_contents core input)
-      → (arguments words : List ℕ) → RunScalars core s accesses owners arguments words → (m : ℕ) → m < length core.mems → kind_of core m ≡ ArgOut → (t : ℕ) → t ≤ suc last → Each (λ (x : Stamped). x.cycle < t) events
-      → (word : ℕ) → after is_place (does core) (events_of core events) (first_contents core input) (copy_place m 0) ≡ one_cell core word → s.net t (slice_index words m) ≡ word
+      (s : Signals) (events : List Stamped) (last : ℕ) (accesses : List AccessNets) (owners : OwnerNets) (input : PlainInput) → MemoriesInTime core plan s events last accesses owners → HappensWell core plan events (first_contents core input)
+      → (m net : ℕ) → m < length core.mems → kind_of core m ≡ ArgOut → RunsWord core s accesses owners m net → (t : ℕ) → t ≤ suc last → Each (λ (x : Stamped). x.cycle < t) events
+      → (word : ℕ) → after is_place (does core) (events_of core events) (first_contents core input) (copy_place m 0) ≡ one_cell core word → s.net t net ≡ word
 
-  -- and each read is answered up to the cycle after
+  -- and each read of a memory of one word is answered up to the cycle after
   abbrev pub ScalarsAnswer : Type 0
   ScalarsAnswer =
-      (s : Signals) (events : List Stamped) (last : ℕ) (accesses : List AccessNets) (owners : OwnerNets) (input : PlainInput) → ScalarsInTime core plan s events last accesses owners → HappensWell core plan events (first_contents core input)
-      → (arguments words : List ℕ) → RunScalars core s accesses owners arguments words → ArgumentsGiven core input s arguments → ArgumentsAreLater core events accesses
-      → (a : AccessNets) (w : WordNet) → Contains accesses a → a.kind ≡ Read → a.answer ≡ Some w → IsAnswered s events (suc last) a.number Read w.after w.net
+      (s : Signals) (events : List Stamped) (last : ℕ) (accesses : List AccessNets) (owners : OwnerNets) (input : PlainInput) → MemoriesInTime core plan s events last accesses owners → HappensWell core plan events (first_contents core input)
+      → ArgumentsAreLater core events accesses → (a : AccessNets) (w : WordNet) → Contains accesses a → a.kind ≡ Read → a.answer ≡ Some w
+      → IsScalar (kind_of core a.mem) → (port net : ℕ) → RunsScalar core s accesses owners port a.mem net → IsGiven core input s a.mem port → IsAnswered s events (suc last) a.number Read w.after w.net

@@ -1,5 +1,4 @@
-//! The words of the memories of a core in a run, where each of them is one word: registers hold what stands at their places, and each
-//! read is answered.
+//! The words of a core's registers, arguments and outputs in a run: they hold what stands at their places, and each read is answered.
 #![tactic(auto)]
 
 mod laws;

@@ -1,6 +1,8 @@
 -- What a refusal is displayed as.
-use Rattle.std.specs.Prelude.{ℕ, List, ◌++◌, codes, decimal}
+use Rattle.std.specs.Prelude.{ℕ, List, ◌++◌, codes, decimal, string_bytes}
 use Rattle.sp_setup.specs.Refusal.{Refusal, no_toml, key, range, missing, csv, size, plain_error}
+use Rattle.sp_setup.specs.declared.error.SetupEnd.{SetupEnd}
+use Rattle.sp_setup.specs.declared.error.SetupEnd.TheVariants as end
 use Rattle.sp_setup.specs.declared.error.SetupError.{SetupError}
 
 abbrev pub refusal_text : Refusal → List ℕ
@@ -13,3 +15,10 @@ refusal_text (size name want got) = codes "size " ++ (name ++ (codes ", want " +
 
 abbrev pub error_text : SetupError → List ℕ
 error_text e = refusal_text (plain_error e)
+
+-- and what it is where no setup was read
+abbrev pub end_text : SetupEnd → List ℕ
+end_text (end.Refused e) = error_text e
+end_text end.ReadFault = codes "read fault"
+end_text (end.TooLong name) = codes "too long: " ++ string_bytes name
+end_text end.Memory = codes "out of memory"

@@ -58,6 +58,24 @@ pub enum SetupEnd {
     Memory,
 }
 
+impl fmt::Display for SetupEnd {
+    ghost use Rattle.std.specs.Prelude.{Some};
+    ghost use Rattle.sp_setup.specs.ErrorText.{end_text};
+
+    ghost output = { λ end. Some (end_text end) };
+
+    fn fmt<W: fmt::Write>(&self, f: &mut fmt::Formatter<W>) -> fmt::Result {
+        match self {
+            SetupEnd::Refused(error) => write!(f, "{error}"),
+            SetupEnd::ReadFault => write!(f, "read fault"),
+            SetupEnd::TooLong { name } => write!(f, "too long: {name}"),
+            SetupEnd::Memory => write!(f, "out of memory"),
+        }
+    }
+}
+
+impl Error for SetupEnd {}
+
 impl From<AllocError> for SetupEnd {
     ghost use Rattle.std.specs.Prelude.{◌≡◌};
     ghost use Rattle.sp_setup.specs.declared.error.SetupEnd.TheVariants.{Memory};

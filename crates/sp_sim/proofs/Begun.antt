@@ -19,16 +19,16 @@ use Rattle.sp_sim.proofs.CellLemmas.{drives_driven, IsRow-put}
 use Rattle.sp_sim.proofs.Settled.{only_one, pair_first, first_of_pair}
 use Rattle.sp_sim.proofs.Served.{count_push, taken_delay, taken_next}
 
-zero_row : List ℕ → List (ℕ × ℕ)
+unfoldable pub zero_row : List ℕ → List (ℕ × ℕ)
 zero_row ns = map (λ n. (n, 0)) ns
 
 -- a row of zeros
-zero_nets : (ns : List ℕ) → nets_of (zero_row ns) ≡ ns
+pub zero_nets : (ns : List ℕ) → nets_of (zero_row ns) ≡ ns
 unfolding zero_row
 zero_nets [] = refl
 zero_nets (n ∷ ns) = ap (λ ms. n ∷ ms) (zero_nets ns)
 
-zero_words : (ns : List ℕ) (net : ℕ) → word_of (zero_row ns) net ≡ 0
+pub zero_words : (ns : List ℕ) (net : ℕ) → word_of (zero_row ns) net ≡ 0
 unfolding zero_row word_of
 zero_words [] net = refl
 zero_words (n ∷ ns) net = ap (λ w. if n == net then 0 else w) (zero_words ns net) ∙ same (n == net)

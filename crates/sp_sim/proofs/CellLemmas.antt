@@ -20,7 +20,7 @@ place_split cells at l = sym (take-append-drop at cells) ∙ ap (λ r. take at c
 pub right_at : (cells : List PlainCell) → IsNetlist cells → (at : ℕ) → at < length cells → IsRight cells (take at cells) (cell_at cells at)
 right_at cells h at l = h.right (take at cells) (cell_at cells at) (drop (suc at) cells) (place_split cells at l)
 
-contains_flat : {Y : Type 0} (f : PlainCell → List Y) (cells : List PlainCell) (at : ℕ) (y : Y) → at < length cells → Contains (f (cell_at cells at)) y → Contains (flat_map f cells) y
+pub contains_flat : {Y : Type 0} (f : PlainCell → List Y) (cells : List PlainCell) (at : ℕ) (y : Y) → at < length cells → Contains (f (cell_at cells at)) y → Contains (flat_map f cells) y
 contains_flat f cells at y l c =
     let x = cell_at cells at in
     let whole = Contains-append_right (flat_map f (take at cells)) (f x ++ flat_map f (drop (suc at) cells)) y (Contains-append_left (f x) (flat_map f (drop (suc at) cells)) y c) in
@@ -52,13 +52,13 @@ count_first p x xs e = count-cons p x xs ∙ ap (λ (b : Bool). cond b 1 0 + cou
 pub count_skip : {X : Type 0} (p : X → Bool) (x : X) (xs : List X) → p x ≡ false → count_by p (x ∷ xs) ≡ count_by p xs
 count_skip p x xs e = let h = count-cons p x xs ∙ ap (λ (b : Bool). cond b 1 0 + count_by p xs) e in omega (arith, h)
 
-count_at : {X : Type 0} (p : X → Bool) (xs : List X) (i : ℕ) (d : X) → i < length xs → p (get_or xs i d) ≡ true → 1 ≤ count_by p xs
+pub count_at : {X : Type 0} (p : X → Bool) (xs : List X) (i : ℕ) (d : X) → i < length xs → p (get_or xs i d) ≡ true → 1 ≤ count_by p xs
 count_at p [] i d l e = absurd (omega arith)
 count_at p (x ∷ xs) zero d l e = omega (arith, count_first p x xs e)
 count_at p (x ∷ xs) (suc i) d l e = omega (arith, count-cons p x xs, count_at p xs i d (omega arith) e)
 
 -- one element at most passes
-one_place : {X : Type 0} (p : X → Bool) (xs : List X) (d : X) → count_by p xs ≤ 1 → (i j : ℕ) → i < length xs → j < length xs → p (get_or xs i d) ≡ true → p (get_or xs j d) ≡ true → i ≡ j
+pub one_place : {X : Type 0} (p : X → Bool) (xs : List X) (d : X) → count_by p xs ≤ 1 → (i j : ℕ) → i < length xs → j < length xs → p (get_or xs i d) ≡ true → p (get_or xs j d) ≡ true → i ≡ j
 one_place p [] d one i j l m a b = absurd (omega arith)
 one_place p (x ∷ xs) d one zero zero l m a b = refl
 one_place p (x ∷ xs) d one zero (suc j) l m a b = absurd (omega (arith, count_first p x xs a, count_at p xs j d (omega arith) b))

@@ -23,3 +23,6 @@ pub mod Watched
 pub mod StepLemmas
 pub mod StepWords
 pub mod DenseRows
+pub mod StepNets
+pub mod Ordered
+pub mod Levelled

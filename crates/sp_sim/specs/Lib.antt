@@ -15,3 +15,4 @@ pub mod Writing
 pub mod Texts
 pub mod Programs
 pub mod Steps
+pub mod Levels

@@ -5,6 +5,7 @@ mod conflict;
 mod end;
 mod given;
 mod hold;
+mod levels;
 mod load;
 mod memory;
 mod over;

@@ -7,6 +7,7 @@ ghost use Rattle.sp_sim.specs.Programs.{in_part, IsProgram};
 ghost use Rattle.sp_sim.specs.Steps.{cell_of, cells_of};
 
 use crate::NoMemory;
+use crate::levels::by_levels;
 use crate::step::{Step, step_of};
 use sp_netlist::{Cell, Netlist, evaluation_order};
 use std::alloc::Global;
@@ -125,7 +126,8 @@ pub(crate) fn program_of(alloc: Global, netlist: &Netlist) -> Result<Program, No
 {
     let order = evaluation_order(alloc, netlist)?;
     let cells = netlist.cells();
-    let steps = steps_at(alloc, cells, &order)?;
+    let mut steps = steps_at(alloc, cells, &order)?;
+    by_levels(alloc, netlist, &mut steps)?;
     let reads = cells_in(alloc, cells, Part::Reads)?;
     let writes = cells_in(alloc, cells, Part::Writes)?;
     let kept = cells_in(alloc, cells, Part::Kept)?;

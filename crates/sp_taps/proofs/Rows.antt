@@ -1,6 +1,6 @@
 -- Banks in a row, one more at a time.
-use Rattle.std.proofs.Common.{◌≡◌, ℕ, ◌+◌, ◌<◌, false, List, [], ◌∷◌, ◌++◌, length, flat_map, Contains, All, slice_index_or, sym, subst, ◌∙◌, ◌⊎◌, inl, inr, ⊎_elim, arith}
-use Rattle.std.proofs.lemmas.List.{length_push, get_or_append_left, get_or_push}
+use Rattle.std.proofs.Common.{◌≡◌, ℕ, ◌+◌, ◌<◌, false, List, [], ◌∷◌, ◌++◌, length, flat_map, Contains, All, slice_index_or, refl, sym, ap, subst, ◌∙◌, ◌⊎◌, inl, inr, ⊎_elim, arith, append_assoc}
+use Rattle.std.proofs.lemmas.List.{length_push, get_or_append_left, get_or_push, append-nil}
 use Rattle.std.proofs.lemmas.List.Elements.{Contains-append_right, Contains-append_left, Contains-append_cases}
 use Rattle.std.proofs.lemmas.Grind.{flat_map-append}
 use Rattle.std.proofs.lemmas.Option.{slice_get_within}
@@ -8,8 +8,9 @@ use Rattle.sp_netlist.specs.Draft.{Draft}
 use Rattle.sp_gates.specs.Nets.{IsOpen}
 use Rattle.sp_gates.specs.Grows.{Grows}
 use Rattle.sp_gates.proofs.Growing.{Grows-join, Grows-same}
+use Rattle.sp_gates.proofs.Running.{none_joined}
 use Rattle.sp_taps.specs.declared.store.Store.{Store}
-use Rattle.sp_taps.specs.Stores.{AreStores}
+use Rattle.sp_taps.specs.Stores.{AreStores, AddsBanks, is_no_bank_part}
 use Rattle.sp_taps.specs.Wires.{IsWire, Promises, AreWires, wires_of}
 use Rattle.sp_taps.proofs.Promised.{store_stays, wire_stays}
 
@@ -62,3 +63,14 @@ placed_push P xs x n e old new i d l = go (split (let m = length_push xs x in om
 -- the nets of one more bank
 pub nets_push : (stores : List Store) (store : Store) → flat_map wires_of (stores ++ store ∷ []) ≡ flat_map wires_of stores ++ wires_of store
 nets_push stores store = flat_map-append wires_of stores (store ∷ [])
+
+-- banks alone are added by none, and by two parts that each add such
+pub no_banks : (a : Draft) → AddsBanks a a
+no_banks a = record { added = []; stands = sym (append-nil a.cells); all = refl }
+
+pub more_banks : (a b c : Draft) → AddsBanks a b → AddsBanks b c → AddsBanks a c
+more_banks a b c g h = record {
+  added = g.added ++ h.added;
+  stands = h.stands ∙ ap (λ xs. xs ++ h.added) g.stands ∙ append_assoc a.cells g.added h.added;
+  all = none_joined is_no_bank_part g.added h.added g.all h.all;
+}

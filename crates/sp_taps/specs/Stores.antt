@@ -1,10 +1,11 @@
 -- What banks with their ports do over time.
-use Rattle.std.specs.Prelude.{◌≡◌, ℕ, zero, suc, ◌+◌, ◌<◌, ◌≤◌, ◌&&◌, ◌==◌, if◌then◌else◌, List, [], ◌∷◌, ◌++◌, length, slice_index_or, count_by}
+use Rattle.std.specs.Prelude.{◌≡◌, ℕ, zero, suc, ◌+◌, ◌<◌, ◌≤◌, ◌&&◌, ◌==◌, Bool, true, false, not, if◌then◌else◌, List, [], ◌∷◌, ◌++◌, length, slice_index_or, count_by}
 use Rattle.sp_netlist.specs.declared.cell.Port.{Port}
-use Rattle.sp_netlist.specs.Cells.{PlainCell, bank_cell}
+use Rattle.sp_netlist.specs.Cells.{PlainCell, bank_cell, read_tap, write_tap}
 use Rattle.sp_netlist.specs.Cycle.{is_enabled_tap}
 use Rattle.sp_netlist.specs.Signals.{Signals, Holds}
 use Rattle.sp_netlist.specs.Draft.{Draft}
+use Rattle.sp_netlist.specs.Parts.{NoCell}
 use Rattle.sp_gates.specs.Nets.{HasNet}
 use Rattle.sp_gates.specs.Runs.{RunsOn}
 use Rattle.sp_gates.specs.Tested.{is_on}
@@ -30,6 +31,22 @@ pub record IsStore (d : Draft) (bank width len : ℕ) (store : Store) : Type 0 w
 abbrev pub bank_cells : (first width len count : ℕ) → List PlainCell
 bank_cells first width len zero = []
 bank_cells first width len (suc n) = bank_cells first width len n ++ bank_cell (first + n) width len ∷ []
+
+-- a bank, or a tap on one
+abbrev pub is_bank_part : PlainCell → Bool
+is_bank_part (bank_cell bank width len) = true
+is_bank_part (read_tap net bank enable addr) = true
+is_bank_part (write_tap bank enable addr word) = true
+is_bank_part cell = false
+
+abbrev pub is_no_bank_part : PlainCell → Bool
+is_no_bank_part cell = not (is_bank_part cell)
+
+-- cells were added at the end, all of which are banks and their taps
+pub record AddsBanks (old new : Draft) : Type 0 where
+  pub added : List PlainCell
+  pub stands : new.cells ≡ old.cells ++ added
+  pub all : NoCell is_no_bank_part added
 
 -- each of a row of banks, from a number on
 abbrev pub AreStores : Draft → (first width len : ℕ) → List Store → Type 0

@@ -5,7 +5,7 @@ ghost use Rattle.sp_netlist.specs.Rules.{IsWidth, IsLength, is_bank};
 ghost use Rattle.sp_netlist.specs.Draft.{IsDraft, Keeps, driver_count, net_count};
 ghost use Rattle.sp_taps.specs.declared.store.Store.{Store};
 ghost use Rattle.sp_taps.specs.Wires.{Promises, AreInRow, AreInRows, AreWires, wires_of};
-ghost use Rattle.sp_taps.specs.Stores.{IsStore, AreStores, bank_cells};
+ghost use Rattle.sp_taps.specs.Stores.{IsStore, AreStores, AddsBanks, bank_cells};
 
 use crate::store::Store;
 use sp_netlist::{Builder, Cell, NoMemory};
@@ -79,6 +79,7 @@ pub fn add_store(builder: &mut Builder, bank: u64, width: u8, len: u32) -> Resul
     ensures store { IfOk result (IsStore builder.new bank width len) }
     ensures banks { OnOk result (filter is_bank builder.new.cells ≡ filter is_bank builder.old.cells ++ bank_cell bank width len ∷ []) }
     ensures one_more { OnOk result (count_by is_bank builder.new.cells ≡ bank + 1) }
+    ensures cells { OnOk result (AddsBanks builder.old builder.new) }
 {
     let store = promise_ports(builder, width)?;
     add_taps(builder, bank, width, len, &store)?;
@@ -106,6 +107,7 @@ pub fn add_stores(
     ensures stores { IfOk result (λ stores. AreStores builder.new first width len stores.items) }
     ensures banks { OnOk result (filter is_bank builder.new.cells ≡ filter is_bank builder.old.cells ++ bank_cells first width len count) }
     ensures more { OnOk result (count_by is_bank builder.new.cells ≡ first + count) }
+    ensures cells { OnOk result (AddsBanks builder.old builder.new) }
 {
     let mut stores = Vec::new(alloc);
     for i in 0..count {

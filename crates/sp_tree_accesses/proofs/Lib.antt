@@ -7,5 +7,6 @@ pub mod Allowed
 pub mod Walking
 pub mod Nodes
 pub mod Small
+pub mod Indices
 pub mod Standing
 pub mod AnswerKinds

@@ -2,7 +2,7 @@
 use Rattle.std.proofs.Common.{◌≡◌, ℕ, suc, ◌+◌, ◌-◌, ◌<◌, inl, inr, Bool, true, false, if◌then◌else◌, List, [], ◌∷◌, ◌++◌, length, replicate, slice_index, slice_index_or, Option, Some, None, refl, sym, ◌∙◌, ap, subst, arith, append_assoc}
 use Rattle.std.proofs.lemmas.Bool.{eq-eqb}
 use Rattle.std.proofs.lemmas.List.{length-append}
-use Rattle.std.proofs.lemmas.List.Elements.{Contains-append_cases, Contains-get_or}
+use Rattle.std.proofs.lemmas.List.Elements.{All-weaker, Contains-append_cases, Contains-get_or}
 use Rattle.std.specs.Prelude.{◌≢◌, All}
 use Rattle.std.specs.List.{Contains}
 use Rattle.sp_words.specs.declared.kind.Kind.TheVariants.{ArgIn}
@@ -13,7 +13,7 @@ use Rattle.sp_gates.specs.Nets.{HasNet}
 use Rattle.sp_gates.proofs.Growing.{HasNet-stays}
 use Rattle.sp_core.specs.declared.operation.OpKind.{OpKind}
 use Rattle.sp_core.specs.declared.operation.OpKind.TheVariants as kind
-use Rattle.sp_core.specs.Declarations.{mem, kind_of}
+use Rattle.sp_core.specs.Declarations.{mem, kind_of, dims}
 use Rattle.sp_core.specs.Latency.{latency, latency_by, read_of, read_latency}
 use Rattle.sp_core.specs.PlainCore.{PlainOp, PlainNode, PlainCore}
 use Rattle.sp_core.specs.Typed.{taken_types}
@@ -24,7 +24,7 @@ use Rattle.sp_pipe.specs.Acts.{ActsAt}
 use Rattle.sp_pipe.specs.Right.{IsAt}
 use Rattle.sp_pipe.specs.Values.{taken_width}
 use Rattle.sp_part_runs.specs.ActsCircuits.{IsActOf, IsOpOf, is_answered, net_of, answer_of, of_word, of_count, of_live, of_read, of_write, of_enq, of_deq, of_reset, of_one, of_two, of_shift, of_mux, of_cast}
-use Rattle.sp_part_runs.specs.ActsEntries.{IsOpAt, word_that_changes}
+use Rattle.sp_part_runs.specs.ActsEntries.{IsOpAt, index_words, word_that_changes}
 use Rattle.sp_circuit_ops.specs.declared.ops.WordNet.{WordNet}
 use Rattle.sp_circuit_ops.proofs.Typing.{same_width}
 use Rattle.sp_time.specs.Lists.{Each}
@@ -34,9 +34,11 @@ use Rattle.sp_access_nets.specs.declared.access.AccessNets.{AccessNets}
 use Rattle.sp_access_nets.specs.Accesses.{answer_in, AreHandedOn}
 use Rattle.sp_access_nets.specs.Laws.{RulesNameMemories, net_in, answer_nets, ReservedAreAnswers, EachIsOfOperation}
 use Rattle.sp_tree_handed.specs.Lists.{NumberedOps, lists_in}
+use Rattle.sp_tree_handed.specs.Scalars.{IsInBanks}
 use Rattle.sp_tree_handed.specs.Standing.{IsListStanding, AreListsStanding, BoundsReadArguments, AccessStands}
 use Rattle.sp_tree_accesses.specs.Accesses.{AreAllAccesses, no_list, one_list}
-use Rattle.sp_tree_accesses.proofs.Allowed.{IsRightAccess, right_at, own_kind}
+use Rattle.sp_tree_accesses.proofs.Allowed.{IsRightAccess, right_at, own_kind, own_dims}
+use Rattle.sp_tree_accesses.proofs.Indices.{index_nets, rank_is, index_each}
 use Rattle.sp_tree_accesses.proofs.Rules.{IsListRight}
 use Rattle.sp_tree_accesses.proofs.Told.{standing_accesses}
 
@@ -124,6 +126,10 @@ module _ (core : PlainCore) where
               HasNet-stays stand.draft d v.net (width_of (mem core x.mem).ty) stand.grows (subst (λ n. HasNet stand.draft n (width_of (mem core x.mem).ty)) told.net (subst (HasNet stand.draft (net_of p.act)) wide (stand.answers k p at_p told.answered)));
           later = λ v read e other. let told = answer_told p.act v (sym answer_is ∙ e) in
               read_later list op p x.mem v (stand.after k op p at at_p told.answered) (λ once. early once op x.mem (k, at.within, at.is op) (sym kind_is ∙ read) named) other (sym kind_is ∙ read) named (own_kind core x.mem rule.on_chip) told.after;
+          index = λ banks. All-weaker (λ net. HasNet stand.draft net 32) (λ net. HasNet d net 32) (λ net s. HasNet-stays stand.draft d net 32 stand.grows s) (index_words x.kind x.operands.items)
+              (subst (λ j. All (λ net. HasNet stand.draft net 32) (index_words j x.operands.items)) (sym kind_is)
+              (index_nets stand.draft p.ty x.operands.items (length p.args.items) acts.taken.each op.kind p.act like.kinds acts.taken.nets));
+          each_index = λ banks. each_index (subst IsInBanks (own_kind core x.mem rule.on_chip) banks);
         }
           where
             rule : IsRightAccess core op x.mem
@@ -137,6 +143,12 @@ module _ (core : PlainCore) where
 
             each : length x.operands.items ≡ length op.args
             each = acts.taken.each ∙ ap length like.taken
+
+            each_index : IsInBanks (mem core x.mem).kind → length (index_words x.kind x.operands.items) ≡ length (dims core x.mem)
+            each_index banks =
+                ap (λ j. length (index_words j x.operands.items)) kind_is
+                ∙ index_each op.kind (mem core x.mem).kind (mem core x.mem).start op.ty rule.indices x.operands.items banks rule.allowed (each ∙ rule.takes)
+                ∙ (rule.each_index ∙ (rank_is (mem core x.mem).kind (length (mem core x.mem).dims) banks ∙ sym (ap length (own_dims core x.mem rule.on_chip))))
 
             some : x.kind ≡ kind.Write → 0 < length x.operands.items
             some e = (let l = write_takes op.kind op.ty rule.indices (sym kind_is ∙ e) in let t = rule.takes in let q = each in omega (arith, l, t, q))

@@ -34,9 +34,10 @@ use Rattle.sp_access_nets.specs.Accesses.{is_some, answer_in, AccessesNameMemori
 use Rattle.sp_access_nets.specs.Laws.{RulesNameMemories, EachHasAccess, EachIsOfOperation}
 use Rattle.sp_tree_events.specs.ToldItems.{IsListed}
 use Rattle.sp_tree_handed.specs.Lists.{NumberedOps}
+use Rattle.sp_tree_handed.specs.Scalars.{IsInBanks}
 use Rattle.sp_tree_handed.specs.Standing.{IsListStanding, AreListsStanding}
 use Rattle.sp_tree_accesses.specs.Accesses.{AreAllAccesses, no_list, one_list}
-use Rattle.sp_tree_accesses.specs.Laws.{HasAccess, IsInBanks, AreAccessesAnswered}
+use Rattle.sp_tree_accesses.specs.Laws.{HasAccess, AreAccessesAnswered}
 use Rattle.sp_tree_accesses.proofs.Going.{Goes}
 use Rattle.sp_tree_accesses.proofs.Numbers.{HasIn}
 use Rattle.sp_tree_accesses.proofs.Rules.{IsListRight}

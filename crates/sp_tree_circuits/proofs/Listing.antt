@@ -14,6 +14,7 @@ use Rattle.sp_fitting.specs.Fitting.{EntriesFit}
 use Rattle.sp_fitting.proofs.Lists.{masks_are_bits}
 use Rattle.sp_fitting.proofs.Rules.{word_list_right}
 use Rattle.sp_part_runs.specs.ActsEntries.{AreEntries}
+use Rattle.sp_part_runs.proofs.ActsIndices.{indices_are_words}
 use Rattle.sp_plan.specs.PlainPlan.{PlainPlan}
 use Rattle.sp_machine.specs.Laws.{told}
 use Rattle.sp_machine.specs.Stamps.{Stamped, moved, list_stamped, in_a_row}
@@ -45,7 +46,7 @@ listed_within core n ops lists number t e h =
 
 -- what a list did, where it keeps its rules and its words fit
 pub one_did : (core : PlainCore) (around : Around) (list : List PlainOp) (ty : Ty) (scope : Scope) (es : List Entry) → is_word_list core around list ty ≡ true → AreEntries scope list es → EntriesFit list es → DidList scope list es
-one_did core around list ty scope es right done fits = record { entries = done; bits = masks_are_bits core around list es (word_list_right core around list ty right).0 fits }
+one_did core around list ty scope es right done fits = record { entries = done; bits = masks_are_bits core around list es (word_list_right core around list ty right).0 fits; indices = indices_are_words core around list es (word_list_right core around list ty right).0 fits }
 
 module _ (core : PlainCore) (plan : PlainPlan) (delays : Delays) (s : Signals) (events : List Stamped) (last t n : ℕ) (le : t ≤ last) (ops : List PlainOp) (near : List Near) (env : Nets) (lists : List ListRun) (c : Child) (word : ℕ) (w : ListCircuit core plan s near env ops c word)
     (stand : (r : ListRun) → Contains lists r → suc r.cycle ≤ t → AreStanding s (suc r.cycle) near env r.scope) (answered : AreAnsweredInTime s events last n ops w.ps) (told : AreEventsOf events (all_listed core n ops lists) n (length ops)) where

@@ -68,4 +68,5 @@ module _ (core : PlainCore) (plan : PlainPlan) (delays : Delays) (s : Signals) (
       };
       at = λ u e l happens. let x = told.all number u e low high happens in sym x.2 ∙ h.at u x.0 l x.1;
       word = λ u e l happens is. let x = told.all number u e low high happens in h.word u x.0 l x.1 is ∙ ap (λ a. Some a) x.3;
+      index = λ u e l happens. let x = told.all number u e low high happens in h.index u x.0 l x.1;
     }

@@ -19,6 +19,7 @@ acts_in_whole s whole part last n kind enable operands same acts = record {
   enabled = record { on = λ t l h. (let x = same.into t h.0 h.1 in acts.enabled.on t l (x.0, x.1)); only = λ t l h. (let b = acts.enabled.only t l h in let x = same.back t b.0 b.1 in (x.0, x.1)) };
   at = λ t e l h. (let x = same.into t e h in sym x.2.indices ∙ acts.at t x.0 l x.1);
   word = λ t e l h c. (let x = same.into t e h in acts.word t x.0 l x.1 c ∙ ap Some x.2.act);
+  index = λ t e l h. (let x = same.into t e h in acts.index t x.0 l x.1);
 }
 
 answered_in_part : (s : Signals) (whole part : List Stamped) (last first : ℕ) (ops : List PlainOp) (ps : List PipeOp) → AgreeIn whole part first (first + length ops) → AreAnsweredInTime s whole last first ops ps → AreAnsweredInTime s part last first ops ps

@@ -7,12 +7,12 @@ use Rattle.sp_gates.specs.Grows.{Grows}
 use Rattle.sp_gates.specs.Nets.{HasNet}
 use Rattle.sp_words.specs.declared.kind.Kind.TheVariants.{ArgIn}
 use Rattle.sp_core.specs.declared.operation.OpKind.TheVariants.{Read, Write}
-use Rattle.sp_core.specs.Declarations.{mem, kind_of}
+use Rattle.sp_core.specs.Declarations.{mem, kind_of, dims}
 use Rattle.sp_core.specs.Latency.{latency, read_latency}
 use Rattle.sp_core.specs.PlainCore.{PlainOp, PlainNode, PlainCore}
 use Rattle.sp_pipe.specs.Acts.{AreActs}
 use Rattle.sp_part_runs.specs.ActsCircuits.{AreOpsOf}
-use Rattle.sp_part_runs.specs.ActsEntries.{word_that_changes}
+use Rattle.sp_part_runs.specs.ActsEntries.{index_words, word_that_changes}
 use Rattle.sp_circuit_ops.specs.declared.ops.WordNet.{WordNet}
 use Rattle.sp_op_nets.specs.declared.acted.ActedList.{ActedList}
 use Rattle.sp_op_nets.specs.Acted.{AnswersStand, AreAnsweredAfter}
@@ -21,6 +21,7 @@ use Rattle.sp_tree_handed.specs.declared.owners.Keeping.{Keeping}
 use Rattle.sp_tree_handed.specs.declared.owners.OwnerNets.{OwnerNets}
 use Rattle.sp_tree_handed.specs.declared.owners.Renewal.{Renewal}
 use Rattle.sp_tree_handed.specs.Lists.{NumberedOps, lists_in}
+use Rattle.sp_tree_handed.specs.Scalars.{IsInBanks}
 
 -- the operations of a list as its circuit has them, from the number of its first one on: in some draft before, each access acts by nets of
 -- its own where its group is issued, and each read or take is to be answered after its latency, or at once
@@ -46,13 +47,16 @@ abbrev pub BoundsReadArguments : PlainCore → PlainNode → Type 0
 BoundsReadArguments core node =
     (list : NumberedOps) → Contains (lists_in node 0) list → list.at_once ≡ true → (op : PlainOp) (m : ℕ) → Contains list.ops op → op.kind ≡ Read → op.mem ≡ Some m → kind_of core m ≡ ArgIn
 
--- an access has its nets: a write that of its word, and what is answered that of the answer, each as wide as the memory's words
+-- an access has its nets: a write that of its word, and what is answered that of the answer, each as wide as the memory's words; one of
+-- a memory in banks has a net of 32 bits for its index in each dimension
 pub record AccessStands (d : Draft) (core : PlainCore) (a : AccessNets) : Type 0 where
   pub enable : HasNet d a.enable 1
   pub some : a.kind ≡ Write → 0 < length a.operands.items
   pub word : a.kind ≡ Write → HasNet d (word_that_changes a.kind a.operands.items) (width_of (mem core a.mem).ty)
   pub answer : (w : WordNet) → a.answer ≡ Some w → HasNet d w.net (width_of (mem core a.mem).ty)
   pub later : (w : WordNet) → a.kind ≡ Read → a.answer ≡ Some w → kind_of core a.mem ≢ ArgIn → w.after ≡ read_latency (kind_of core a.mem)
+  pub index : IsInBanks (kind_of core a.mem) → All (λ net. HasNet d net 32) (index_words a.kind a.operands.items)
+  pub each_index : IsInBanks (kind_of core a.mem) → length (index_words a.kind a.operands.items) ≡ length (dims core a.mem)
 
 -- so have owners
 pub record KeepingStands (d : Draft) (core : PlainCore) (k : Keeping) : Type 0 where

@@ -15,6 +15,7 @@ use Rattle.sp_core.specs.Scope.{Scope, in_lanes}
 use Rattle.sp_fitting.specs.Fitting.{HistoryFits}
 use Rattle.sp_fitting.proofs.Lists.{masks_are_bits}
 use Rattle.sp_fitting.proofs.Rules.{here_right, word_list_right}
+use Rattle.sp_part_runs.proofs.ActsIndices.{indices_are_words}
 use Rattle.sp_part_runs.specs.BodiesRuns.{IsOnAt}
 use Rattle.sp_part_runs.specs.ControlBranches.{test_run}
 use Rattle.sp_part_runs.specs.ControlParts.{Tested, Begins, Ends, Tells, runs_of}
@@ -85,8 +86,8 @@ module _ (core : PlainCore) (plan : PlainPlan) (delays : Delays) where
     same_rans (q ∷ qs) = ap (λ rest. list_ran core ops (test_list k q) ∷ rest) (same_rans qs)
 
     test_did : (around : Around) (earlier : List ℕ) (scope : Scope) (h : History) → IsRight core around earlier (branch ops first second) → AllDone in_lanes (branch ops first second) scope h → HistoryFits core (branch ops first second) h → DidList scope ops (tested_in h)
-    test_did around earlier scope (branch_ran es true h) right done fits = record { entries = done.0; bits = masks_are_bits core around ops es (word_list_right core around ops Bit (here_right core around earlier (branch ops first second) right.0).0).0 fits.0 }
-    test_did around earlier scope (branch_ran es false h) right done fits = record { entries = done.0; bits = masks_are_bits core around ops es (word_list_right core around ops Bit (here_right core around earlier (branch ops first second) right.0).0).0 fits.0 }
+    test_did around earlier scope (branch_ran es true h) right done fits = record { entries = done.0; bits = masks_are_bits core around ops es (word_list_right core around ops Bit (here_right core around earlier (branch ops first second) right.0).0).0 fits.0; indices = indices_are_words core around ops es (word_list_right core around ops Bit (here_right core around earlier (branch ops first second) right.0).0).0 fits.0 }
+    test_did around earlier scope (branch_ran es false h) right done fits = record { entries = done.0; bits = masks_are_bits core around ops es (word_list_right core around ops Bit (here_right core around earlier (branch ops first second) right.0).0).0 fits.0; indices = indices_are_words core around ops es (word_list_right core around ops Bit (here_right core around earlier (branch ops first second) right.0).0).0 fits.0 }
     test_did around earlier scope h right done fits = elim done [ ]
 
     side_is : (scope : Scope) (h : History) → AllDone in_lanes (branch ops first second) scope h → (last_word (tested_in h) == 1) ≡ side_taken core plan delays h

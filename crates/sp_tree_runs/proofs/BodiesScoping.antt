@@ -20,6 +20,7 @@ use Rattle.sp_plan.specs.PlainPlan.{PlainPlan}
 use Rattle.sp_machine.specs.Transfers.{Delays}
 use Rattle.sp_node_runs.specs.Runs.{Placed, side_in, turns_from, body_in, stage_at, stage_history, stage_of, groups_from, stage_in}
 use Rattle.sp_part_runs.specs.ActsEntries.{AreEntries}
+use Rattle.sp_part_runs.proofs.ActsIndices.{indices_are_words, group_indices}
 use Rattle.sp_node_runs.specs.Bodies.{DidGroups}
 use Rattle.sp_node_runs.specs.BodiesBounds.{DidBound, DidBounds}
 use Rattle.sp_node_runs.specs.BodiesSpans.{DidSpans}
@@ -142,7 +143,7 @@ module _ (core : PlainCore) where
   bound_did : (around : Around) (scope : Scope) (ops : List PlainOp) (es : List Entry) → is_bound core around ops ≡ true → AreEntries scope ops es → EntriesFit ops es → DidBound scope ops es
   bound_did around scope ops es right done fits =
       let w = word_list_right core around ops int_type (and_parts (is_word_list core around ops int_type) (list_all (is_early core around) ops) right).0 in
-      record { list = record { entries = done; bits = masks_are_bits core around ops es w.0 fits }; fits = last_fits ops es int_type w.1 fits }
+      record { list = record { entries = done; bits = masks_are_bits core around ops es w.0 fits; indices = indices_are_words core around ops es w.0 fits }; fits = last_fits ops es int_type w.1 fits }
 
   all_bounds : (around : Around) (scope : Scope) (counters : List PlainCounter) (bs : List Bounds) → list_all (is_counter_right core around) counters ≡ true → AllZip (BoundsDone scope) counters bs → AllZip BoundsFit counters bs → DidBounds scope counters bs
   all_bounds around scope [] [] right done fits = tt
@@ -167,6 +168,7 @@ module _ (core : PlainCore) where
           each = zip_length (λ v es. AreEntries (in_group scope (loops_of in_lanes counters bs) v) ops es) (group_values (loops_of in_lanes counters bs)) groups done.1;
           entries = λ g l. zip_at (λ v es. AreEntries (in_group scope (loops_of in_lanes counters bs) v) ops es) (group_values (loops_of in_lanes counters bs)) groups [] [] g done.1 l;
           bits = bits_of (within around counters owned) ops p.1 groups fits.1;
+          indices = group_indices core (within around counters owned) ops p.1 groups fits.1;
         };
       }
   groups_did around earlier counters owned ops comb scope h right fits done = elim done [ ]

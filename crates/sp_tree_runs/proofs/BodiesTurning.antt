@@ -22,6 +22,7 @@ use Rattle.sp_fitting.specs.Fitting.{HistoryFits, EntriesFit, TurnsFit}
 use Rattle.sp_fitting.proofs.Lists.{masks_are_bits}
 use Rattle.sp_fitting.proofs.Rules.{here_right, word_list_right}
 use Rattle.sp_part_runs.specs.ActsEntries.{AreEntries}
+use Rattle.sp_part_runs.proofs.ActsIndices.{indices_are_words}
 use Rattle.sp_part_runs.specs.BodiesRuns.{IsOnAt}
 use Rattle.sp_part_runs.specs.ControlMachines.{MachineRan, first_run, tests_from, nexts_from, tests_of, nexts_of, tests, nexts}
 use Rattle.sp_part_runs.specs.ControlParts.{Ran, Tested, Begins, Ends, runs_of}
@@ -76,7 +77,7 @@ module _ (core : PlainCore) (plan : PlainPlan) (delays : Delays) (work : ListsWo
         (b.1, c.0, c.1)
 
     one_did : (around : Around) (list : List PlainOp) (ty : Ty) (scope : Scope) (es : List Entry) → is_word_list core around list ty ≡ true → AreEntries scope list es → EntriesFit list es → DidList scope list es
-    one_did around list ty scope es right done fits = record { entries = done; bits = masks_are_bits core around list es (word_list_right core around list ty right).0 fits }
+    one_did around list ty scope es right done fits = record { entries = done; bits = masks_are_bits core around list es (word_list_right core around list ty right).0 fits; indices = indices_are_words core around list es (word_list_right core around list ty right).0 fits }
 
     module _ (around : Around) (earlier : List ℕ) (right : IsRight core around earlier whole) where
       start_did : (scope : Scope) (h : History) → AllDone in_lanes whole scope h → HistoryFits core whole h → DidList scope start (started_in core plan delays k n start ops node after h)

@@ -1,7 +1,7 @@
-use Rattle.sp_build.proofs.Carrying.{none_waits, cost_kept}
+use Rattle.sp_build.proofs.Carrying.{cost_kept}
 use Rattle.sp_compile.specs.Choices.{lanes_of}
 use Rattle.sp_build.proofs.laws.cores_keep_costs.Goals as goal
 
 pub returns : goal.returns
 returns c p plan is =
-    cost_kept p plan c.chosen_plans_are_valid.ensures (c.programs_stay_cores.ensures p is) (c.programs_are_by_lane.ensures p is) (c.chosen_plans_run.ensures (lanes_of p) plan none_waits 0) (λ delays d. c.cores_end_in_their_cost.ensures (lanes_of p) plan delays d)
+    cost_kept p plan c.chosen_plans_are_valid.ensures (c.programs_stay_cores.ensures p is) (c.programs_are_by_lane.ensures p is) (λ delays d. c.cores_end_in_their_cost.ensures (lanes_of p) plan delays d)

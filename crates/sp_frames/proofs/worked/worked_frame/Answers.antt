@@ -11,7 +11,8 @@ close_frame-requires-clause-none_open c = λ n o. c.in_ok-nets.ensures.none_open
 
 pub close_frame-requires-clause-no_output : goal.close_frame-requires-clause-no_output
 close_frame-requires-clause-no_output c =
-    c.port_laws.ensures.no_output _ c.hold.new.builder _ _ c.in_ok-nets.ensures.cells (more_gates _ _ _ c.in_ok-one.ensures.fills.gates c.in_ok-done.ensures.fills.gates)
+    c.port_laws.ensures.no_output _ c.hold.new.builder _ _ c.in_ok-nets.ensures.cells
+    (c.port_laws.ensures.gates_inside _ c.hold.new.builder (more_gates _ _ _ c.in_ok-one.ensures.fills.gates c.in_ok-done.ensures.fills.gates))
 
 pub close_frame-requires-clause-nets : goal.close_frame-requires-clause-nets
 close_frame-requires-clause-nets c =

@@ -1,4 +1,4 @@
-use Rattle.std.proofs.Common.{List, ap, ◌∙◌, ◌++◌, ◌∷◌, [], arith}
+use Rattle.std.proofs.Common.{List, refl, ap, ◌∙◌, ◌++◌, ◌∷◌, [], arith}
 use Rattle.sp_netlist.specs.Cells.{PlainCell, bank_cell, write_tap, read_tap}
 use Rattle.sp_netlist.specs.Draft.{driver_count}
 use Rattle.sp_netlist.specs.Rules.{is_bank}
@@ -67,3 +67,10 @@ returns-clause-one_more c =
     let a = c.in_ok-add_taps.ensures in
     let cells = a.added ∙ ap (λ (cs : List PlainCell). cs ++ bank_cell c.args.bank c.args.width c.args.len ∷ write_tap c.args.bank c.in_ok-store.store.write c.in_ok-store.store.write_at c.in_ok-store.store.word ∷ read_tap c.in_ok-store.store.found c.args.bank c.in_ok-store.store.read c.in_ok-store.store.read_at ∷ []) p.same_cells in
     one_bank c.args.builder.now c.add_taps.new.builder c.args.bank c.args.width c.args.len c.in_ok-store.store c.requires.draft c.requires.bank cells
+
+pub returns-clause-cells : goal.returns-clause-cells
+returns-clause-cells c =
+    let p = c.in_ok-store.ensures in
+    let a = c.in_ok-add_taps.ensures in
+    let cells = a.added ∙ ap (λ (cs : List PlainCell). cs ++ bank_cell c.args.bank c.args.width c.args.len ∷ write_tap c.args.bank c.in_ok-store.store.write c.in_ok-store.store.write_at c.in_ok-store.store.word ∷ read_tap c.in_ok-store.store.found c.args.bank c.in_ok-store.store.read c.in_ok-store.store.read_at ∷ []) p.same_cells in
+    record { added = _; stands = cells; all = refl }

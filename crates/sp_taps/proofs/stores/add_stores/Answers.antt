@@ -5,7 +5,7 @@ use Rattle.sp_netlist.specs.Cells.{PlainCell, bank_cell}
 use Rattle.sp_netlist.specs.Rules.{is_bank}
 use Rattle.sp_taps.specs.Stores.{IsStore, bank_cells}
 use Rattle.sp_taps.specs.Wires.{AreInRow, AreWires, wires_of}
-use Rattle.sp_taps.proofs.Rows.{none_promised, promises_join, wires_kept, stores_kept, placed_push, nets_push}
+use Rattle.sp_taps.proofs.Rows.{none_promised, no_banks, more_banks, promises_join, wires_kept, stores_kept, placed_push, nets_push}
 use Rattle.sp_taps.proofs.stores.add_stores.Goals as goal
 
 pub loop-i-init : goal.loop-i-init
@@ -23,6 +23,7 @@ loop-i-init c =
       stores = λ i other l. absurd (omega (arith, empty, l));
       banks = sym (append-nil (filter is_bank c.args.builder.now.cells));
       more = omega (arith, first);
+      cells = no_banks c.args.builder.now;
     }
 
 pub loop-i-preserved : goal.loop-i-preserved
@@ -50,4 +51,5 @@ loop-i-preserved c =
           ∙ ap (λ n. filter is_bank c.args.builder.now.cells ++ (bank_cells c.args.first c.args.width c.args.len c.loop-i.i ++ bank_cell (c.args.first + n) c.args.width c.args.len ∷ [])) at
           ∙ ap (λ n. filter is_bank c.args.builder.now.cells ++ bank_cells c.args.first c.args.width c.args.len n) (sym (add-one c.loop-i.i));
       more = omega (arith, one, at);
+      cells = more_banks _ _ _ i.cells e.cells;
     }

@@ -3,7 +3,7 @@ use Rattle.std.proofs.lemmas.Bool.{lt-ltb}
 use Rattle.sp_core.specs.Around.{nothing}
 use Rattle.sp_core.specs.Declarations.{mem}
 use Rattle.sp_tree_handed.specs.Lists.{lists_in}
-use Rattle.sp_tree_accesses.specs.Laws.{IsInBanks}
+use Rattle.sp_tree_handed.specs.Scalars.{IsInBanks}
 use Rattle.sp_tree_accesses.proofs.Allowed.{of_core, own_kind}
 use Rattle.sp_tree_accesses.proofs.Going.{lists_go}
 use Rattle.sp_tree_accesses.proofs.Rules.{lists_right}

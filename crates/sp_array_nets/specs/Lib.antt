@@ -1,0 +1,6 @@
+pub mod Touches
+pub mod Arrays
+pub mod Runs
+pub mod Banks
+pub mod Fits
+pub mod Laws

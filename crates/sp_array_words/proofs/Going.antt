@@ -1,0 +1,147 @@
+-- The accesses of an SRAM are those of its circuit, and each read is answered.
+use Rattle.std.proofs.Common.{◌≡◌, ◌≢◌, ℕ, suc, ◌<◌, ◌^◌, List, [], ◌∷◌, ◌++◌, length, map, All, Option, Some, refl, sym, ap, subst, ◌∙◌, arith}
+use Rattle.std.specs.List.{AllZip, Contains, filter}
+use Rattle.std.proofs.lemmas.List.Elements.{All-contains}
+use Rattle.sp_words.specs.declared.kind.Kind.{Kind}
+use Rattle.sp_words.specs.declared.kind.Kind.TheVariants.{Sram, ArgIn}
+use Rattle.sp_words.specs.Memory.{Contents}
+use Rattle.sp_netlist.specs.Signals.{Signals}
+use Rattle.sp_core.specs.declared.operation.OpKind.{OpKind}
+use Rattle.sp_core.specs.declared.operation.OpKind.TheVariants.{Read, Write}
+use Rattle.sp_core.specs.Declarations.{kind_of}
+use Rattle.sp_core.specs.Events.{Event, touches}
+use Rattle.sp_core.specs.Latency.{read_latency}
+use Rattle.sp_core.specs.PlainCore.{PlainCore}
+use Rattle.sp_plan.specs.PlainPlan.{PlainPlan, mem_plan}
+use Rattle.sp_time.specs.Places.{Place}
+use Rattle.sp_machine.specs.Stamps.{Stamped}
+use Rattle.sp_core_ports.specs.CopiesLaws.{HasCopy}
+use Rattle.sp_core_ports.specs.UsedReaders.{duplicate_at}
+use Rattle.sp_mem.specs.declared.part.Touch.{Touch}
+use Rattle.sp_mem.specs.Copies.{copy_at}
+use Rattle.sp_banked.specs.declared.part.Banked.{Banked}
+use Rattle.sp_circuit_ops.specs.declared.ops.WordNet.{WordNet}
+use Rattle.sp_part_runs.specs.ActsEntries.{index_words}
+use Rattle.sp_node_runs.specs.BodiesTold.{ActsInTime}
+use Rattle.sp_memory_words.specs.Accesses.{IsOperation, OperationsStay}
+use Rattle.sp_memory_words.specs.Answers.{IsAnswered}
+use Rattle.sp_memory_words.specs.Moments.{HappensWell}
+use Rattle.sp_bank_words.specs.Accesses.{reads_in, writes_in, IsMemoryOf}
+use Rattle.sp_bank_words.specs.Acting.{StandsInTime, WriteGoes, ReadGoes, MemoryGoes}
+use Rattle.sp_bank_words.specs.Acting as acting
+use Rattle.sp_bank_words.specs.Laws.{OperationsGo}
+use Rattle.sp_bank_words.proofs.Events.{each_at}
+use Rattle.sp_bank_words.proofs.Filtered.{filter_has, filter_from}
+use Rattle.sp_access_nets.specs.declared.access.AccessNets.{AccessNets}
+use Rattle.sp_access_nets.specs.Picking.{is_to, PicksAccessesTo}
+use Rattle.sp_tree_handed.specs.declared.owners.OwnerNets.{OwnerNets}
+use Rattle.sp_tree_handed.specs.Scalars.{IsInBanks}
+use Rattle.sp_tree_handed.specs.Standing.{AccessStands}
+use Rattle.sp_tree_nets.specs.Emitted.{HasNoTransfer}
+use Rattle.sp_scalar_nets.specs.Lists.{answer_net, is_reader}
+use Rattle.sp_scalar_nets.proofs.Answering.{reader_answers, answers_reader}
+use Rattle.sp_scalar_nets.proofs.Picked.{picked}
+use Rattle.sp_scalar_words.specs.InTime.{MemoriesInTime}
+use Rattle.sp_array_nets.specs.Arrays.{IsArrayOf}
+use Rattle.sp_array_nets.specs.Touches.{IsReadBy, IsWriteBy}
+use Rattle.sp_array_words.proofs.Lists.{numbers_zip, both_at, ends}
+use Rattle.sp_array_words.proofs.Changes.{is_written}
+
+-- the numbers of the accesses that are to be answered by a memory, and of those that write to it
+abbrev pub reading : (mem : ℕ) → List AccessNets → List ℕ
+reading m accesses = map (λ (a : AccessNets). a.number) (filter (is_reader m) accesses)
+
+abbrev pub writing : (mem : ℕ) → List AccessNets → List ℕ
+writing m accesses = map (λ (a : AccessNets). a.number) (filter (is_to m Write) accesses)
+
+no_argument : (k : Kind) → k ≡ Sram → k ≢ ArgIn
+no_argument k e h = absurd (cc (e, h))
+
+module _ (core : PlainCore) (plan : PlainPlan) (s : Signals) (events : List Stamped) (last : ℕ) (accesses : List AccessNets) (owners : OwnerNets) (h : MemoriesInTime core plan s events last accesses owners) (first : Place → Option Contents) (well : HappensWell core plan events first)
+    (stays : OperationsStay core plan) (m : ℕ) (sram : kind_of core m ≡ Sram) where
+  -- an access of a kind to the memory
+  record IsOne (a : AccessNets) (kind : OpKind) : Type 0 where
+    there : Contains accesses a
+    mem : a.mem ≡ m
+    kind_is : a.kind ≡ kind
+
+  operation : (a : AccessNets) (kind : OpKind) → IsOne a kind → IsOperation core m kind a.number
+  operation a kind o = subst (λ j. IsOperation core j kind a.number) o.mem (subst (λ q. IsOperation core a.mem q a.number) o.kind_is (h.is_operation a o.there))
+
+  acts : (a : AccessNets) (kind : OpKind) → IsOne a kind → ActsInTime s events last a.number kind a.enable a.operands.items
+  acts a kind o = subst (λ q. ActsInTime s events last a.number q a.enable a.operands.items) o.kind_is (h.in_banks a o.there (subst IsInBanks (sym (ap (kind_of core) o.mem ∙ sram)) tt))
+
+  -- it names copy 0, at which its events are, and its indices have no sign
+  stands : (a : AccessNets) (kind : OpKind) → IsOne a kind → (touch : Touch) → touch.copy ≡ a.copy → touch.index.items ≡ index_words kind a.operands.items → StandsInTime s events last a.number touch
+  stands a kind o touch copied indexed = record {
+    copy = λ t c e l there n. ap (copy_at s t) (copied ∙ h.uncopied a o.there) ∙ sym (zero_copy t c e there n);
+    index = λ t e l happens. subst (All (λ net. s.net t net < 2 ^ 31)) (sym indexed) ((acts a kind o).index t e l happens);
+  }
+    where
+      zero_copy : (t c : ℕ) (e : Event) → Contains events (record { cycle = t; copy = c; moment = touches e }) → e.number ≡ a.number → c ≡ 0
+      zero_copy t c e there n =
+          let of_m = (stays events first well m a.number kind (operation a kind o) t e (record { copy = c; there = there; numbered = n })).0 in
+          let within : m < length core.mems = subst (λ j. j < length core.mems) o.mem (All-contains (λ (x : AccessNets). x.mem < length core.mems) accesses a h.within o.there) in
+          let below : c < (mem_plan plan m).depth = subst (λ j. j < length core.mems → c < (mem_plan plan j).depth) of_m (each_at (λ x. HasCopy core plan x.copy x.moment) events well.copied _ there) within in
+          let one = h.one_copy m within in
+          omega (arith, below, one)
+
+  module _ (go : (u n : ℕ) (touch : Touch) → OperationsGo core plan s events m u n touch) where
+    read_goes : (a : AccessNets) (touch : Touch) → IsOne a Read → IsReadBy core plan a touch → ReadGoes core plan s m (reads_in m events) last a.number touch
+    read_goes a touch o is =
+        (go last a.number touch).reads (stays events first well m a.number Read (operation a Read o))
+        (subst (λ ns. ActsInTime s events last a.number Read touch.enable ns) (sym is.index) (subst (λ n. ActsInTime s events last a.number Read n a.operands.items) (sym is.enable) (acts a Read o)))
+        (stands a Read o touch is.copy is.index)
+
+    write_goes : (a : AccessNets) (touch : Touch) → IsOne a Write → IsWriteBy a touch → WriteGoes s (writes_in m events) last a.number touch
+    write_goes a touch o is =
+        let some = (All-contains (AccessStands h.draft core) accesses a h.stand o.there).some o.kind_is in
+        let operands : a.operands.items ≡ touch.index.items ++ touch.word ∷ [] = sym (ap (λ ns. ns ++ touch.word ∷ []) is.index ∙ ap (λ n. index_words Write a.operands.items ++ n ∷ []) is.word ∙ ends a.operands.items some) in
+        (go last a.number touch).writes (stays events first well m a.number Write (operation a Write o))
+        (subst (λ ns. ActsInTime s events last a.number Write touch.enable ns) operands (subst (λ n. ActsInTime s events last a.number Write n a.operands.items) (sym is.enable) (acts a Write o)))
+        (stands a Write o touch is.copy is.index)
+
+  module _ (picks : PicksAccessesTo) (part : Banked) (is : IsArrayOf core plan accesses m part) where
+    a_read : (a : AccessNets) → Contains (filter (is_reader m) accesses) a → IsOne a Read
+    a_read a c =
+        let f = filter_from (is_reader m) accesses a c in
+        let r = reader_answers m a f.1 in
+        record { there = f.0; mem = r.0; kind_is = h.asked a r.1 f.0 r.2 }
+
+    a_write : (a : AccessNets) → Contains (filter (is_to m Write) accesses) a → IsOne a Write
+    a_write a c =
+        let f = filter_from (is_to m Write) accesses a c in
+        let p = (picks m Write a refl).0 f.1 in
+        record { there = f.0; mem = p.0; kind_is = p.1 }
+
+    pub memory_of : HasNoTransfer core.root → IsMemoryOf core plan events m part (reading m accesses) (writing m accesses)
+    memory_of none = record {
+      layout = is.layout;
+      copies = is.copies;
+      duplicates = is.duplicates;
+      each_read = numbers_zip (λ (a : AccessNets). a.number) (IsReadBy core plan) (λ n r. r.duplicate ≡ duplicate_at core plan m n) (filter (is_reader m) accesses) part.reads.items
+          (λ a r c by. by.duplicate ∙ ap (λ j. duplicate_at core plan j a.number) (a_read a c).mem) is.reads;
+      all = λ x there d p c.
+          let w = is_written core plan events first well none m sram x there d p c in
+          let a = h.all_operations m w.event.number Write refl w.is in
+          (w.event, w.word, w.touch, w.act, subst (Contains (writing m accesses)) a.2 (picked (λ (b : AccessNets). b.number) (is_to m Write) accesses a.0 a.1 ((picks m Write a.0 refl).1 a.3 a.4)));
+    }
+
+    module _ (go : (u n : ℕ) (touch : Touch) → OperationsGo core plan s events m u n touch) where
+      pub memory_goes : MemoryGoes core plan s m events last part (reading m accesses) (writing m accesses)
+      memory_goes = record {
+        each_read = numbers_zip (λ (a : AccessNets). a.number) (IsReadBy core plan) (ReadGoes core plan s m (reads_in m events) last) (filter (is_reader m) accesses) part.reads.items (λ a r c by. read_goes go a r (a_read a c) by) is.reads;
+        each_write = numbers_zip (λ (a : AccessNets). a.number) IsWriteBy (WriteGoes s (writes_in m events) last) (filter (is_to m Write) accesses) part.writes.items (λ a w c by. write_goes go a w (a_write a c) by) is.writes;
+      }
+
+      pub answered : AllZip (λ n (r : Touch). acting.IsAnswered s (reads_in m events) (suc (suc last)) n Read r.word 2) (reading m accesses) part.reads.items
+          → (a : AccessNets) (w : WordNet) → Contains accesses a → a.mem ≡ m → a.kind ≡ Read → a.answer ≡ Some w → IsAnswered s events (suc last) a.number Read w.after w.net
+      answered answers a w c p k e =
+          let o : IsOne a Read = record { there = c; mem = p; kind_is = k } in
+          let kind : kind_of core a.mem ≡ Sram = ap (kind_of core) p ∙ sram in
+          let after : w.after ≡ 2 = (All-contains (AccessStands h.draft core) accesses a h.stand c).later w k e (no_argument (kind_of core a.mem) kind) ∙ ap read_latency kind in
+          let r = both_at (λ (b : AccessNets). b.number) (IsReadBy core plan) (λ n (t : Touch). acting.IsAnswered s (reads_in m events) (suc (suc last)) n Read t.word 2) (filter (is_reader m) accesses) part.reads.items is.reads answers a
+          (filter_has (is_reader m) accesses a c (answers_reader m a w p e)) in
+          let net : r.0.word ≡ w.net = r.1.word ∙ ap answer_net e in
+          let now = (go (suc (suc last)) a.number r.0).answers (stays events first well m a.number Read (operation a Read o)) r.0.word 2 r.2 in
+          subst (λ n. IsAnswered s events (suc last) a.number Read n w.net) (sym after) (subst (λ n. IsAnswered s events (suc last) a.number Read 2 n) net (λ t x happens until v act. now t x happens (omega (arith, until)) v act))

@@ -1,0 +1,38 @@
+//! Laws of SRAMs and of memories of one word over the timeline of a run. Each function does nothing: what it ensures is the law.
+
+ghost use Rattle.sp_array_words.specs.Laws.{ArraysAnswer, MemoriesAnswer, MemoriesHold};
+ghost use Rattle.sp_core.specs.PlainCore.{PlainCore};
+ghost use Rattle.sp_machine.specs.Transfers.{Delays};
+ghost use Rattle.sp_plan.specs.PlainPlan.{PlainPlan};
+
+use sp_access_nets::picks_accesses_to;
+use sp_bank_runs::runs_hold_words;
+use sp_bank_words::operations_go;
+use sp_memory_words::operations_stay;
+use sp_scalar_words::{scalars_answer, scalars_hold};
+
+/// In a run that goes well, of a core without transfers, where accesses and owners do what the timeline has up to a cycle, each
+/// read of an SRAM is answered with its word up to the next cycle.
+pub fn arrays_answer()
+    ensures { (core : PlainCore) (plan : PlainPlan) (delays : Delays) → ArraysAnswer core plan delays }
+{
+    operations_go();
+    operations_stay();
+    picks_accesses_to();
+    runs_hold_words();
+}
+
+/// So is each read of a core whose memories are registers, arguments, outputs and SRAMs.
+pub fn memories_answer()
+    ensures { (core : PlainCore) (plan : PlainPlan) (delays : Delays) → MemoriesAnswer core plan delays }
+{
+    arrays_answer();
+    scalars_answer();
+}
+
+/// And the net of a register or an output has, up to the next cycle, the word that stands there.
+pub fn memories_hold()
+    ensures { (core : PlainCore) (plan : PlainPlan) → MemoriesHold core plan }
+{
+    scalars_hold();
+}

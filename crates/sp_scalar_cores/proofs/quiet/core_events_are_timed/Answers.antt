@@ -1,5 +1,0 @@
-use Rattle.sp_scalar_cores.proofs.Early.{are_timed}
-use Rattle.sp_scalar_cores.proofs.quiet.core_events_are_timed.Goals as goal
-
-pub returns : goal.returns
-returns c core plan delays h = are_timed core plan delays h

@@ -1,5 +1,0 @@
-use Rattle.sp_scalar_cores.proofs.Early.{none_at_once}
-use Rattle.sp_scalar_cores.proofs.quiet.nothing_begins_at_once.Goals as goal
-
-pub returns : goal.returns
-returns c core plan delays none h done = none_at_once core plan delays none h done

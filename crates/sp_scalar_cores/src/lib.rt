@@ -1,8 +1,0 @@
-//! Laws only, of cores whose memories are registers, arguments and outputs. Each function does nothing: what it ensures is the law.
-#![tactic(auto)]
-
-mod closing;
-mod quiet;
-
-pub use closing::scalar_cores_go;
-pub use quiet::{core_events_are_timed, nothing_begins_at_once, nothing_moves, runs_take_time};

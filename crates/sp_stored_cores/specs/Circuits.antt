@@ -1,0 +1,60 @@
+-- The circuit of a core all of whose memories are registers, arguments, outputs and SRAMs, in one copy each.
+use Rattle.std.specs.Prelude.{◌≡◌, ℕ, suc, ◌<◌, true, false, List, [], length, All, Some}
+use Rattle.std.specs.List.{Contains}
+use Rattle.sp_netlist.specs.declared.parts.Child.{Child}
+use Rattle.sp_netlist.specs.Draft.{Draft}
+use Rattle.sp_netlist.specs.Signals.{Signals}
+use Rattle.sp_gates.specs.Tested.{is_on}
+use Rattle.sp_core.specs.declared.operation.OpKind.TheVariants.{Read}
+use Rattle.sp_core.specs.Invariant.{IsCore}
+use Rattle.sp_core.specs.PlainCore.{PlainCore}
+use Rattle.sp_plan.specs.PlainPlan.{PlainPlan}
+use Rattle.sp_overlap.specs.Whole.{IsTimed}
+use Rattle.sp_circuit_ops.specs.declared.ops.WordNet.{WordNet}
+use Rattle.sp_op_nets.specs.declared.acted.ActedList.{ActedList}
+use Rattle.sp_op_nets.specs.Table.{nets_at}
+use Rattle.sp_access_nets.specs.declared.access.AccessNets.{AccessNets}
+use Rattle.sp_access_nets.specs.Accesses.{copy_in}
+use Rattle.sp_tree_circuits.specs.Circuits.{Circuit}
+use Rattle.sp_tree_handed.specs.declared.owners.OwnerNets.{OwnerNets}
+use Rattle.sp_tree_handed.specs.Owners.{AreOwners}
+use Rattle.sp_tree_handed.specs.Scalars.{AreStored}
+use Rattle.sp_tree_handed.specs.Standing.{AccessStands, BoundsReadArguments}
+use Rattle.sp_tree_nets.specs.Emitted.{HasNoTransfer}
+use Rattle.sp_tree_nets.specs.Handed.{AreHanded}
+use Rattle.sp_tree_accesses.specs.Laws.{AreTreeAccesses}
+use Rattle.sp_array_nets.specs.Runs.{RunMemories}
+use Rattle.sp_owner_runs.specs.Acting.{AreSingle}
+use Rattle.sp_stored_cores.specs.Quiet.{HasNoCounters}
+
+-- a core without transfers, whose root reads no bounds, and whose bounds read arguments alone, with a plan by which each memory has one
+-- copy
+pub record IsStoredCore (core : PlainCore) (plan : PlainPlan) : Type 0 where
+  pub right : IsCore core
+  pub timed : IsTimed core.root
+  pub moves_none : HasNoTransfer core.root
+  pub uncounted : HasNoCounters core.root
+  pub stored : AreStored core
+  pub arguments : BoundsReadArguments core core.root
+  pub single : AreSingle core plan
+
+-- In a run: the circuit of the tree, and the circuits of the memories that it asks, by the nets of the arguments. By the memory's number
+-- `words` has the net of its word, where it is one word.
+pub record StoredCircuit (core : PlainCore) (plan : PlainPlan) (s : Signals) (c : Child) (arguments words : List ℕ) : Type 0 where
+  pub circuit : Circuit core plan s core.root [] (nets_at []) 0 c
+  pub acted : List ActedList
+  pub owners : OwnerNets
+  pub accesses : List AccessNets
+  pub handed : AreHanded core plan s core.root [] (nets_at []) 0 0 c circuit acted
+  pub owners_are : AreOwners core plan s core.root [] (nets_at []) 0 c circuit owners.renewed.items owners.kept.items
+  pub accesses_are : AreTreeAccesses core (copy_in []) acted accesses
+  pub draft : Draft
+  pub stand : All (AccessStands draft core) accesses
+  pub within : All (λ (a : AccessNets). a.mem < length core.mems) accesses
+  pub asked : (a : AccessNets) (w : WordNet) → Contains accesses a → a.answer ≡ Some w → a.kind ≡ Read
+  pub memories : RunMemories core plan s accesses owners arguments words
+
+-- a part is started in cycle 0 and in no other
+pub record StartsOnce (s : Signals) (start : ℕ) : Type 0 where
+  pub begins : is_on s start 0 ≡ true
+  pub once : (t : ℕ) → is_on s start (suc t) ≡ false

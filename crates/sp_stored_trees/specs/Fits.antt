@@ -1,0 +1,31 @@
+-- When the circuit of a core of registers, arguments, outputs and SRAMs can be emitted.
+use Rattle.std.specs.Prelude.{◌≡◌, ◌≢◌, ℕ, ◌<◌, List, length, slice_index}
+use Rattle.sp_words.specs.declared.kind.Kind.TheVariants.{Sram, ArgIn}
+use Rattle.sp_words.specs.Types.{width_of}
+use Rattle.sp_netlist.specs.Draft.{Draft}
+use Rattle.sp_gates.specs.Nets.{HasNet}
+use Rattle.sp_core.specs.Declarations.{mem, kind_of}
+use Rattle.sp_core.specs.PlainCore.{PlainCore}
+use Rattle.sp_plan.specs.PlainPlan.{PlainPlan}
+use Rattle.sp_tree_handed.specs.Scalars.{AreStored}
+use Rattle.sp_tree_handed.specs.Standing.{BoundsReadArguments}
+use Rattle.sp_tree_nets.specs.Whole.{HasTreePlan}
+use Rattle.sp_array_nets.specs.Banks.{HasArrayPlan}
+
+-- the tree and the banks of SRAMs can be emitted by the plan, all memories are registers, arguments, outputs and SRAMs, and bounds read
+-- arguments alone
+pub record CanEmitStored (core : PlainCore) (plan : PlainPlan) : Type 0 where
+  pub planned : HasTreePlan core plan
+  pub stored : AreStored core
+  pub arrays : HasArrayPlan core plan
+  pub bounds : BoundsReadArguments core core.root
+
+-- each argument has the net of its port
+pub record ArgumentsStand (d : Draft) (core : PlainCore) (arguments : List ℕ) : Type 0 where
+  pub each : length arguments ≡ length core.mems
+  pub nets : (m : ℕ) → m < length core.mems → kind_of core m ≡ ArgIn → HasNet d (slice_index arguments m) (width_of (mem core m).ty)
+
+-- each memory of one word has a net with it
+pub record WordsStand (d : Draft) (core : PlainCore) (words : List ℕ) : Type 0 where
+  pub each : length words ≡ length core.mems
+  pub nets : (m : ℕ) → m < length core.mems → kind_of core m ≢ Sram → HasNet d (slice_index words m) (width_of (mem core m).ty)

@@ -1,0 +1,75 @@
+//! The circuit of a core of registers, arguments, outputs and SRAMs.
+ghost use Rattle.std.specs.Prelude.{◌≡◌, [], length, IfOk, OnOk};
+ghost use Rattle.sp_netlist.specs.Signals.{Signals};
+ghost use Rattle.sp_gates.specs.Grows.{Fills};
+ghost use Rattle.sp_gates.specs.Nets.{HasNet};
+ghost use Rattle.sp_gates.specs.Runs.{RunsOn};
+ghost use Rattle.sp_core.specs.CoreParts.{plain_core};
+ghost use Rattle.sp_plan.specs.Plain.{plain_plan};
+ghost use Rattle.sp_array_nets.specs.Banks.{ArraysStand, wires_in};
+ghost use Rattle.sp_stored_cores.specs.Circuits.{StoredCircuit};
+ghost use Rattle.sp_stored_trees.specs.Fits.{ArgumentsStand, CanEmitStored, WordsStand};
+
+use sp_array_nets::{Array, arrays_are_open, arrays_stay, emit_memories};
+use sp_core::Core;
+use sp_netlist::{Builder, Child, NetId, NoMemory};
+use sp_op_nets::reserved_are_driven;
+use sp_plan::Plan;
+use sp_tree_accesses::{scalars_are_read, tree_accesses};
+use sp_tree_nets::emit_core;
+use std::alloc::Global;
+
+/// The start and the end of the circuit of a core, and by each memory's number the net of its word; an SRAM has none, and any net
+/// stands for it.
+#[derive(Debug, Drop)]
+pub struct StoredTree {
+    pub child: Child,
+    pub words: Vec<NetId>,
+}
+
+/// Emits the circuit of a core all of whose memories are registers, arguments, outputs and SRAMs, by a valid plan: its tree, and for
+/// each memory a register, or its banks' ports, which answer the tree's reads. It is started where `start` is 1. `arguments` has the
+/// net of each argument's port, and `arrays` the banks of each SRAM, by the memory's number.
+pub fn emit_stored_core(
+    alloc: Global,
+    builder: &mut Builder,
+    core: &Core,
+    plan: &Plan,
+    arguments: &[NetId],
+    arrays: &[Array],
+    start: NetId,
+) -> Result<StoredTree, NoMemory>
+    requires can { CanEmitStored (plain_core core.now) (plain_plan plan.now) }
+    requires arguments { ArgumentsStand builder.old (plain_core core.now) arguments.now }
+    requires arrays { ArraysStand builder.old (plain_core core.now) (plain_plan plan.now) arrays.now }
+    requires start { HasNet builder.old start 1 }
+    ensures fills { OnOk result (Fills builder.old builder.new (wires_in arrays.now)) }
+    ensures start { IfOk result (λ tree. tree.child.start ≡ start) }
+    ensures done { IfOk result (λ tree. HasNet builder.new tree.child.done 1) }
+    ensures words { IfOk result (λ tree. WordsStand builder.new (plain_core core.now) tree.words.items) }
+    ensures circuit { IfOk result (λ tree. (s : Signals) → RunsOn s builder.new.cells → StoredCircuit (plain_core core.now) (plain_plan plan.now) s tree.child arguments.now tree.words.items) }
+{
+    arrays_are_open();
+    arrays_stay();
+    reserved_are_driven();
+    scalars_are_read();
+    // (what is asked of accesses is that the core keeps its rules, as each does whose root is given)
+    let _root = core.root();
+    let tree = emit_core(alloc, builder, core, plan, start)?;
+    let accesses = tree_accesses(alloc, core, &tree.acted)?;
+    let nets = emit_memories(
+        alloc,
+        builder,
+        core,
+        plan,
+        &accesses,
+        &tree.owners,
+        arguments,
+        arrays,
+        start,
+    )?;
+    Ok(StoredTree {
+        child: tree.child,
+        words: nets.words,
+    })
+}

@@ -1,0 +1,7 @@
+//! The whole circuit of a core whose memories are registers, arguments, outputs and SRAMs: its tree, and the memories that the tree
+//! asks.
+#![tactic(auto)]
+
+mod emit;
+
+pub use emit::{StoredTree, emit_stored_core};
