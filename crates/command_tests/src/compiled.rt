@@ -5,7 +5,8 @@ use std::alloc::{AllocError, Global};
 use std::test::Fail;
 
 /// Programs, each with a setup, what is printed before the line of cycles, and that line's number: exactly (`=`), worked out by hand
-/// from when each part of a circuit is started and done, or at most (`<`), where the answer came from elsewhere.
+/// from when each part of a circuit is started and done, or at most (`<`), where the answer came from elsewhere. Where the setup names
+/// files, the name and the rows of each stand on a line behind.
 const CASES: &str = "\
 val x = ArgIn[Int]
 val y = ArgOut[Int]
@@ -211,10 +212,62 @@ out y 18
 out y0 -1742196724
 ----
 <81
+====
+val b = DRAM[Int](2, 2); val x = ArgIn[Int]; val to = DRAM[Int](2, 4); val y = ArgOut[Int]; Accel {
+y := --20 * x >> 63 ; ;
+val acc = Reg[Int](-13) ; ;
+y := acc ; ;
+y := acc * acc * (acc / acc)
+}
+----
+cycles = 1_000_000
+delays = [0, 7]
+[args]
+x = -32
+[dram]
+b = \"b.csv\"
+to = \"to.csv\"
+----
+out y 169
+dram b -11 6 19 -12
+dram to 35 16 484473151 -20 23 337562798 30 12155231
+----
+<13
+----
+b.csv|-11,006;19,-12
+to.csv|35;16;484473151;-20.00;23;337562798;30;12155231
+====
+val y = ArgOut[Bit]
+val y0 = ArgOut[Int]
+val k = ArgIn[Int]
+val a = DRAM[Bit](5)
+Accel {
+if (true) {
+val v = (~(7) % 7 + 7) % 7;
+FSM(v + 0)(q => q < 8){ q => }{ q => q + 3 } } else {
+if (false) {
+} ; ;
+Foreach(19 by 5){ c =>
+val p = SRAM[Bit](10)
+} }
+val acc = Reg[Int](-14)
+y0 := acc
+y0 := -14.to[Int]
+}
+----
+turns = 19
+[args]
+k = 170060274
+----
+out y 0
+out y0 -14
+dram a 0 0 0 0 0
+----
+<52
 ";
 
 /// How many cases there are.
-const COUNT: u32 = 11;
+const COUNT: u32 = 13;
 
 fn file(alloc: Global, name: &str, bytes: &[u8]) -> Result<MemFile, AllocError> {
     Ok(MemFile {
@@ -223,13 +276,39 @@ fn file(alloc: Global, name: &str, bytes: &[u8]) -> Result<MemFile, AllocError> 
     })
 }
 
-/// Calls with words that name two files at most.
-fn call(alloc: Global, words: &str, first: MemFile, second: MemFile) -> Result<Answer, AllocError> {
+/// A file of rows, from its line.
+fn rows(alloc: Global, line: &str) -> Result<MemFile, Fail> {
+    let (name, text) = line.split_once('|').ok_or("a file")?;
+    let mut bytes = Vec::new(alloc);
+    for row in text.split(";") {
+        bytes.extend_from_slice(row.as_bytes())?;
+        bytes.push(b'\n')?;
+    }
+    Ok(MemFile {
+        name: String::from_str(alloc, name)?,
+        bytes,
+    })
+}
+
+/// A call with a file to work on and a setup, and the files that the setup names.
+struct Files<'a> {
+    name: &'a str,
+    bytes: &'a [u8],
+    setup: &'a str,
+    others: &'a str,
+}
+
+fn call(alloc: Global, words: &str, given: &Files) -> Result<Answer, Fail> {
     let mut said = Vec::new(alloc);
     for word in words.split(" ") {
         said.push(String::from_str(alloc, word)?)?;
     }
-    let files = vec![in alloc; first, second]?;
+    let first = file(alloc, given.name, given.bytes)?;
+    let second = file(alloc, "S", given.setup.as_bytes())?;
+    let mut files = vec![in alloc; first, second]?;
+    for line in given.others.lines() {
+        files.push(rows(alloc, line)?)?;
+    }
     let mut inputs = MemInputs::new(files, Vec::new(alloc));
     let mut out = MemSink::new(alloc, 1_000_000, Vec::new(alloc))?;
     let mut aside = MemSink::new(alloc, 1_000_000, Vec::new(alloc))?;
@@ -255,30 +334,28 @@ fn is_result(text: &str, lines: &str, wanted: &str) -> Option<bool> {
 /// to the same result.
 fn runs_as_wanted(alloc: Global, case: &str) -> Result<bool, Fail> {
     let mut parts = case.split("----\n");
-    let program = parts.next().ok_or("a program")?.as_bytes();
-    let setup = parts.next().ok_or("a setup")?.as_bytes();
+    let program = parts.next().ok_or("a program")?;
+    let setup = parts.next().ok_or("a setup")?;
     let lines = parts.next().ok_or("lines")?;
     let wanted = parts.next().ok_or("cycles")?.trim();
-    let ran = call(
-        alloc,
-        "run P S",
-        file(alloc, "P", program)?,
-        file(alloc, "S", setup)?,
-    )?;
+    let others = parts.next().unwrap_or("");
+    let source = Files {
+        name: "P",
+        bytes: program.as_bytes(),
+        setup,
+        others,
+    };
+    let ran = call(alloc, "run P S", &source)?;
     let text = str::from_utf8(&ran.out)?;
     let is_right = is_result(text, lines, wanted).ok_or("a result")?;
-    let compiled = call(
-        alloc,
-        "compile P",
-        file(alloc, "P", program)?,
-        file(alloc, "S", setup)?,
-    )?;
-    let again = call(
-        alloc,
-        "simulate L S",
-        file(alloc, "L", &ran.aside)?,
-        file(alloc, "S", setup)?,
-    )?;
+    let compiled = call(alloc, "compile P", &source)?;
+    let listing = Files {
+        name: "L",
+        bytes: &ran.aside,
+        setup,
+        others,
+    };
+    let again = call(alloc, "simulate L S", &listing)?;
     Ok(
         ran.status.number() == 0
             && is_right

@@ -64,8 +64,8 @@ outs_left core h left outs drams e = ap outs_in e
     outs_in (ended a b c) = a
     outs_in _ = []
 
-drams_left : (core : PlainCore) (h : History) (left : Store) (outs : List ℕ) (drams : List (List ℕ)) → core.ports.drams ≡ [] → outcome core (went h left) ≡ ended outs drams h → [] ≡ drams
-drams_left core h left outs drams none e = sym (ap (λ ports. map (λ m. words_of (left m)) (map (dram_number core) (numbers_below (length ports)))) none) ∙ ap drams_in e
+drams_left : (core : PlainCore) (h : History) (left : Store) (outs : List ℕ) (drams : List (List ℕ)) → outcome core (went h left) ≡ ended outs drams h → dram_words core left ≡ drams
+drams_left core h left outs drams e = ap drams_in e
   where
     drams_in : Outcome → List (List ℕ)
     drams_in (ended a b c) = b
@@ -108,11 +108,8 @@ carried p plan valid is by decided runs planned h cells carries = record {
       let within = r.ends n ((decided input).ends n outs drams turns shape e).0 in
       let took = (core_timed core plan none_waits r.history).took in
       let ends = carries.carries none_waits input r.history r.left (found_run p plan valid is by planned h n input r.history r.left fits r.ran) delays (limit n delay core) (less took (limit n delay core) within) in
-      (took, ends_as cells input delays (limit n delay core) took outs (out_words core r.left) drams [] (outs_left core r.history r.left outs drams r.words) (drams_left core r.history r.left outs drams (buildable core plan h).no_drams r.words) ends));
+      (took, ends_as cells input delays (limit n delay core) took outs (out_words core r.left) drams (dram_words core r.left) (outs_left core r.history r.left outs drams r.words) (drams_left core r.history r.left outs drams r.words) ends));
 }
-
-no_dram_words : (core : PlainCore) (left : Store) → core.ports.drams ≡ [] → [] ≡ dram_words core left
-no_dram_words core left none = sym (ap (λ ports. map (λ m. words_of (left m)) (map (dram_number core) (numbers_below (length ports)))) none)
 
 cost_of_run : (p : PlainProgram) (plan : PlainPlan) (d : ℕ) → EndsInCost (lanes_of p) plan none_waits d → IsTimed (lanes_of p).root → (forms : _) (meets : _) → IsValid (lanes_of p) forms meets plan
     → (n : ℕ) (input : PlainInput) (h : History) (left : Store) → run_core in_lanes n (lanes_of p) input ≡ went h left
@@ -128,5 +125,5 @@ cost_kept p plan valid is by costs planned built cells carries = record {
       let took = (core_timed core plan none_waits h).took in
       let cost = cost_of_run p plan (greatest_delay delays) (costs none_waits (greatest_delay delays)) (is_timed p plan built) (forms_of p) planned.meets (valid core (forms_of p) planned.meets plan is planned.is_planned) n input h left ran in
       let ends = carries.carries none_waits input h left (found_run p plan valid is by planned built n input h left fits ran) delays took (omega arith) in
-      (took, cost, ends_as cells input delays took took (out_words core left) (out_words core left) (dram_words core left) [] refl (no_dram_words core left (buildable core plan built).no_drams) ends));
+      (took, cost, ends));
 }

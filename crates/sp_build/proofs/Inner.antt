@@ -1,13 +1,11 @@
 -- A program whose block is one inner body can be built.
-use Rattle.std.proofs.Common.{◌≡◌, ℕ, zero, suc, ◌<◌, ◌==◌, Bool, true, false, not, ◌&&◌, List, [], ◌∷◌, ◌++◌, map, length, refl, sym, ap, ◌∙◌, subst, arith, slice_index_or, if◌then◌else◌, eq-eqb}
+use Rattle.std.proofs.Common.{◌≡◌, ℕ, zero, suc, ◌<◌, ◌==◌, Bool, true, false, not, ◌&&◌, ◌||◌, List, [], ◌∷◌, ◌++◌, map, length, refl, sym, ap, ◌∙◌, subst, arith, slice_index_or, if◌then◌else◌, eq-eqb}
 use Rattle.std.proofs.lemmas.Bool.{and_parts, true≢false}
 use Rattle.std.proofs.lemmas.List.{append-nil}
 use Rattle.std.specs.List.{list_all}
 use Rattle.std.specs.Prelude.{filter, cond}
 use Rattle.sp_words.specs.declared.kind.Kind.{Kind}
 use Rattle.sp_words.specs.declared.kind.Kind.TheVariants.{Reg, Fifo, Sram, LineBuf, ArgIn, ArgOut, Dram}
-use Rattle.sp_words.specs.Ports.{PlainPort, PlainPorts}
-use Rattle.sp_tree.specs.Invariant.{IsProgram, port_of}
 use Rattle.sp_tree.specs.Meaning.{is_dram}
 use Rattle.sp_tree.specs.PlainProgram as program
 use Rattle.sp_tree.specs.PlainProgram.{PlainProgram}
@@ -23,7 +21,7 @@ use Rattle.sp_lanes.specs.Unrolled.{unrolled, node_in}
 use Rattle.sp_depths.specs.Depths.{depth_in}
 use Rattle.sp_plan.specs.PlainPlan.{PlainNodePlan, no_mem_plan, mem_plan, PlainPlan}
 use Rattle.sp_compile.specs.Choices.{lanes_of, IsPlanOf}
-use Rattle.sp_build.specs.Buildable.{is_stored, is_stored_mem, is_none, is_single, is_node_buildable, is_uncounted, is_buildable}
+use Rattle.sp_build.specs.Buildable.{is_stored, is_stored_mem, is_single, is_node_buildable, is_uncounted, is_buildable}
 use Rattle.sp_build.specs.Laws.{InnerBlocksCanBeBuilt}
 
 both : (a b : Bool) → a ≡ true → b ≡ true → (a && b) ≡ true
@@ -44,48 +42,40 @@ all_from : {X : Type 0} (p : X → Bool) (xs : List X) (d : X) → ((m : ℕ) �
 all_from p [] d h = refl
 all_from p (x ∷ xs) d h = both (p x) (list_all p xs) (h 0 (omega arith)) (all_from p xs d (λ m l. h (suc m) (omega (arith, l))))
 
-abbrev is_stored_program_mem : program.PlainMem → Bool
-is_stored_program_mem m = is_stored m.kind
+abbrev is_plain_mem : program.PlainMem → Bool
+is_plain_mem m = is_stored m.kind || is_dram m.kind
 
-stored_written : (mems : List program.PlainMem) → list_all is_stored_program_mem mems ≡ true → list_all is_stored_mem (written_mems mems) ≡ true
+-- which of them is no DRAM is stored
+on_chip_stored : (k : Kind) → (is_stored k || is_dram k) ≡ true → not (is_dram k) ≡ true → is_stored k ≡ true
+on_chip_stored Reg h other = refl
+on_chip_stored ArgIn h other = refl
+on_chip_stored ArgOut h other = refl
+on_chip_stored Sram h other = refl
+on_chip_stored Fifo h other = h
+on_chip_stored LineBuf h other = h
+on_chip_stored Dram h other = other
+
+stored_written : (mems : List program.PlainMem) → list_all is_plain_mem mems ≡ true → list_all is_stored_mem (written_mems mems) ≡ true
 stored_written [] h = refl
 stored_written (m ∷ mems) h =
-    let parts = and_parts (is_stored m.kind) (list_all is_stored_program_mem mems) h in
-    step (is_off_dram m) (stored_written mems parts.1) parts.0
+    let parts = and_parts (is_plain_mem m) (list_all is_plain_mem mems) h in
+    step (is_off_dram m) refl (stored_written mems parts.1) parts.0
   where
-    step : (b : Bool) → list_all is_stored_mem (map written_mem (filter is_off_dram mems)) ≡ true → is_stored m.kind ≡ true → list_all is_stored_mem (map written_mem (cond b (m ∷ filter is_off_dram mems) (filter is_off_dram mems))) ≡ true
-    step true rest here = both (is_stored m.kind) (list_all is_stored_mem (map written_mem (filter is_off_dram mems))) here rest
-    step false rest here = rest
+    step : (b : Bool) → is_off_dram m ≡ b → list_all is_stored_mem (map written_mem (filter is_off_dram mems)) ≡ true → is_plain_mem m ≡ true
+        → list_all is_stored_mem (map written_mem (cond b (m ∷ filter is_off_dram mems) (filter is_off_dram mems))) ≡ true
+    step true off rest here = both (is_stored m.kind) (list_all is_stored_mem (map written_mem (filter is_off_dram mems))) (on_chip_stored m.kind here off) rest
+    step false off rest here = rest
 
-no_dram_kind : (k : Kind) → is_stored k ≡ true → is_dram k ≡ false
-no_dram_kind Reg h = refl
-no_dram_kind ArgIn h = refl
-no_dram_kind ArgOut h = refl
-no_dram_kind Fifo h = absurd (true≢false (sym h))
-no_dram_kind Sram h = refl
-no_dram_kind LineBuf h = absurd (true≢false (sym h))
-no_dram_kind Dram h = absurd (true≢false (sym h))
-
-no_drams : (mems : List program.PlainMem) → list_all is_stored_program_mem mems ≡ true → map port_of (filter (λ (m : program.PlainMem). is_dram m.kind) mems) ≡ []
-no_drams [] h = refl
-no_drams (m ∷ mems) h =
-    let parts = and_parts (is_stored m.kind) (list_all is_stored_program_mem mems) h in
-    ap (λ b. map port_of (cond b (m ∷ filter (λ (x : program.PlainMem). is_dram x.kind) mems) (filter (λ (x : program.PlainMem). is_dram x.kind) mems))) (no_dram_kind m.kind parts.0) ∙ no_drams mems parts.1
-
--- the core of such a program: its memories, its DRAMs and its root
+-- the core of such a program: its memories and its root
 mems_are : (p : PlainProgram) → is_inner p.body ≡ true → (core_of p).mems ≡ written_mems p.mems ++ []
 unfolding core_of
 mems_are p h = ap (λ b. written_mems p.mems ++ (if b then [] else registers p.body no_more)) h
 
-stored_core : (p : PlainProgram) → is_inner p.body ≡ true → list_all is_stored_program_mem p.mems ≡ true → list_all is_stored_mem (lanes_of p).mems ≡ true
+stored_core : (p : PlainProgram) → is_inner p.body ≡ true → list_all is_plain_mem p.mems ≡ true → list_all is_stored_mem (lanes_of p).mems ≡ true
 unfolding unrolled
 stored_core p h all =
     let own = subst (λ ms. list_all is_stored_mem ms ≡ true) (sym (mems_are p h ∙ append-nil (written_mems p.mems))) (stored_written p.mems all) in
     all_map is_stored_mem (mem (core_of p)) (memory_order (core_of p)) (λ m. all_or is_stored_mem (core_of p).mems m no_mem own refl)
-
-drams_are : (p : PlainProgram) → IsProgram p → list_all is_stored_program_mem p.mems ≡ true → (lanes_of p).ports.drams ≡ []
-unfolding unrolled core_of
-drams_are p is all = ap (λ (x : PlainPorts). x.drams) is.ports ∙ no_drams p.mems all
 
 -- an inner body without counters
 abbrev IsInnerRoot : PlainNode → Type 0
@@ -131,15 +121,13 @@ depth_at_root core nodes i (load r m spans) h = absurd h
 depth_at_root core nodes i (store r m spans) h = absurd h
 depth_at_root core nodes i (sparse kind r m places spans count par) h = absurd h
 
-pub inner_built : (p : PlainProgram) → IsProgram p → InnerBlocksCanBeBuilt p
-inner_built p is one all plan planned =
+pub inner_built : (p : PlainProgram) → InnerBlocksCanBeBuilt p
+inner_built p one all plan planned =
     let core = lanes_of p in
     let scalars = stored_core p one all in
-    let drams : is_none core.ports.drams ≡ true = ap is_none (drams_are p is all) in
     let root = laned_root p one in
     let alike = planned.is_planned.memories in
     let single : list_all is_single plan.mems ≡ true =
     all_from is_single plan.mems no_mem_plan (λ m l. eq-eqb (mem_plan plan m).depth 1 (planned.is_planned.depths m (omega (arith, alike, l)) ∙ depth_at_root core plan.nodes m core.root root)) in
-    both (list_all is_stored_mem core.mems && is_none core.ports.drams) ((is_node_buildable core core.root && is_uncounted core.root) && list_all is_single plan.mems)
-    (both (list_all is_stored_mem core.mems) (is_none core.ports.drams) scalars drams)
+    both (list_all is_stored_mem core.mems) ((is_node_buildable core core.root && is_uncounted core.root) && list_all is_single plan.mems) scalars
     (both (is_node_buildable core core.root && is_uncounted core.root) (list_all is_single plan.mems) (root_buildable core core.root root) single)

@@ -6,7 +6,6 @@ use Rattle.std.proofs.lemmas.List.{get_or_past}
 use Rattle.std.specs.List.{Contains, list_all}
 use Rattle.sp_words.specs.declared.kind.Kind.{Kind}
 use Rattle.sp_words.specs.declared.kind.Kind.TheVariants.{Reg, Fifo, Sram, LineBuf, ArgIn, ArgOut, Dram}
-use Rattle.sp_words.specs.Ports.{PlainPort}
 use Rattle.sp_core.specs.declared.operation.OpKind.{OpKind}
 use Rattle.sp_core.specs.declared.operation.OpKind.TheVariants.{Read}
 use Rattle.sp_core.specs.Declarations.{mem, kind_of, is_stream}
@@ -36,7 +35,7 @@ use Rattle.sp_array_nets.specs.Laws.{ValidPlansHaveArrays}
 use Rattle.sp_lane_programs.specs.LanesLaws.{ProgramIsByLane}
 use Rattle.sp_lane_cores.specs.Laws.{StaysCore}
 use Rattle.sp_compile.specs.Choices.{lanes_of, forms_of, IsPlanOf}
-use Rattle.sp_build.specs.Buildable.{is_stored, is_stored_mem, is_none, is_single, is_argument, reads_argument, is_early, has_early_bounds, is_node_buildable, are_buildable, is_uncounted_by, is_uncounted, is_buildable}
+use Rattle.sp_build.specs.Buildable.{is_stored, is_stored_mem, is_single, is_argument, reads_argument, is_early, has_early_bounds, is_node_buildable, are_buildable, is_uncounted_by, is_uncounted, is_buildable}
 use Rattle.sp_build.specs.Laws.{BuildableCanBeLowered}
 use Rattle.sp_build.proofs.Lists.{cons_cases, all_at, only}
 
@@ -189,25 +188,19 @@ stored core h m l = subst IsStored (sym (own_kind core m l)) (stored_kind (mem c
 single : (core : PlainCore) (plan : PlainPlan) → length plan.mems ≡ length core.mems → list_all is_single plan.mems ≡ true → AreSingle core plan
 single core plan same h m l = eqb-true (mem_plan plan m).depth 1 (all_at is_single plan.mems (mem_plan plan m) h (Contains-get_or plan.mems m no_mem_plan (omega (arith, same, l))))
 
-no_port_there : (ports : List PlainPort) → is_none ports ≡ true → ports ≡ []
-no_port_there [] h = refl
-no_port_there (p ∷ ports) h = absurd (true≢false (sym h))
-
 -- the parts of the test
 pub record Buildable (core : PlainCore) (plan : PlainPlan) : Type 0 where
   pub are_stored : list_all is_stored_mem core.mems ≡ true
-  pub no_drams : core.ports.drams ≡ []
   pub tree : is_node_buildable core core.root ≡ true
   pub root : is_uncounted core.root ≡ true
   pub singles : list_all is_single plan.mems ≡ true
 
 pub buildable : (core : PlainCore) (plan : PlainPlan) → is_buildable core plan ≡ true → Buildable core plan
 buildable core plan h =
-    let all = and_parts (list_all is_stored_mem core.mems && is_none core.ports.drams) ((is_node_buildable core core.root && is_uncounted core.root) && list_all is_single plan.mems) h in
-    let mems = and_parts (list_all is_stored_mem core.mems) (is_none core.ports.drams) all.0 in
+    let all = and_parts (list_all is_stored_mem core.mems) ((is_node_buildable core core.root && is_uncounted core.root) && list_all is_single plan.mems) h in
     let rest = and_parts (is_node_buildable core core.root && is_uncounted core.root) (list_all is_single plan.mems) all.1 in
     let tree = and_parts (is_node_buildable core core.root) (is_uncounted core.root) rest.0 in
-    record { are_stored = mems.0; no_drams = no_port_there core.ports.drams mems.1; tree = tree.0; root = tree.1; singles = rest.1 }
+    record { are_stored = all.0; tree = tree.0; root = tree.1; singles = rest.1 }
 
 -- the schemes of the chosen plan are of those that are searched
 in_space : (core : PlainCore) (forms : PlainForms) (plan : PlainPlan) → AreChosen core forms (schemes_of plan) → (m : ℕ) (b : Banking) → scheme_at (schemes_of plan) (Some m) ≡ Some b → InSpace b
@@ -242,7 +235,6 @@ can_lower p plan valid is by arrays planned short h =
         arguments = reads_arguments core b.tree;
         single = single core plan planned.is_planned.memories b.singles;
       };
-      no_drams = b.no_drams;
     }
 
 pub is_timed : (p : PlainProgram) (plan : PlainPlan) → is_buildable (lanes_of p) plan ≡ true → IsTimed (lanes_of p).root

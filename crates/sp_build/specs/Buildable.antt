@@ -3,7 +3,6 @@ use Rattle.std.specs.Prelude.{◌≡◌, ℕ, ◌==◌, ◌&&◌, not, Bool, tru
 use Rattle.std.specs.List.{list_all}
 use Rattle.sp_words.specs.declared.kind.Kind.{Kind}
 use Rattle.sp_words.specs.declared.kind.Kind.TheVariants.{Reg, Sram, ArgIn, ArgOut}
-use Rattle.sp_words.specs.Ports.{PlainPort}
 use Rattle.sp_tree.specs.PlainProgram.{PlainProgram}
 use Rattle.sp_core.specs.declared.operation.OpKind.{OpKind}
 use Rattle.sp_core.specs.declared.operation.OpKind.TheVariants.{Read}
@@ -23,10 +22,6 @@ is_stored _ = false
 
 abbrev pub is_stored_mem : PlainMem → Bool
 is_stored_mem m = is_stored m.kind
-
-abbrev pub is_none : List PlainPort → Bool
-is_none [] = true
-is_none (p ∷ ports) = false
 
 -- by the plan the memory has one copy
 abbrev pub is_single : PlainMemPlan → Bool
@@ -76,10 +71,10 @@ is_uncounted (fsm start state test body next) = true
 is_uncounted (branch test first second) = true
 is_uncounted _ = false
 
--- A core all of whose memories are of these kinds, in one copy each by the plan, without DRAMs; its root has no counters.
+-- A core all of whose memories are of these kinds, in one copy each by the plan; its root has no counters. No transfer names its DRAMs.
 abbrev pub is_buildable : PlainCore → PlainPlan → Bool
 is_buildable core plan =
-    (list_all is_stored_mem core.mems && is_none core.ports.drams) && ((is_node_buildable core core.root && is_uncounted core.root) && list_all is_single plan.mems)
+    list_all is_stored_mem core.mems && ((is_node_buildable core core.root && is_uncounted core.root) && list_all is_single plan.mems)
 
 -- so is the core of a program in lanes, by its plan
 abbrev pub CanBeBuilt : PlainProgram → Type 0

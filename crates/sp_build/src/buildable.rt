@@ -157,11 +157,11 @@ fn are_single(mems: &[MemPlan]) -> bool
 }
 
 /// Whether a core has a netlist by its plan so far: its memories are registers, arguments, outputs and SRAMs, in one copy each; it
-/// has no DRAM, no transfer and no `Stream` block; bounds of counters read arguments alone.
+/// has no transfer and no `Stream` block; bounds of counters read arguments alone.
 pub fn is_buildable(core: &Core, plan: &Plan) -> bool
     ensures { result ≡ is_buildable (plain_core core.now) (plain_plan plan.now) }
 {
-    (are_stored(core.mems()) && core.ports().drams.is_empty())
+    are_stored(core.mems())
         && ((is_node_buildable(core, core.root()) && is_uncounted(core.root()))
             && are_single(&plan.mems))
 }

@@ -1,21 +1,22 @@
 -- Cells of ports that are added one after the other.
-use Rattle.std.proofs.Common.{◌≡◌, ◌≢◌, ℕ, ◌+◌, ◌<◌, ◌≤◌, Bool, false, cond, inl, inr, List, [], ◌∷◌, ◌++◌, length, map, take, drop, get_or, filter_map, count_by, Contains, refl, sym, ap, subst, ◌∙◌, arith, append_assoc, append-nil, length-append, length-drop, take_all, min}
-use Rattle.std.proofs.lemmas.Bool.{cases_eq}
+use Rattle.std.proofs.Common.{◌≡◌, ◌≢◌, ℕ, suc, None, ◌+◌, ◌<◌, ◌≤◌, Bool, false, cond, inl, inr, List, [], ◌∷◌, ◌++◌, length, map, take, drop, get_or, filter_map, count_by, Contains, refl, sym, ap, subst, ◌∙◌, arith, append_assoc, append-nil, length-append, length-drop, take_all, min}
+use Rattle.std.specs.List.{list_any}
+use Rattle.std.proofs.lemmas.Bool.{cases_eq, or_parts}
 use Rattle.std.proofs.lemmas.List.{map-append, length-map, take_more, drop_more, nil_from_length}
 use Rattle.std.proofs.lemmas.List.Elements.{filter_map-append}
 use Rattle.std.proofs.lemmas.List.Sums.{sum_by-append}
 use Rattle.sp_words.specs.declared.interface.PortDecl.{PortDecl}
 use Rattle.sp_words.specs.Ports.{PlainPort, plain_port}
 use Rattle.sp_words.specs.Types.{width_of}
-use Rattle.sp_netlist.specs.Cells.{PlainCell, in_cell, out_cell, done_cell}
+use Rattle.sp_netlist.specs.Cells.{PlainCell, in_cell, out_cell, done_cell, dram_cell}
 use Rattle.sp_netlist.specs.Draft.{Draft, CanAdd, IsComplete, IsDraft, Keeps, driver_count}
 use Rattle.sp_netlist.specs.Parts.{NoCell, names_bank}
-use Rattle.sp_netlist.specs.Rules.{is_done, in_name, out_name}
+use Rattle.sp_netlist.specs.Rules.{is_done, is_dram, in_name, out_name, dram_name}
 use Rattle.sp_gates.specs.Grows.{Builds}
 use Rattle.sp_gates.specs.Nets.{HasNet, IsOpen}
 use Rattle.sp_gates.proofs.Growing.{Keeps-same, Fills-none, fills_build, Builds-join, HasNet-stays, complete, gate_grows}
-use Rattle.sp_frames.specs.Framed.{in_cells, out_cells}
-use Rattle.sp_frames.specs.Ports.{AreNamedAfter, AreNamed, HaveNets}
+use Rattle.sp_frames.specs.Framed.{in_cells, dram_cells, out_cells}
+use Rattle.sp_frames.specs.Ports.{AreNamedAfter, AreNamed, HaveSizes, HaveNets}
 use Rattle.sp_frames.proofs.Framing.{none_counted}
 use Rattle.sp_frames.proofs.Naming.{nets_stay, net_for_each}
 
@@ -184,6 +185,62 @@ all_outputs begun d decls nets all all_nets i end h =
     let last = subst (λ ns. d.cells ++ out_cells (map plain_port (drop i decls)) ns ≡ begun.cells ++ out_cells all all_nets) none h.cells in
     let stands = subst (λ ps. d.cells ++ out_cells (map plain_port ps) [] ≡ begun.cells ++ out_cells all all_nets) no_more last in
     sym (append-nil d.cells) ∙ stands
+
+-- Of the DRAMs, those that are left have names that are new, and sizes; with their cells the draft's are what is to stand.
+pub record HasDrams (begun d : Draft) (all rest : List PlainPort) (first : ℕ) : Type 0 where
+  pub named : AreNamedAfter (filter_map dram_name d.cells) rest
+  pub sizes : HaveSizes rest
+  pub number : count_by is_dram d.cells ≡ first
+  pub cells : d.cells ++ dram_cells first rest ≡ begun.cells ++ dram_cells 0 all
+  pub builds : Builds begun d []
+
+no_name : (x : PlainCell) → is_dram x ≡ false → dram_name x ≡ None
+no_name (dram_cell dram name ty dims) e = absurd (cc)
+no_name _ e = refl
+
+none_named : (cells : List PlainCell) → NoCell is_dram cells → filter_map dram_name cells ≡ []
+none_named [] none = refl
+none_named (x ∷ cells) none =
+    let both = or_parts (is_dram x) (list_any is_dram cells) none in
+    rw (no_name x both.0, none_named cells both.1) refl
+
+pub no_dram_yet : (begun : Draft) (all : List PlainPort) → NoCell is_dram begun.cells → AreNamed all → HaveSizes all → HasDrams begun begun all all 0
+no_dram_yet begun all none named sizes = record {
+  named = subst (λ names. AreNamedAfter names all) (sym (none_named begun.cells none)) named;
+  sizes = sizes;
+  number = none_counted is_dram begun.cells none;
+  cells = refl;
+  builds = fills_build begun begun [] (Fills-none begun);
+}
+
+dram_added : (begun old new : Draft) (all : List PlainPort) (port : PlainPort) (rest : List PlainPort) (first : ℕ) → HasDrams begun old all (port ∷ rest) first
+    → new.cells ≡ old.cells ++ dram_cell first port.name port.ty port.dims ∷ [] → Builds old new [] → HasDrams begun new all rest (suc first)
+dram_added begun old new all port rest first h is builds = record {
+  named = subst (λ names. AreNamedAfter names rest) (sym (ap (filter_map dram_name) is ∙ filter_map-append dram_name old.cells (dram_cell first port.name port.ty port.dims ∷ []))) h.named.2;
+  sizes = h.sizes.1;
+  number = ap (count_by is_dram) is ∙ sum_by-append (λ x. cond (is_dram x) 1 0) old.cells (dram_cell first port.name port.ty port.dims ∷ []) ∙ (let n = h.number in omega (arith, n));
+  cells = ap (λ cells. cells ++ dram_cells (suc first) rest) is ∙ append_assoc old.cells (dram_cell first port.name port.ty port.dims ∷ []) (dram_cells (suc first) rest) ∙ h.cells;
+  builds = Builds-join begun old new [] [] h.builds builds;
+}
+
+-- the port that is at the front of those that are left
+pub next_dram : (begun d : Draft) (decls : List PortDecl) (all : List PlainPort) (i : ℕ) (x : PortDecl) (first : ℕ) → i < length decls → x ≡ get_or decls i x
+    → HasDrams begun d all (map plain_port (drop i decls)) first → HasDrams begun d all (plain_port x ∷ map plain_port (drop (i + 1) decls)) first
+next_dram begun d decls all i x first l at h = subst (λ ps. HasDrams begun d all ps first) (ports_left decls i x l at) h
+
+pub one_more_dram : (begun old new : Draft) (decls : List PortDecl) (all : List PlainPort) (i : ℕ) (x : PortDecl) (first next : ℕ) → i < length decls → x ≡ get_or decls i x → next ≡ first + 1
+    → HasDrams begun old all (map plain_port (drop i decls)) first → new.cells ≡ old.cells ++ dram_cell first (plain_port x).name x.ty (plain_port x).dims ∷ [] → Builds old new []
+    → HasDrams begun new all (map plain_port (drop (i + 1) decls)) next
+one_more_dram begun old new decls all i x first next l at more h is builds =
+    let same : suc first ≡ next = omega (arith, more) in
+    subst (λ n. HasDrams begun new all (map plain_port (drop (i + 1) decls)) n) same
+    (dram_added begun old new all (plain_port x) (map plain_port (drop (i + 1) decls)) first (next_dram begun old decls all i x first l at h) is builds)
+
+pub all_drams : (begun d : Draft) (decls : List PortDecl) (all : List PlainPort) (i first : ℕ) → length decls ≤ i → HasDrams begun d all (map plain_port (drop i decls)) first → d.cells ≡ begun.cells ++ dram_cells 0 all
+all_drams begun d decls all i first past h =
+    let long = length-drop i decls in
+    let no_more : drop i decls ≡ [] = nil_from_length (drop i decls) (omega (arith, past, long)) in
+    sym (append-nil d.cells) ∙ subst (λ ps. d.cells ++ dram_cells first (map plain_port ps) ≡ begun.cells ++ dram_cells 0 all) no_more h.cells
 
 -- no end stands behind a part of a circuit
 no_end_yet : (begun d : Draft) (nets : List ℕ) → NoCell is_done begun.cells → Builds begun d nets → count_by is_done d.cells ≡ 0

@@ -1,16 +1,17 @@
 -- What the cells of a frame are, one list after the other.
 use Rattle.std.proofs.Common.{◌≡◌, ℕ, zero, suc, ◌+◌, ◌<◌, ◌≤◌, ◌==◌, ◌⊎◌, inl, inr, Bool, true, false, not, ◌||◌, cond, List, [], ◌∷◌, ◌++◌, length, map, filter, filter_map, slice_index, Option, None, count_by, refl, sym, ap, ap₂, ◌∙◌, arith, append_assoc, append-nil, eq-eqb, ne_eqb}
-use Rattle.std.specs.List.{list_any}
+use Rattle.std.specs.List.{list_any, range_with_len}
 use Rattle.std.proofs.lemmas.Bool.{or_parts}
 use Rattle.std.proofs.lemmas.List.Elements.{filter_map-append}
 use Rattle.std.proofs.lemmas.List.Folds.{list_any-append}
 use Rattle.std.proofs.lemmas.List.Sums.{sum_by-append}
 use Rattle.sp_words.specs.declared.types.Ty.{Ty}
+use Rattle.sp_words.specs.Interface.{word_count}
 use Rattle.sp_words.specs.Ports.{PlainPort}
 use Rattle.sp_netlist.specs.declared.cell.Port.{Port}
 use Rattle.sp_netlist.specs.declared.cell.Port.TheVariants.{Read, Write}
 use Rattle.sp_netlist.specs.Cells.{PlainCell, in_cell, out_cell, done_cell, const_cell, op_cell, not_cell, shift_cell, cast_cell, mux_cell, reg_cell, bank_cell, read_tap, write_tap, dram_cell, load_unit, store_unit}
-use Rattle.sp_netlist.specs.Rules.{IsNetlist, IsRight, is_in, is_bank, is_done, out_name}
+use Rattle.sp_netlist.specs.Rules.{IsNetlist, IsRight, is_in, is_bank, is_done, is_dram, is_unit, out_name}
 use Rattle.sp_netlist.specs.Ports.{in_port, out_port, dram_port, ports_of}
 use Rattle.sp_netlist.specs.Parts.{NoCell, names_bank}
 use Rattle.sp_netlist.specs.Signals.{Setting, Signals, IsRun}
@@ -21,9 +22,10 @@ use Rattle.sp_gates.specs.Grows.{is_gate, is_no_gate, AddsGates}
 use Rattle.sp_gates.specs.Runs.{RunsOn}
 use Rattle.sp_gates.proofs.Running.{none_joined}
 use Rattle.sp_taps.specs.Stores.{is_bank_part, is_no_bank_part, AddsBanks}
-use Rattle.sp_frames.specs.Framed.{in_cells, out_cells, is_outside, AddsInside, IsFramed}
+use Rattle.sp_frames.specs.Framed.{in_cells, dram_cells, front_cells, out_cells, is_outside, AddsInside, IsFramed}
 use Rattle.sp_frames.specs.Ports.{HaveNoDims}
-use Rattle.sp_frames.specs.Laws.{FrameLaws, FramesRight, TapsShareNone, FramesEnd}
+use Rattle.sp_frames.specs.Laws.{given_lists, FrameLaws, FramesRight, TapsShareNone, FramesEnd}
+use Rattle.sp_frames.proofs.DramCells.{drams_fail, drams_give, drams_declare, drams_words, lists_stay}
 
 -- a cell of none of the kinds that declare a port, read one or end a run
 record IsPlain (x : PlainCell) : Type 0 where
@@ -31,6 +33,7 @@ record IsPlain (x : PlainCell) : Type 0 where
   pub no_out : out_port x ≡ None
   pub no_dram : dram_port x ≡ None
   pub no_name : out_name x ≡ None
+  pub no_unit : is_unit x ≡ false
   pub no_end : is_done x ≡ false
   pub not_over : (words : ℕ → ℕ) → cell_is_done words x ≡ false
   pub no_word : (words : ℕ → ℕ) (rest : List PlainCell) → out_words (x ∷ rest) words ≡ out_words rest words
@@ -42,16 +45,16 @@ tap_none x bank words read write Read = read
 tap_none x bank words read write Write = write
 
 inside_plain : (x : PlainCell) → is_outside x ≡ false → IsPlain x
-inside_plain (const_cell net width word) e = record { no_in = refl; no_out = refl; no_dram = refl; no_name = refl; no_end = refl; not_over = λ words. refl; no_word = λ words rest. refl; no_list = λ drams rest. refl }
-inside_plain (op_cell net ty op a b) e = record { no_in = refl; no_out = refl; no_dram = refl; no_name = refl; no_end = refl; not_over = λ words. refl; no_word = λ words rest. refl; no_list = λ drams rest. refl }
-inside_plain (not_cell net ty a) e = record { no_in = refl; no_out = refl; no_dram = refl; no_name = refl; no_end = refl; not_over = λ words. refl; no_word = λ words rest. refl; no_list = λ drams rest. refl }
-inside_plain (shift_cell net ty side a places) e = record { no_in = refl; no_out = refl; no_dram = refl; no_name = refl; no_end = refl; not_over = λ words. refl; no_word = λ words rest. refl; no_list = λ drams rest. refl }
-inside_plain (cast_cell net from to a) e = record { no_in = refl; no_out = refl; no_dram = refl; no_name = refl; no_end = refl; not_over = λ words. refl; no_word = λ words rest. refl; no_list = λ drams rest. refl }
-inside_plain (mux_cell net width choice a b) e = record { no_in = refl; no_out = refl; no_dram = refl; no_name = refl; no_end = refl; not_over = λ words. refl; no_word = λ words rest. refl; no_list = λ drams rest. refl }
-inside_plain (reg_cell net width first next enable) e = record { no_in = refl; no_out = refl; no_dram = refl; no_name = refl; no_end = refl; not_over = λ words. refl; no_word = λ words rest. refl; no_list = λ drams rest. refl }
-inside_plain (bank_cell bank width len) e = record { no_in = refl; no_out = refl; no_dram = refl; no_name = refl; no_end = refl; not_over = λ words. refl; no_word = λ words rest. refl; no_list = λ drams rest. refl }
-inside_plain (read_tap net bank enable addr) e = record { no_in = refl; no_out = refl; no_dram = refl; no_name = refl; no_end = refl; not_over = λ words. refl; no_word = λ words rest. refl; no_list = λ drams rest. refl }
-inside_plain (write_tap bank enable addr word) e = record { no_in = refl; no_out = refl; no_dram = refl; no_name = refl; no_end = refl; not_over = λ words. refl; no_word = λ words rest. refl; no_list = λ drams rest. refl }
+inside_plain (const_cell net width word) e = record { no_in = refl; no_out = refl; no_dram = refl; no_name = refl; no_unit = refl; no_end = refl; not_over = λ words. refl; no_word = λ words rest. refl; no_list = λ drams rest. refl }
+inside_plain (op_cell net ty op a b) e = record { no_in = refl; no_out = refl; no_dram = refl; no_name = refl; no_unit = refl; no_end = refl; not_over = λ words. refl; no_word = λ words rest. refl; no_list = λ drams rest. refl }
+inside_plain (not_cell net ty a) e = record { no_in = refl; no_out = refl; no_dram = refl; no_name = refl; no_unit = refl; no_end = refl; not_over = λ words. refl; no_word = λ words rest. refl; no_list = λ drams rest. refl }
+inside_plain (shift_cell net ty side a places) e = record { no_in = refl; no_out = refl; no_dram = refl; no_name = refl; no_unit = refl; no_end = refl; not_over = λ words. refl; no_word = λ words rest. refl; no_list = λ drams rest. refl }
+inside_plain (cast_cell net from to a) e = record { no_in = refl; no_out = refl; no_dram = refl; no_name = refl; no_unit = refl; no_end = refl; not_over = λ words. refl; no_word = λ words rest. refl; no_list = λ drams rest. refl }
+inside_plain (mux_cell net width choice a b) e = record { no_in = refl; no_out = refl; no_dram = refl; no_name = refl; no_unit = refl; no_end = refl; not_over = λ words. refl; no_word = λ words rest. refl; no_list = λ drams rest. refl }
+inside_plain (reg_cell net width first next enable) e = record { no_in = refl; no_out = refl; no_dram = refl; no_name = refl; no_unit = refl; no_end = refl; not_over = λ words. refl; no_word = λ words rest. refl; no_list = λ drams rest. refl }
+inside_plain (bank_cell bank width len) e = record { no_in = refl; no_out = refl; no_dram = refl; no_name = refl; no_unit = refl; no_end = refl; not_over = λ words. refl; no_word = λ words rest. refl; no_list = λ drams rest. refl }
+inside_plain (read_tap net bank enable addr) e = record { no_in = refl; no_out = refl; no_dram = refl; no_name = refl; no_unit = refl; no_end = refl; not_over = λ words. refl; no_word = λ words rest. refl; no_list = λ drams rest. refl }
+inside_plain (write_tap bank enable addr word) e = record { no_in = refl; no_out = refl; no_dram = refl; no_name = refl; no_unit = refl; no_end = refl; not_over = λ words. refl; no_word = λ words rest. refl; no_list = λ drams rest. refl }
 inside_plain (in_cell name net ty) e = absurd (cc)
 inside_plain (out_cell name net ty) e = absurd (cc)
 inside_plain (done_cell net) e = absurd (cc)
@@ -138,6 +141,14 @@ outs_give f none [] nets = refl
 outs_give f none (port ∷ ports) [] = refl
 outs_give f none (port ∷ ports) (net ∷ nets) = rw (none port.name net port.ty, outs_give f none ports nets) refl
 
+-- and of the front, which has the cells of DRAMs too
+front_fail : (test : PlainCell → Bool) → ((name : List ℕ) (net : ℕ) (ty : Ty) → test (in_cell name net ty) ≡ false) → ((dram : ℕ) (name : List ℕ) (ty : Ty) (dims : List ℕ) → test (dram_cell dram name ty dims) ≡ false)
+    → (ports : List PlainPort) (nets : List ℕ) (drams : List PlainPort) → list_any test (front_cells ports nets drams) ≡ false
+front_fail test ins drams_are ports nets drams = none_joined test (in_cells ports nets) (dram_cells 0 drams) (ins_fail test ins ports nets) (drams_fail test drams_are 0 drams)
+
+front_give : {X : Type 0} (f : PlainCell → Option X) (a b : List X) (ports : List PlainPort) (nets : List ℕ) (drams : List PlainPort) → filter_map f (in_cells ports nets) ≡ a → filter_map f (dram_cells 0 drams) ≡ b → filter_map f (front_cells ports nets drams) ≡ a ++ b
+front_give {X} f a b ports nets drams ins drams_are = filter_map-append f (in_cells ports nets) (dram_cells 0 drams) ∙ ap₂ (λ (xs ys : List X). xs ++ ys) ins drams_are
+
 -- what they declare
 plain_again : (port : PlainPort) → port.dims ≡ [] → record { name = port.name; ty = port.ty; dims = [] } ≡ port
 plain_again port e = let with_dims : List ℕ → PlainPort = λ ds. record { name = port.name; ty = port.ty; dims = ds } in ap with_dims (sym e)
@@ -158,10 +169,10 @@ out_words-append [] ys words = refl
 out_words-append (out_cell name net ty ∷ xs) ys words = ap (λ rest. words net ∷ rest) (out_words-append xs ys words)
 out_words-append (x ∷ xs) ys words = out_words-append xs ys words
 
-dram_lists-append : (xs ys : List PlainCell) (drams : ℕ → ℕ → ℕ) → dram_lists xs drams ≡ [] → dram_lists (xs ++ ys) drams ≡ dram_lists ys drams
-dram_lists-append [] ys drams e = refl
-dram_lists-append (dram_cell dram name ty dims ∷ xs) ys drams e = absurd (cc)
-dram_lists-append (x ∷ xs) ys drams e = dram_lists-append xs ys drams e
+dram_lists-append : (xs ys : List PlainCell) (drams : ℕ → ℕ → ℕ) → dram_lists (xs ++ ys) drams ≡ dram_lists xs drams ++ dram_lists ys drams
+dram_lists-append [] ys drams = refl
+dram_lists-append (dram_cell dram name ty dims ∷ xs) ys drams = ap (λ rest. map (drams dram) (range_with_len 0 (word_count dims)) ∷ rest) (dram_lists-append xs ys drams)
+dram_lists-append (x ∷ xs) ys drams = dram_lists-append xs ys drams
 
 ins_words : (ports : List PlainPort) (nets : List ℕ) (words : ℕ → ℕ) → out_words (in_cells ports nets) words ≡ []
 ins_words [] nets words = refl
@@ -233,58 +244,83 @@ pub first_words : (ports : List PlainPort) (nets : List ℕ) (rest : List PlainC
     → (t i : ℕ) → i < length nets → s.net t (slice_index nets i) ≡ slice_index g.args i
 first_words ports nets rest g s many run is t i l = words_from ports nets [] rest 0 g s many run is refl t i l ∙ ap (slice_index g.args) (omega arith)
 
-module _ (cells : List PlainCell) (args : List PlainPort) (arg_nets : List ℕ) (inside : List PlainCell) (outs : List PlainPort) (out_nets : List ℕ) (done : ℕ) (f : IsFramed cells args arg_nets inside outs out_nets done) where
-  whole : List PlainCell
-  whole = in_cells args arg_nets ++ inside ++ out_cells outs out_nets ++ done_cell done ∷ []
+module _ (cells : List PlainCell) (args : List PlainPort) (arg_nets : List ℕ) (drams : List PlainPort) (inside : List PlainCell) (outs : List PlainPort) (out_nets : List ℕ) (done : ℕ)
+    (f : IsFramed cells args arg_nets drams inside outs out_nets done) where
+  -- a test that no port and nothing inside passes
+  only_end : (test : PlainCell → Bool) → ((name : List ℕ) (net : ℕ) (ty : Ty) → test (in_cell name net ty) ≡ false) → ((dram : ℕ) (name : List ℕ) (ty : Ty) (dims : List ℕ) → test (dram_cell dram name ty dims) ≡ false)
+      → list_any test inside ≡ false → ((name : List ℕ) (net : ℕ) (ty : Ty) → test (out_cell name net ty) ≡ false) → list_any test cells ≡ (test (done_cell done) || false)
+  only_end test ins drams_are within outs_are =
+      ap (list_any test) f.stands ∙ any_framed test (front_cells args arg_nets drams) inside (out_cells outs out_nets) (done_cell done) (front_fail test ins drams_are args arg_nets drams) within (outs_fail test outs_are outs out_nets)
 
   over : (words : ℕ → ℕ) → is_over cells words ≡ (words done == 1)
   over words =
-      ap (list_any (cell_is_done words)) f.stands
-      ∙ any_framed (cell_is_done words) (in_cells args arg_nets) inside (out_cells outs out_nets) (done_cell done)
-      (ins_fail _ (λ name net ty. refl) args arg_nets) (inside_fail _ (λ x p. p.not_over words) inside f.all_inside) (outs_fail _ (λ name net ty. refl) outs out_nets)
+      only_end (cell_is_done words) (λ name net ty. refl) (λ dram name ty dims. refl) (inside_fail _ (λ x p. p.not_over words) inside f.all_inside) (λ name net ty. refl)
       ∙ or-none (words done == 1)
+
+  no_unit : NoCell is_unit cells
+  no_unit = only_end is_unit (λ name net ty. refl) (λ dram name ty dims. refl) (inside_fail is_unit (λ x p. p.no_unit) inside f.all_inside) (λ name net ty. refl)
+
+  front_words : (words : ℕ → ℕ) → out_words (front_cells args arg_nets drams) words ≡ []
+  front_words words = out_words-append (in_cells args arg_nets) (dram_cells 0 drams) words ∙ ap₂ (λ (xs ys : List ℕ). xs ++ ys) (ins_words args arg_nets words) (drams_words 0 drams words)
 
   outs_read : (words : ℕ → ℕ) → out_words cells words ≡ map words out_nets
   outs_read words =
       ap (λ xs. out_words xs words) f.stands
-      ∙ out_words-append (in_cells args arg_nets ++ inside ++ out_cells outs out_nets) (done_cell done ∷ []) words
-      ∙ append-nil (out_words (in_cells args arg_nets ++ inside ++ out_cells outs out_nets) words)
-      ∙ out_words-append (in_cells args arg_nets ++ inside) (out_cells outs out_nets) words
-      ∙ ap₂ (λ (xs ys : List ℕ). xs ++ ys) (out_words-append (in_cells args arg_nets) inside words ∙ ap₂ (λ (xs ys : List ℕ). xs ++ ys) (ins_words args arg_nets words) (inside_words inside f.all_inside words))
+      ∙ out_words-append (front_cells args arg_nets drams ++ inside ++ out_cells outs out_nets) (done_cell done ∷ []) words
+      ∙ append-nil (out_words (front_cells args arg_nets drams ++ inside ++ out_cells outs out_nets) words)
+      ∙ out_words-append (front_cells args arg_nets drams ++ inside) (out_cells outs out_nets) words
+      ∙ ap₂ (λ (xs ys : List ℕ). xs ++ ys) (out_words-append (front_cells args arg_nets drams) inside words ∙ ap₂ (λ (xs ys : List ℕ). xs ++ ys) (front_words words) (inside_words inside f.all_inside words))
       (outs_words outs out_nets words f.out_for_each)
 
-  no_drams : (drams : ℕ → ℕ → ℕ) → dram_lists cells drams ≡ []
-  no_drams drams =
-      let front = dram_lists-append (in_cells args arg_nets) inside drams (ins_lists args arg_nets drams) ∙ inside_lists inside f.all_inside drams in
-      let middle = dram_lists-append (in_cells args arg_nets ++ inside) (out_cells outs out_nets) drams front ∙ outs_lists outs out_nets drams in
-      ap (λ xs. dram_lists xs drams) f.stands ∙ dram_lists-append (in_cells args arg_nets ++ inside ++ out_cells outs out_nets) (done_cell done ∷ []) drams middle
+  -- the lists of DRAMs are those of the front
+  lists_are : (held : ℕ → ℕ → ℕ) → dram_lists cells held ≡ dram_lists (dram_cells 0 drams) held
+  lists_are held =
+      let front = dram_lists-append (in_cells args arg_nets) (dram_cells 0 drams) held ∙ ap (λ lists. lists ++ dram_lists (dram_cells 0 drams) held) (ins_lists args arg_nets held) in
+      let first = dram_lists-append (front_cells args arg_nets drams) inside held ∙ ap₂ (λ (xs ys : List (List ℕ)). xs ++ ys) front (inside_lists inside f.all_inside held) ∙ append-nil (dram_lists (dram_cells 0 drams) held) in
+      let middle = dram_lists-append (front_cells args arg_nets drams ++ inside) (out_cells outs out_nets) held ∙ ap₂ (λ (xs ys : List (List ℕ)). xs ++ ys) first (outs_lists outs out_nets held) ∙ append-nil (dram_lists (dram_cells 0 drams) held) in
+      ap (λ xs. dram_lists xs held) f.stands ∙ dram_lists-append (front_cells args arg_nets drams ++ inside ++ out_cells outs out_nets) (done_cell done ∷ []) held ∙ append-nil _ ∙ middle
 
-  declared : {X : Type 0} (k : PlainCell → Option X) (a b : List X) → filter_map k (in_cells args arg_nets) ≡ a → filter_map k inside ≡ [] → filter_map k (out_cells outs out_nets) ≡ b → filter_map k (done_cell done ∷ []) ≡ []
+  -- the front, and all behind it
+  behind : (g : Setting) → g.cells ≡ cells → g.cells ≡ front_cells args arg_nets drams ++ (inside ++ (out_cells outs out_nets ++ done_cell done ∷ []))
+  behind g same =
+      same ∙ f.stands ∙ append_assoc (front_cells args arg_nets drams ++ inside) (out_cells outs out_nets) (done_cell done ∷ [])
+      ∙ append_assoc (front_cells args arg_nets drams) inside (out_cells outs out_nets ++ done_cell done ∷ [])
+
+  drams_stand : (g : Setting) (s : Signals) → g.cells ≡ cells → IsRun g s → (t : ℕ) → dram_lists cells (s.dram t) ≡ given_lists g 0 drams
+  drams_stand g s same run t =
+      lists_are (s.dram t)
+      ∙ lists_stay g s run (ap (list_any is_unit) same ∙ no_unit) (in_cells args arg_nets) 0 drams (inside ++ (out_cells outs out_nets ++ done_cell done ∷ [])) (behind g same) t
+
+  declared : {X : Type 0} (k : PlainCell → Option X) (a b : List X) → filter_map k (front_cells args arg_nets drams) ≡ a → filter_map k inside ≡ [] → filter_map k (out_cells outs out_nets) ≡ b → filter_map k (done_cell done ∷ []) ≡ []
       → filter_map k cells ≡ a ++ b
   declared {X} k a b ea eg eb ed =
       ap (filter_map k) f.stands
-      ∙ filter_map-append k (in_cells args arg_nets ++ inside ++ out_cells outs out_nets) (done_cell done ∷ [])
+      ∙ filter_map-append k (front_cells args arg_nets drams ++ inside ++ out_cells outs out_nets) (done_cell done ∷ [])
       ∙ ap₂ (λ (xs ys : List X). xs ++ ys)
-      (filter_map-append k (in_cells args arg_nets ++ inside) (out_cells outs out_nets)
-      ∙ ap₂ (λ (xs ys : List X). xs ++ ys) (filter_map-append k (in_cells args arg_nets) inside ∙ ap₂ (λ (xs ys : List X). xs ++ ys) ea eg ∙ append-nil a) eb) ed
+      (filter_map-append k (front_cells args arg_nets drams ++ inside) (out_cells outs out_nets)
+      ∙ ap₂ (λ (xs ys : List X). xs ++ ys) (filter_map-append k (front_cells args arg_nets drams) inside ∙ ap₂ (λ (xs ys : List X). xs ++ ys) ea eg ∙ append-nil a) eb) ed
       ∙ append-nil (a ++ b)
 
-  ports : HaveNoDims args → HaveNoDims outs → ports_of cells ≡ record { args = args; outs = outs; drams = [] }
+  ports : HaveNoDims args → HaveNoDims outs → ports_of cells ≡ record { args = args; outs = outs; drams = drams }
   ports no_arg_dims no_out_dims =
-      let ins = declared in_port args [] (ins_declare args arg_nets f.arg_for_each no_arg_dims) (inside_give in_port (λ x p. p.no_in) inside f.all_inside) (outs_give in_port (λ name net ty. refl) outs out_nets) refl ∙ append-nil args in
-      let out = declared out_port [] outs (ins_give out_port (λ name net ty. refl) args arg_nets) (inside_give out_port (λ x p. p.no_out) inside f.all_inside) (outs_declare outs out_nets f.out_for_each no_out_dims) refl in
-      let drams = declared dram_port [] [] (ins_give dram_port (λ name net ty. refl) args arg_nets) (inside_give dram_port (λ x p. p.no_dram) inside f.all_inside) (outs_give dram_port (λ name net ty. refl) outs out_nets) refl in
-      rw (ins, out, drams) refl
+      let front_ins = front_give in_port args [] args arg_nets drams (ins_declare args arg_nets f.arg_for_each no_arg_dims) (drams_give in_port (λ dram name ty dims. refl) 0 drams) ∙ append-nil args in
+      let front_outs = front_give out_port [] [] args arg_nets drams (ins_give out_port (λ name net ty. refl) args arg_nets) (drams_give out_port (λ dram name ty dims. refl) 0 drams) in
+      let front_drams = front_give dram_port [] drams args arg_nets drams (ins_give dram_port (λ name net ty. refl) args arg_nets) (drams_declare 0 drams) in
+      let ins = declared in_port args [] front_ins (inside_give in_port (λ x p. p.no_in) inside f.all_inside) (outs_give in_port (λ name net ty. refl) outs out_nets) refl ∙ append-nil args in
+      let out = declared out_port [] outs front_outs (inside_give out_port (λ x p. p.no_out) inside f.all_inside) (outs_declare outs out_nets f.out_for_each no_out_dims) refl in
+      let all_drams = declared dram_port drams [] front_drams (inside_give dram_port (λ x p. p.no_dram) inside f.all_inside) (outs_give dram_port (λ name net ty. refl) outs out_nets) refl ∙ append-nil drams in
+      rw (ins, out, all_drams) refl
 
-  frame_laws : FrameLaws cells args arg_nets outs out_nets done
+  frame_laws : FrameLaws cells args arg_nets drams outs out_nets done
   frame_laws = record {
     ports = ports;
     over = over;
     outs_read = outs_read;
-    no_drams = no_drams;
+    drams_stand = drams_stand;
     args_stand = λ g s same run t i l.
-        let split = same ∙ f.stands ∙ append_assoc (in_cells args arg_nets ++ inside) (out_cells outs out_nets) (done_cell done ∷ []) ∙ append_assoc (in_cells args arg_nets) inside (out_cells outs out_nets ++ done_cell done ∷ []) in
-        first_words args arg_nets (inside ++ (out_cells outs out_nets ++ done_cell done ∷ [])) g s f.arg_for_each run split t i l;
+        let rest = dram_cells 0 drams ++ (inside ++ (out_cells outs out_nets ++ done_cell done ∷ [])) in
+        let split = behind g same ∙ append_assoc (in_cells args arg_nets) (dram_cells 0 drams) (inside ++ (out_cells outs out_nets ++ done_cell done ∷ [])) in
+        first_words args arg_nets rest g s f.arg_for_each run split t i l;
   }
 
   of_gates : NoCell is_no_gate inside → (words : ℕ → ℕ) → SharesNone cells words
@@ -294,17 +330,14 @@ module _ (cells : List PlainCell) (args : List PlainPort) (arg_nets : List ℕ) 
     where
       no_tap : list_any (is_enabled_tap words port bank) cells ≡ false
       no_tap =
-          ap (list_any (is_enabled_tap words port bank)) f.stands
-          ∙ any_framed (is_enabled_tap words port bank) (in_cells args arg_nets) inside (out_cells outs out_nets) (done_cell done)
-          (ins_fail _ (λ name net ty. tap_none (in_cell name net ty) bank words refl refl port) args arg_nets)
-          (no_other is_no_gate (is_enabled_tap words port bank) (gate_taps words port bank) inside all)
-          (outs_fail _ (λ name net ty. tap_none (out_cell name net ty) bank words refl refl port) outs out_nets)
+          only_end (is_enabled_tap words port bank) (λ name net ty. tap_none (in_cell name net ty) bank words refl refl port) (λ dram name ty dims. tap_none (dram_cell dram name ty dims) bank words refl refl port)
+          (no_other is_no_gate (is_enabled_tap words port bank) (gate_taps words port bank) inside all) (λ name net ty. tap_none (out_cell name net ty) bank words refl refl port)
           ∙ ap (λ b. b || false) (tap_none (done_cell done) bank words refl refl port)
 
-pub gates_share_none : (begun d : Draft) (gates : AddsGates begun d) (cells : List PlainCell) (args : List PlainPort) (arg_nets : List ℕ) (outs : List PlainPort) (out_nets : List ℕ) (done : ℕ)
-    → IsFramed cells args arg_nets (gates_inside begun d gates).added outs out_nets done → (words : ℕ → ℕ) → SharesNone cells words
+pub gates_share_none : (begun d : Draft) (gates : AddsGates begun d) (cells : List PlainCell) (args : List PlainPort) (arg_nets : List ℕ) (drams : List PlainPort) (outs : List PlainPort) (out_nets : List ℕ) (done : ℕ)
+    → IsFramed cells args arg_nets drams (gates_inside begun d gates).added outs out_nets done → (words : ℕ → ℕ) → SharesNone cells words
 unfolding gates_inside
-gates_share_none begun d gates cells args arg_nets outs out_nets done f words = of_gates cells args arg_nets gates.added outs out_nets done f gates.all words
+gates_share_none begun d gates cells args arg_nets drams outs out_nets done f words = of_gates cells args arg_nets drams gates.added outs out_nets done f gates.all words
 
 lt_or : (a b : ℕ) → (a < b) ⊎ (b ≤ a)
 lt_or a b = grind arith
@@ -377,34 +410,35 @@ pub frames_right : FramesRight
 frames_right = frame_laws
 
 pub frames_end : HasOneEnding → FramesEnd
-frames_end one g s args arg_nets inside outs out_nets done cycle last f run none first within = record { of_run = ends; of_netlist = λ netlist. (one g netlist last).of_run s _ run ends }
+frames_end one g s args arg_nets drams inside outs out_nets done cycle last f run none first within = record { of_run = ends; of_netlist = λ netlist. (one g netlist last).of_run s _ run ends }
   where
-    laws : FrameLaws g.cells args arg_nets outs out_nets done
-    laws = frames_right g.cells args arg_nets inside outs out_nets done f
+    laws : FrameLaws g.cells args arg_nets drams outs out_nets done
+    laws = frames_right g.cells args arg_nets drams inside outs out_nets done f
 
-    ends : EndsAs g s last (done_in cycle (map (s.net cycle) out_nets) [])
+    ends : EndsAs g s last (done_in cycle (map (s.net cycle) out_nets) (given_lists g 0 drams))
     ends = (
       within,
       λ t l. record { shares_none = none t (omega (arith, l)); not_over = laws.over (s.net t) ∙ ne_eqb (s.net t done) 1 (first.not_before t l) },
       none cycle (omega arith),
       laws.over (s.net cycle) ∙ eq-eqb (s.net cycle done) 1 first.is_one,
       sym (laws.outs_read (s.net cycle)),
-      sym (laws.no_drams (s.dram cycle)),
+      sym (laws.drams_stand g s refl run cycle),
     )
 
-pub no_output : (begun d : Draft) (ports : List PlainPort) (nets : List ℕ) → begun.cells ≡ in_cells ports nets → AddsInside begun d → filter_map out_name d.cells ≡ []
-no_output begun d ports nets is a =
-    ap (filter_map out_name) (a.stands ∙ ap (λ cells. cells ++ a.added) is) ∙ filter_map-append out_name (in_cells ports nets) a.added
-    ∙ ap₂ (λ (xs ys : List (List ℕ)). xs ++ ys) (ins_give out_name (λ name net ty. refl) ports nets) (inside_give out_name (λ x p. p.no_name) a.added a.all)
+pub no_output : (begun d : Draft) (ports : List PlainPort) (nets : List ℕ) (drams : List PlainPort) → begun.cells ≡ front_cells ports nets drams → AddsInside begun d → filter_map out_name d.cells ≡ []
+no_output begun d ports nets drams is a =
+    ap (filter_map out_name) (a.stands ∙ ap (λ cells. cells ++ a.added) is) ∙ filter_map-append out_name (front_cells ports nets drams) a.added
+    ∙ ap₂ (λ (xs ys : List (List ℕ)). xs ++ ys) (front_give out_name [] [] ports nets drams (ins_give out_name (λ name net ty. refl) ports nets) (drams_give out_name (λ dram name ty dims. refl) 0 drams))
+    (inside_give out_name (λ x p. p.no_name) a.added a.all)
 
-pub no_end : (begun d : Draft) (ports : List PlainPort) (nets : List ℕ) → begun.cells ≡ in_cells ports nets → AddsInside begun d → NoCell is_done d.cells
-no_end begun d ports nets is a =
+pub no_end : (begun d : Draft) (ports : List PlainPort) (nets : List ℕ) (drams : List PlainPort) → begun.cells ≡ front_cells ports nets drams → AddsInside begun d → NoCell is_done d.cells
+no_end begun d ports nets drams is a =
     ap (list_any is_done) (a.stands ∙ ap (λ cells. cells ++ a.added) is)
-    ∙ none_joined is_done (in_cells ports nets) a.added (ins_fail is_done (λ name net ty. refl) ports nets) (inside_fail is_done (λ x p. p.no_end) a.added a.all)
+    ∙ none_joined is_done (front_cells ports nets drams) a.added (front_fail is_done (λ name net ty. refl) (λ dram name ty dims. refl) ports nets drams) (inside_fail is_done (λ x p. p.no_end) a.added a.all)
 
-pub framed : (begun d : Draft) (args : List PlainPort) (arg_nets : List ℕ) (outs : List PlainPort) (out_nets : List ℕ) (done : ℕ) (cells : List PlainCell) → begun.cells ≡ in_cells args arg_nets → (a : AddsInside begun d)
-    → cells ≡ d.cells ++ out_cells outs out_nets ++ done_cell done ∷ [] → length arg_nets ≡ length args → length out_nets ≡ length outs → IsFramed cells args arg_nets a.added outs out_nets done
-framed begun d args arg_nets outs out_nets done cells is a stands many more = record {
+pub framed : (begun d : Draft) (args : List PlainPort) (arg_nets : List ℕ) (drams : List PlainPort) (outs : List PlainPort) (out_nets : List ℕ) (done : ℕ) (cells : List PlainCell) → begun.cells ≡ front_cells args arg_nets drams
+    → (a : AddsInside begun d) → cells ≡ d.cells ++ out_cells outs out_nets ++ done_cell done ∷ [] → length arg_nets ≡ length args → length out_nets ≡ length outs → IsFramed cells args arg_nets drams a.added outs out_nets done
+framed begun d args arg_nets drams outs out_nets done cells is a stands many more = record {
   stands = stands ∙ ap (λ front. front ++ out_cells outs out_nets ++ done_cell done ∷ []) (a.stands ∙ ap (λ front. front ++ a.added) is);
   all_inside = a.all;
   arg_for_each = many;
@@ -423,17 +457,21 @@ runs_on d outs out_nets done g s is run = (
   refl,
 )
 
--- no bank stands among arguments
+-- no bank stands among arguments and DRAMs
 none_kept : (test : PlainCell → Bool) (cells : List PlainCell) → list_any test cells ≡ false → filter test cells ≡ []
 none_kept test [] h = refl
 none_kept test (x ∷ cells) h =
     let both = or_parts (test x) (list_any test cells) h in
     rw (both.0, none_kept test cells both.1) refl
 
-pub no_banks : (begun : Draft) (ports : List PlainPort) (nets : List ℕ) → begun.cells ≡ in_cells ports nets → (count_by is_bank begun.cells ≡ 0) × (filter is_bank begun.cells ≡ [])
-no_banks begun ports nets is =
-    let none = ap (list_any is_bank) is ∙ ins_fail is_bank (λ name net ty. refl) ports nets in
+pub no_banks : (begun : Draft) (ports : List PlainPort) (nets : List ℕ) (drams : List PlainPort) → begun.cells ≡ front_cells ports nets drams → (count_by is_bank begun.cells ≡ 0) × (filter is_bank begun.cells ≡ [])
+no_banks begun ports nets drams is =
+    let none = ap (list_any is_bank) is ∙ front_fail is_bank (λ name net ty. refl) (λ dram name ty dims. refl) ports nets drams in
     (none_counted is_bank begun.cells none, none_kept is_bank begun.cells none)
+
+-- and no DRAM among them
+pub no_drams : (begun : Draft) (ports : List PlainPort) (nets : List ℕ) → begun.cells ≡ in_cells ports nets → NoCell is_dram begun.cells
+no_drams begun ports nets is = ap (list_any is_dram) is ∙ ins_fail is_dram (λ name net ty. refl) ports nets
 
 -- cells of arguments alone
 pub ports_alone : (ports : List PlainPort) (nets : List ℕ) (cells : List PlainCell) → cells ≡ in_cells ports nets → length nets ≡ length ports → HaveNoDims ports → ports_of cells ≡ record { args = ports; outs = []; drams = [] }

@@ -1,4 +1,5 @@
 mod Adding
+mod DramCells
 mod Framing
 mod Naming
 mod Working

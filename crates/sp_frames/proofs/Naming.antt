@@ -1,23 +1,26 @@
 -- The names and the nets of ports.
-use Rattle.std.proofs.Common.{◌≡◌, ℕ, zero, suc, ◌<◌, ◌==◌, ⊎_elim, Bool, true, false, not, ◌&&◌, ◌||◌, List, [], ◌∷◌, ◌++◌, length, slice_index, slice_index_or, get_or, Contains, refl, sym, subst, ◌∙◌, arith, eqb-true}
-use Rattle.std.specs.List.{list_any}
+use Rattle.std.proofs.Common.{◌≡◌, ℕ, zero, suc, ◌*◌, ◌^◌, ◌<◌, ◌≤◌, ◌==◌, ⊎_elim, Bool, true, false, not, ◌&&◌, ◌||◌, nat_le, List, [], ◌∷◌, ◌++◌, length, slice_index, slice_index_or, get_or, All, Contains, refl, sym, subst, ◌∙◌, arith, eqb-true}
+use Rattle.std.specs.List.{list_all, list_any}
 use Rattle.std.specs.Str.{bytes_eq}
-use Rattle.std.proofs.lemmas.Bool.{and_parts, false≢true}
+use Rattle.std.proofs.Math.Nat.{le-mul_of_pos_right, mul_comm}
+use Rattle.std.proofs.lemmas.Bool.{and_parts, false≢true, leb-true}
 use Rattle.std.proofs.lemmas.List.{nil_from_length}
-use Rattle.std.proofs.lemmas.List.Elements.{Contains-push_cases}
+use Rattle.std.proofs.lemmas.List.Elements.{All-cons, All-nil, Contains-push_cases}
 use Rattle.std.proofs.lemmas.List.Folds.{list_any_at}
 use Rattle.std.proofs.lemmas.Slice.Eq.{bytes_eq-Decides}
+use Rattle.sp_words.specs.Interface.{word_count}
 use Rattle.sp_words.specs.Names.{IsName, is_name, reserved_words}
 use Rattle.sp_words.specs.Ports.{PlainPort}
 use Rattle.sp_words.specs.Types.{width_of}
 use Rattle.sp_netlist.specs.Draft.{Draft}
+use Rattle.sp_netlist.specs.Rules.{IsLength}
 use Rattle.sp_gates.specs.Grows.{Grows}
 use Rattle.sp_gates.specs.Nets.{HasNet}
 use Rattle.sp_gates.proofs.Growing.{HasNet-stays}
-use Rattle.sp_core.specs.MemoryRules.{is_port_name, names_of, are_port_names, are_ports_of}
+use Rattle.sp_core.specs.MemoryRules.{is_port_name, names_of, are_port_names, are_ports_of, has_words, is_dram_right}
 use Rattle.sp_core.specs.PlainCore.{PlainMem}
 use Rattle.sp_core.specs.Typed.{is_type}
-use Rattle.sp_frames.specs.Ports.{AreNamedAfter, AreNamed, HaveNoDims, HaveNets}
+use Rattle.sp_frames.specs.Ports.{AreNamedAfter, AreNamed, HaveNoDims, HaveSizes, HaveNets}
 
 is_not : (b : Bool) → not b ≡ true → b ≡ false
 is_not false e = refl
@@ -66,6 +69,30 @@ no_dims (port ∷ ports) (m ∷ mems) e =
     let both = and_parts (bytes_eq port.name m.name && (is_type port.ty m.ty && (length port.dims == 0))) (are_ports_of ports mems) e in
     let here = and_parts (bytes_eq port.name m.name) (is_type port.ty m.ty && (length port.dims == 0)) both.0 in
     (no_length port.dims (and_parts (is_type port.ty m.ty) (length port.dims == 0) here.1).1, no_dims ports mems both.1)
+
+-- a dimension is no more than all words, of which there is one at least
+some_words : (d n : ℕ) → 1 ≤ d * n → (1 ≤ d) × (1 ≤ n)
+some_words zero n l = absurd (omega (arith, l))
+some_words (suc d) zero l = absurd (let none : suc d * 0 ≡ 0 = omega arith in omega (arith, l, none))
+some_words (suc d) (suc n) l = (omega arith, omega arith)
+
+lengths : (most : ℕ) (dims : List ℕ) → most < 2 ^ 31 → 1 ≤ word_count dims → word_count dims ≤ most → All IsLength dims
+lengths most [] few some le = All-nil IsLength
+lengths most (d ∷ dims) few some le =
+    let parts = some_words d (word_count dims) some in
+    let wide : d ≤ d * word_count dims = le-mul_of_pos_right d (omega (arith, parts.1)) in
+    let deep : word_count dims ≤ word_count dims * d = le-mul_of_pos_right (word_count dims) (omega (arith, parts.0)) in
+    let other : word_count dims * d ≡ d * word_count dims = mul_comm (word_count dims) d in
+    All-cons IsLength d dims (parts.0, omega (arith, wide, le, few)) (lengths most dims few parts.1 (omega (arith, deep, other, le)))
+
+pub sizes : (ports : List PlainPort) → list_all is_dram_right ports ≡ true → HaveSizes ports
+sizes [] e = tt
+sizes (port ∷ ports) e =
+    let both = and_parts (is_dram_right port) (list_all is_dram_right ports) e in
+    let here = and_parts (nat_le 1 (length port.dims) && nat_le (length port.dims) 3) (has_words 67108864 port.dims) both.0 in
+    let rank = and_parts (nat_le 1 (length port.dims)) (nat_le (length port.dims) 3) here.0 in
+    let words = and_parts (nat_le 1 (word_count port.dims)) (nat_le (word_count port.dims) 67108864) here.1 in
+    ((leb-true 1 (length port.dims) rank.0, leb-true (length port.dims) 3 rank.1, lengths 67108864 port.dims (omega arith) (leb-true 1 (word_count port.dims) words.0) (leb-true (word_count port.dims) 67108864 words.1)), sizes ports both.1)
 
 pub nets_stay : (old new : Draft) (ports : List PlainPort) (nets : List ℕ) → Grows old new → HaveNets old ports nets → HaveNets new ports nets
 nets_stay old new [] [] g h = tt

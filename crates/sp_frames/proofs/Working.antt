@@ -13,7 +13,7 @@ use Rattle.sp_gates.specs.Grows.{AddsGates, Fills}
 use Rattle.sp_gates.specs.Runs.{RunsOn}
 use Rattle.sp_gates.proofs.Running.{runs_earlier}
 use Rattle.sp_frames.specs.Example.{int_port}
-use Rattle.sp_frames.specs.Framed.{in_cells, out_cells, IsFramed}
+use Rattle.sp_frames.specs.Framed.{front_cells, out_cells, IsFramed}
 use Rattle.sp_frames.proofs.Framing.{gates_inside, gates_share_none}
 use Rattle.sp_frames.specs.Ports.{HaveNets, HaveNoDims}
 use Rattle.sp_frames.specs.Laws.{FramesRight, FramesEnd, IsFirst, PortLaws}
@@ -42,18 +42,18 @@ first_one own enable h one = (h.1 0 ∙ rw (one 0) refl, before)
 
 module _ (laws : PortLaws) (frames : FramesRight) (end : FramesEnd) (one_run : HasOneRun)
     (begun mid d : Draft) (args outs : List PlainPort) (nets : List ℕ) (one done : ℕ) (cells : List PlainCell)
-    (is_args : args ≡ int_port (codes "x") ∷ []) (is_outs : outs ≡ int_port (codes "y") ∷ []) (first : begun.cells ≡ in_cells args nets) (many : length nets ≡ length args)
+    (is_args : args ≡ int_port (codes "x") ∷ []) (is_outs : outs ≡ int_port (codes "y") ∷ []) (first : begun.cells ≡ front_cells args nets []) (many : length nets ≡ length args)
     (f : Fills begun mid []) (g : Fills mid d []) (gates : AddsGates begun d) (stands : cells ≡ d.cells ++ out_cells outs nets ++ done_cell done ∷ [])
     (is_one : IsOne mid one) (holds : (s : Signals) → RunsOn s d.cells → Holds (λ t. s.net t done) 0 (λ t. s.net t one) (λ t. s.net t one)) (netlist : IsNetlist cells) where
   for_each_out : length nets ≡ length outs
   for_each_out = many ∙ ap length is_args ∙ sym (ap length is_outs)
 
-  framed : IsFramed cells args nets (gates_inside begun d gates).added outs nets done
-  framed = laws.framed begun d args nets outs nets done cells first (gates_inside begun d gates) stands many for_each_out
+  framed : IsFramed cells args nets [] (gates_inside begun d gates).added outs nets done
+  framed = laws.framed begun d args nets [] outs nets done cells first (gates_inside begun d gates) stands many for_each_out
 
   pub worked_ports : ports_of cells ≡ record { args = int_port (codes "x") ∷ []; outs = int_port (codes "y") ∷ []; drams = [] }
   worked_ports =
-      (frames cells args nets (gates_inside begun d gates).added outs nets done framed).ports (subst no_dims (sym is_args) (refl, tt)) (subst no_dims (sym is_outs) (refl, tt)) ∙ rw (is_args, is_outs) refl
+      (frames cells args nets [] (gates_inside begun d gates).added outs nets done framed).ports (subst no_dims (sym is_args) (refl, tt)) (subst no_dims (sym is_outs) (refl, tt)) ∙ rw (is_args, is_outs) refl
     where
       no_dims : List PlainPort → Type 0
       no_dims ports = HaveNoDims ports
@@ -69,8 +69,8 @@ module _ (laws : PortLaws) (frames : FramesRight) (end : FramesEnd) (one_run : H
       let is_netlist : IsNetlist h.cells = subst IsNetlist (sym same) netlist in
       let run = (one_run h is_netlist).some_run in
       let s = run.0 in
-      let here : IsFramed h.cells args nets (gates_inside begun d gates).added outs nets done = subst (λ cs. IsFramed cs args nets (gates_inside begun d gates).added outs nets done) (sym same) framed in
-      let ends = (end h s args nets (gates_inside begun d gates).added outs nets done 1 last here run.1 (λ t l. gates_share_none begun d gates h.cells args nets outs nets done here (s.net t)) (begins h s same run.1) within).of_netlist is_netlist in
+      let here : IsFramed h.cells args nets [] (gates_inside begun d gates).added outs nets done = subst (λ cs. IsFramed cs args nets [] (gates_inside begun d gates).added outs nets done) (sym same) framed in
+      let ends = (end h s args nets [] (gates_inside begun d gates).added outs nets done 1 last here run.1 (λ t l. gates_share_none begun d gates h.cells args nets [] outs nets done here (s.net t)) (begins h s same run.1) within).of_netlist is_netlist in
       let single : length nets ≡ 1 = many ∙ ap length is_args in
-      let word = (frames h.cells args nets (gates_inside begun d gates).added outs nets done here).args_stand h s refl run.1 1 0 (omega (arith, single)) in
+      let word = (frames h.cells args nets [] (gates_inside begun d gates).added outs nets done here).args_stand h s refl run.1 1 0 (omega (arith, single)) in
       subst (λ words. Ends h last (done_in 1 words [])) (lone nets (s.net 1) single ∙ ap (λ n. n ∷ []) word) ends

@@ -1,7 +1,7 @@
--- The cells of a netlist without DRAMs: those of its arguments, then gates and banks, then those of its outputs and the end.
-use Rattle.std.specs.Prelude.{◌≡◌, ℕ, Bool, ◌||◌, not, List, [], ◌∷◌, ◌++◌, length}
+-- The cells of a netlist without channels: those of its arguments and DRAMs, then gates and banks, then those of its outputs and the end.
+use Rattle.std.specs.Prelude.{◌≡◌, ℕ, suc, Bool, ◌||◌, not, List, [], ◌∷◌, ◌++◌, length}
 use Rattle.sp_words.specs.Ports.{PlainPort}
-use Rattle.sp_netlist.specs.Cells.{PlainCell, in_cell, out_cell, done_cell}
+use Rattle.sp_netlist.specs.Cells.{PlainCell, in_cell, out_cell, done_cell, dram_cell}
 use Rattle.sp_netlist.specs.Draft.{Draft}
 use Rattle.sp_netlist.specs.Parts.{NoCell}
 use Rattle.sp_gates.specs.Grows.{is_gate}
@@ -16,6 +16,15 @@ abbrev pub out_cells : List PlainPort → List ℕ → List PlainCell
 out_cells (port ∷ ports) (net ∷ nets) = out_cell port.name net port.ty ∷ out_cells ports nets
 out_cells _ _ = []
 
+-- a cell for each DRAM, in order, with the numbers from one on
+abbrev pub dram_cells : (first : ℕ) → List PlainPort → List PlainCell
+dram_cells first [] = []
+dram_cells first (port ∷ ports) = dram_cell first port.name port.ty port.dims ∷ dram_cells (suc first) ports
+
+-- what stands before all else: arguments and DRAMs
+abbrev pub front_cells : (args : List PlainPort) → (nets : List ℕ) → (drams : List PlainPort) → List PlainCell
+front_cells args nets drams = in_cells args nets ++ dram_cells 0 drams
+
 -- what doesn't stand inside of a frame: a port, a memory outside, a unit of a channel, the end
 abbrev pub is_outside : PlainCell → Bool
 is_outside cell = not (is_gate cell || is_bank_part cell)
@@ -26,9 +35,9 @@ pub record AddsInside (old new : Draft) : Type 0 where
   pub stands : new.cells ≡ old.cells ++ added
   pub all : NoCell is_outside added
 
--- The cells are those of these ports on these nets, with these cells between them, and the end.
-pub record IsFramed (cells : List PlainCell) (args : List PlainPort) (arg_nets : List ℕ) (inside : List PlainCell) (outs : List PlainPort) (out_nets : List ℕ) (done : ℕ) : Type 0 where
-  pub stands : cells ≡ in_cells args arg_nets ++ inside ++ out_cells outs out_nets ++ done_cell done ∷ []
+-- The cells are those of these ports, of which arguments and outputs are on these nets, with these cells between them, and the end.
+pub record IsFramed (cells : List PlainCell) (args : List PlainPort) (arg_nets : List ℕ) (drams : List PlainPort) (inside : List PlainCell) (outs : List PlainPort) (out_nets : List ℕ) (done : ℕ) : Type 0 where
+  pub stands : cells ≡ front_cells args arg_nets drams ++ inside ++ out_cells outs out_nets ++ done_cell done ∷ []
   pub all_inside : NoCell is_outside inside
   pub arg_for_each : length arg_nets ≡ length args
   pub out_for_each : length out_nets ≡ length outs

@@ -1,10 +1,11 @@
 -- The frame is closed around the circuit of a core, and what it then carries.
-use Rattle.std.proofs.Common.{◌≡◌, ◌≢◌, ℕ, zero, suc, cond, append_assoc, ◌<◌, ◌≤◌, ◌==◌, true, false, List, [], ◌∷◌, ◌++◌, map, length, count_by, Contains, slice_index, slice_index_or, inl, inr, refl, sym, ap, subst, ◌∙◌, arith, if◌then◌else◌, eq-eqb, ne_eqb}
-use Rattle.std.specs.List.{AllZip}
-use Rattle.std.proofs.lemmas.Bool.{cases_eq, lt-ltb}
+use Rattle.std.proofs.Common.{◌≡◌, ◌≢◌, ℕ, zero, suc, cond, append_assoc, ◌<◌, ◌≤◌, ◌^◌, ◌==◌, ◌&&◌, nat_lt, true, false, List, [], ◌∷◌, ◌++◌, map, length, count_by, Contains, slice_index, slice_index_or, inl, inr, refl, sym, ap, subst, ◌∙◌, arith, if◌then◌else◌, eq-eqb, ne_eqb}
+use Rattle.std.specs.List.{All, AllZip, filter, list_all}
+use Rattle.std.proofs.lemmas.Bool.{and_parts, cases_eq, lt-ltb, ltb-true}
 use Rattle.sp_words.specs.declared.kind.Kind.{Kind}
 use Rattle.sp_words.specs.declared.kind.Kind.TheVariants.{Sram, ArgIn, ArgOut}
 use Rattle.sp_words.specs.Ports.{PlainPort, PlainInput}
+use Rattle.sp_words.specs.Interface.{word_count}
 use Rattle.sp_words.specs.Types.{width_of}
 use Rattle.sp_words.specs.Words.{IsWord}
 use Rattle.sp_netlist.specs.declared.parts.Child.{Child}
@@ -28,15 +29,18 @@ use Rattle.std.proofs.lemmas.List.Sums.{sum_by-append}
 use Rattle.sp_core.specs.Declarations.{mem, kind_of}
 use Rattle.sp_core.specs.History.{History}
 use Rattle.sp_core.specs.Invariant.{IsCore}
-use Rattle.sp_core.specs.Meaning.{args_of, outs_of, out_words}
+use Rattle.sp_core.specs.MemoryRules.{names_of, are_port_names, is_mem_right, is_dram_right, are_ports_of}
+use Rattle.sp_core.specs.Numbering.{core_size, node_count, operation_count}
+use Rattle.sp_core.specs.Meaning.{is_arg, is_out, args_of, outs_of, out_words, dram_words}
 use Rattle.sp_core.specs.PlainCore.{no_port, PlainCore}
+use Rattle.sp_core.specs.Scope.{in_lanes}
 use Rattle.sp_core.specs.Store.{Store, words_of}
 use Rattle.sp_plan.specs.PlainPlan.{PlainPlan}
 use Rattle.sp_machine.specs.Timeline.{core_timed}
 use Rattle.sp_machine.specs.Transfers.{Delays}
-use Rattle.sp_frames.specs.Framed.{in_cells, out_cells, AddsInside, IsFramed}
-use Rattle.sp_frames.specs.Laws.{PortLaws, FramesRight, FramesEnd, SharesNoneUpTo, TapsShareNone, IsFirst}
-use Rattle.sp_frames.specs.Ports.{AreNamed, HaveNoDims, HaveNets}
+use Rattle.sp_frames.specs.Framed.{front_cells, out_cells, AddsInside, IsFramed}
+use Rattle.sp_frames.specs.Laws.{given_lists, PortLaws, FramesRight, FramesEnd, SharesNoneUpTo, TapsShareNone, IsFirst}
+use Rattle.sp_frames.specs.Ports.{AreNamed, HaveNoDims, HaveSizes, HaveNets}
 use Rattle.sp_port_nets.specs.Laws.{ArgumentsArePorts, OutputsArePorts, ArgumentsHaveWords}
 use Rattle.sp_port_nets.specs.Nets.{nets_of_arguments}
 use Rattle.sp_taps.specs.Laws.{TapLaws}
@@ -44,6 +48,7 @@ use Rattle.sp_taps.specs.Stores.{AddsBanks, HasNoConflict}
 use Rattle.sp_taps.specs.Wires.{Promises}
 use Rattle.sp_stored_cores.specs.Circuits.{StoredCircuit, StartsOnce}
 use Rattle.sp_stored_cores.specs.Closing.{RunsByPlan, GoesAlong, StoredCoresGo}
+use Rattle.sp_stored_cores.specs.Outside.{DramsStay}
 use Rattle.sp_stored_trees.specs.Fits.{ArgumentsStand, WordsStand}
 use Rattle.sp_lower.specs.Carries.{CanLower, CarriesCore}
 
@@ -71,6 +76,13 @@ zip_length R [] (y ∷ ys) z = elim z [ ]
 zip_length R (x ∷ xs) [] z = elim z [ ]
 zip_length R (x ∷ xs) (y ∷ ys) z = let rest = zip_length R xs ys z.1 in omega (arith, rest)
 
+-- a list of words for each DRAM, as many as it has
+as_many : (ports : List PlainPort) (lists : List (List ℕ)) → AllZip (λ (port : PlainPort) ws. (length ws ≡ word_count port.dims) × All (IsWord port.ty) ws) ports lists → AllZip (λ (port : PlainPort) ws. length ws ≡ word_count port.dims) ports lists
+as_many [] [] z = tt
+as_many [] (ws ∷ lists) z = absurd z
+as_many (port ∷ ports) [] z = absurd z
+as_many (port ∷ ports) (ws ∷ lists) z = (z.0.0, as_many ports lists z.1)
+
 same_number : (a b : ℕ) → (a == b) ≡ true → a ≡ b
 same_number a b e = elim (cases_eq a b) [
   | inl same ↦ same
@@ -94,6 +106,20 @@ module _ (core : PlainCore) (right : IsCore core) (law : PortLaws) (arg_ports : 
 
   pub outs_named : AreNamed core.ports.outs
   outs_named = law.named core.ports.outs (out_ports core right).names
+
+  -- the DRAMs of a core are named, have sizes, and their number is small
+  pub drams_named : AreNamed core.ports.drams
+  drams_named =
+      let names = are_port_names (names_of core.ports.args) && (are_port_names (names_of core.ports.outs) && are_port_names (names_of core.ports.drams)) in
+      let all = and_parts names (are_ports_of core.ports.args (filter (λ m. is_arg m.kind) core.mems) && are_ports_of core.ports.outs (filter (λ m. is_out m.kind) core.mems)) right.ports in
+      let rest = and_parts (are_port_names (names_of core.ports.args)) (are_port_names (names_of core.ports.outs) && are_port_names (names_of core.ports.drams)) all.0 in
+      law.named core.ports.drams (and_parts (are_port_names (names_of core.ports.outs)) (are_port_names (names_of core.ports.drams)) rest.1).1
+
+  pub drams_sized : HaveSizes core.ports.drams
+  drams_sized = law.sizes core.ports.drams (and_parts (list_all is_mem_right core.mems) (list_all is_dram_right core.ports.drams) right.memories).1
+
+  pub few_drams : length core.ports.drams < 2 ^ 32
+  few_drams = let small = ltb-true (core_size core) (2 ^ 29) right.size in omega (arith, small)
 
   -- each argument has the net of its port
   pub args_stand : (begun d : Draft) (ports : List ℕ) → Grows begun d → HaveNets begun core.ports.args ports → (arguments : List ℕ) → length arguments ≡ length core.mems → arguments ≡ nets_of_arguments core.mems ports → ArgumentsStand d core arguments
@@ -165,7 +191,7 @@ grown begun stored a b c wires promises f g h = Grows-join begun stored c promis
 
 -- the drafts one after the other, and what is known of the nets that were added
 pub record Steps (core : PlainCore) (plan : PlainPlan) (begun stored a b c e final : Draft) (ports wires : List ℕ) (always never start : ℕ) (child : Child) (arguments words : List ℕ) (done : ℕ) : Type 0 where
-  pub inputs : begun.cells ≡ in_cells core.ports.args ports
+  pub front : begun.cells ≡ front_cells core.ports.args ports core.ports.drams
   pub have : HaveNets begun core.ports.args ports
   pub banks : AddsBanks begun stored
   pub no_conflict : (bank : ℕ) → bank < count_by is_bank stored.cells → HasNoConflict stored bank
@@ -190,21 +216,20 @@ module _ (core : PlainCore) (plan : PlainPlan) (can : CanLower core plan) (right
   whole : AddsInside begun final
   whole = inside law begun stored a b c e final wires x.banks x.one x.none x.held x.tree x.last
 
-  module _ (frames : FramesRight) (ends : FramesEnd) (sharing : TapsShareNone) (go : (delays : Delays) → StoredCoresGo core plan delays) (have_words : ArgumentsHaveWords) (run : HasOneRun)
+  module _ (frames : FramesRight) (ends : FramesEnd) (sharing : TapsShareNone) (go : (delays : Delays) → StoredCoresGo core plan delays) (stay : DramsStay core) (have_words : ArgumentsHaveWords) (run : HasOneRun)
       (cells : List PlainCell) (cells_are : cells ≡ final.cells ++ out_cells core.ports.outs (map (slice_index words) (outs_of core)) ++ done_cell done ∷ []) (is : IsNetlist cells) where
     outs : List ℕ
     outs = map (slice_index words) (outs_of core)
 
-    framed : IsFramed cells core.ports.args ports whole.added core.ports.outs (map (slice_index words) (outs_of core)) done
+    framed : IsFramed cells core.ports.args ports core.ports.drams whole.added core.ports.outs (map (slice_index words) (outs_of core)) done
     framed =
-        law.framed begun final core.ports.args ports core.ports.outs (map (slice_index words) (outs_of core)) done cells x.inputs whole cells_are (law.net_for_each begun core.ports.args ports x.have)
+        law.framed begun final core.ports.args ports core.ports.drams core.ports.outs (map (slice_index words) (outs_of core)) done cells x.front whole cells_are (law.net_for_each begun core.ports.args ports x.have)
         (as_long (slice_index words) (outs_of core) ∙ (out_ports core right).each)
 
     ports_are : ports_of cells ≡ core.ports
     ports_are =
-        (frames cells core.ports.args ports whole.added core.ports.outs (map (slice_index words) (outs_of core)) done framed).ports (no_dims core.ports.args (λ k l. ((arg_ports core right).0.at k l).port.dims))
+        (frames cells core.ports.args ports core.ports.drams whole.added core.ports.outs (map (slice_index words) (outs_of core)) done framed).ports (no_dims core.ports.args (λ k l. ((arg_ports core right).0.at k l).port.dims))
         (no_dims core.ports.outs (λ k l. ((out_ports core right).at k l).port.dims))
-        ∙ ap (λ ds. record { args = core.ports.args; outs = core.ports.outs; drams = ds }) (sym can.no_drams)
       where
         no_dims : (ps : List PlainPort) → ((k : ℕ) → k < length ps → (slice_index_or ps k no_port).dims ≡ []) → HaveNoDims ps
         no_dims [] h = tt
@@ -250,7 +275,7 @@ module _ (core : PlainCore) (plan : PlainPlan) (can : CanLower core plan) (right
       given m l arg t =
           ap (λ ns. s.net t (slice_index ns m)) x.arguments_are
           ∙ have_words core input ports s.net right (law.net_for_each begun core.ports.args ports x.have) (sym (zip_length (λ (port : PlainPort) word. IsWord port.ty word) core.ports.args input.args r.fits.args))
-          ((frames cells core.ports.args ports whole.added core.ports.outs (map (slice_index words) (outs_of core)) done framed).args_stand (record { cells = cells; args = input.args; drams = input.drams; delays = delays }) s refl is_run) m l arg t
+          ((frames cells core.ports.args ports core.ports.drams whole.added core.ports.outs (map (slice_index words) (outs_of core)) done framed).args_stand (record { cells = cells; args = input.args; drams = input.drams; delays = delays }) s refl is_run) m l arg t
 
       along : GoesAlong core plan timing s child words h left
       along = go timing s child arguments words can.stored (x.circuit s on_e) starts input h left r given
@@ -287,11 +312,18 @@ module _ (core : PlainCore) (plan : PlainPlan) (can : CanLower core plan) (right
           let at = (out_ports core right).at i below in
           along.outs (slice_index (outs_of core) i) (core_timed core plan timing h).took at.within at.of_kind (omega arith)))
 
-      ended : (last : ℕ) → (core_timed core plan timing h).took ≤ last → Ends (record { cells = cells; args = input.args; drams = input.drams; delays = delays }) last (done_in (core_timed core plan timing h).took (out_words core left) [])
+      drams_left : given_lists (record { cells = cells; args = input.args; drams = input.drams; delays = delays }) 0 core.ports.drams ≡ dram_words core left
+      drams_left =
+          law.given (record { cells = cells; args = input.args; drams = input.drams; delays = delays }) core.ports.drams (as_many core.ports.drams input.drams r.fits.drams)
+          ∙ sym (stay right can.stored.moves_none in_lanes input r.turns h left (sym (zip_length _ core.ports.drams input.drams r.fits.drams)) r.ran)
+
+      ended : (last : ℕ) → (core_timed core plan timing h).took ≤ last → Ends (record { cells = cells; args = input.args; drams = input.drams; delays = delays }) last (done_in (core_timed core plan timing h).took (out_words core left) (dram_words core left))
       ended last le =
-          subst (λ ws. Ends (record { cells = cells; args = input.args; drams = input.drams; delays = delays }) last (done_in (core_timed core plan timing h).took ws [])) words_left
-          ((ends (record { cells = cells; args = input.args; drams = input.drams; delays = delays }) s core.ports.args ports whole.added core.ports.outs (map (slice_index words) (outs_of core)) done (core_timed core plan timing h).took last framed
-          is_run none_shared (first_at (core_timed core plan timing h).took refl) le).of_netlist is)
+          subst (λ ds. Ends (record { cells = cells; args = input.args; drams = input.drams; delays = delays }) last (done_in (core_timed core plan timing h).took (out_words core left) ds)) drams_left
+          (subst (λ ws. Ends (record { cells = cells; args = input.args; drams = input.drams; delays = delays }) last
+          (done_in (core_timed core plan timing h).took ws (given_lists (record { cells = cells; args = input.args; drams = input.drams; delays = delays }) 0 core.ports.drams))) words_left
+          ((ends (record { cells = cells; args = input.args; drams = input.drams; delays = delays }) s core.ports.args ports core.ports.drams whole.added core.ports.outs (map (slice_index words) (outs_of core)) done (core_timed core plan timing h).took last
+          framed is_run none_shared (first_at (core_timed core plan timing h).took refl) le).of_netlist is))
 
     pub carried : CarriesCore core plan cells
     carried = record {

@@ -1,11 +1,11 @@
 -- What it is for a netlist to carry a core by a plan.
-use Rattle.std.specs.Prelude.{◌≡◌, ℕ, ◌≤◌, List, []}
+use Rattle.std.specs.Prelude.{ℕ, ◌≡◌, ◌≤◌, List}
 use Rattle.sp_netlist.specs.Cells.{PlainCell}
 use Rattle.sp_netlist.specs.Cycle.{Ends, done_in}
 use Rattle.sp_netlist.specs.Ports.{ports_of}
 use Rattle.sp_words.specs.Ports.{PlainInput}
 use Rattle.sp_core.specs.History.{History}
-use Rattle.sp_core.specs.Meaning.{out_words}
+use Rattle.sp_core.specs.Meaning.{out_words, dram_words}
 use Rattle.sp_core.specs.PlainCore.{PlainCore}
 use Rattle.sp_core.specs.Store.{Store}
 use Rattle.sp_plan.specs.PlainPlan.{PlainPlan}
@@ -15,16 +15,15 @@ use Rattle.sp_stored_cores.specs.Circuits.{IsStoredCore}
 use Rattle.sp_stored_cores.specs.Closing.{RunsByPlan}
 use Rattle.sp_stored_trees.specs.Fits.{CanEmitStored}
 
--- a core of registers, arguments, outputs and SRAMs, in one copy each by the plan, whose tree can be emitted
+-- a core of registers, arguments, outputs and SRAMs, in one copy each by the plan, whose tree can be emitted; its DRAMs no transfer names
 pub record CanLower (core : PlainCore) (plan : PlainPlan) : Type 0 where
   pub can : CanEmitStored core plan
   pub stored : IsStoredCore core plan
-  pub no_drams : core.ports.drams ≡ []
 
 -- Its ports are the core's. For every run of the core from an input that fits, by such a plan, every delays of channels and every number of cycles
 -- that is not less than the timeline takes, it is done in the cycle after the timeline's last one, with the words that the run leaves on
--- the outputs, and up to then no two taps share a port of a bank.
+-- the outputs and in the DRAMs, and up to then no two taps share a port of a bank.
 pub record CarriesCore (core : PlainCore) (plan : PlainPlan) (cells : List PlainCell) : Type 0 where
   pub ports : ports_of cells ≡ core.ports
   pub carries : (timing : Delays) (input : PlainInput) (h : History) (left : Store) → RunsByPlan core plan timing input h left → (delays : List ℕ) (last : ℕ) → (core_timed core plan timing h).took ≤ last
-      → Ends (record { cells = cells; args = input.args; drams = input.drams; delays = delays }) last (done_in (core_timed core plan timing h).took (out_words core left) [])
+      → Ends (record { cells = cells; args = input.args; drams = input.drams; delays = delays }) last (done_in (core_timed core plan timing h).took (out_words core left) (dram_words core left))

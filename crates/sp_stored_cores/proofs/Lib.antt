@@ -2,3 +2,4 @@ mod Circle
 mod Early
 mod Elements
 mod Moving
+mod Untouched

@@ -1,3 +1,4 @@
 pub mod Circuits
 pub mod Closing
+pub mod Outside
 pub mod Quiet

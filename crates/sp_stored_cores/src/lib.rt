@@ -2,7 +2,9 @@
 #![tactic(auto)]
 
 mod closing;
+mod outside;
 mod quiet;
 
 pub use closing::stored_cores_go;
+pub use outside::drams_stay;
 pub use quiet::{core_events_are_timed, nothing_begins_at_once, nothing_moves, runs_take_time};

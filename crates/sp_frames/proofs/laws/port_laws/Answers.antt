@@ -1,15 +1,18 @@
-use Rattle.sp_frames.proofs.Framing.{no_banks, gates_inside, banks_inside, inside_join, no_output, no_end, framed, runs_on, first_words}
-use Rattle.sp_frames.proofs.Naming.{are_named, no_dims, nets_stay, net_for_each, has_nets, each_net}
+use Rattle.sp_frames.proofs.Framing.{no_banks, no_drams, gates_inside, banks_inside, inside_join, no_output, no_end, framed, runs_on, first_words}
+use Rattle.sp_frames.proofs.DramCells.{given_are}
+use Rattle.sp_frames.proofs.Naming.{are_named, no_dims, sizes, nets_stay, net_for_each, has_nets, each_net}
 use Rattle.sp_frames.proofs.laws.port_laws.Goals as goal
 
 pub returns : goal.returns
 returns c = record {
   named = are_named;
   no_dims = no_dims;
+  sizes = sizes;
   nets_stay = nets_stay;
   net_for_each = net_for_each;
   has_nets = has_nets;
   each_net = each_net;
+  no_drams = no_drams;
   no_banks = no_banks;
   gates_inside = gates_inside;
   banks_inside = banks_inside;
@@ -19,4 +22,5 @@ returns c = record {
   framed = framed;
   runs_on = runs_on;
   words = first_words;
+  given = given_are;
 }
