@@ -5,8 +5,8 @@ use std::alloc::{AllocError, Global};
 use std::test::Fail;
 
 /// Programs, each with a setup, what is printed before the line of cycles, and that line's number: exactly (`=`), worked out by hand
-/// from when each part of a circuit is started and done, or at most (`<`), where the answer came from elsewhere. Where the setup names
-/// files, the name and the rows of each stand on a line behind.
+/// from when each part of a circuit is started and done, or at most (`<`), where the answer came from elsewhere or the number is a bound
+/// by hand. Where the setup names files, the name and the rows of each stand on a line behind.
 const CASES: &str = "\
 val x = ArgIn[Int]
 val y = ArgOut[Int]
@@ -264,10 +264,107 @@ out y0 -14
 dram a 0 0 0 0 0
 ----
 <52
+====
+val x = ArgIn[Int]
+val y = ArgOut[Int]
+Accel {
+  val f = FIFO[Int](4)
+  Foreach(4 by 1){ i => f.enq(i * x) }
+  val r = Reg[Int](0)
+  Foreach(4 by 1){ j => r := r * 10 + f.deq() }
+  y := r
+}
+----
+[args]
+x = 3
+----
+out y 369
+----
+<100
+====
+val b0 = DRAM[Int](3, 2); val y = ArgOut[FixPt[FALSE,_32,_0]]; val b = DRAM[FixPt[FALSE,_32,_0]](3, 1, 1); val k = ArgIn[FixPt[FALSE,_32,_0]]; val y0 = ArgOut[FixPt[FALSE,_32,_0]]; Accel {
+val r = Reg[Bit](true)
+Fold(r)(1 until 13, 2 until 4 by 1 par 8){ (t, k0) =>
+val v = ~t ; ;
+val acc = Reg[FixPt[FALSE,_32,_0]](2.to[FixPt[FALSE,_32,_0]]) ; ;
+y := (~(acc + acc)).to[FixPt[FALSE,_32,_0]] ; ;
+acc.value * (~(0x14)) < acc }{_ ^ _}
+r := mux(8.to[FixPt[FALSE,_32,_0]].to[Bit], 18.to[FixPt[FALSE,_32,_0]] != k, r ^ r) & k.to[Bit]
+val f = FIFO[Int](5)
+val n = Reg[Int](-20.to[Int])
+Foreach(4 by 1){ k0 => f.enq((k0) + k0 || k0 + k0); n := f.deq() }
+y0 := max(k.value + 20, k)
+}
+----
+cycles = 1_000_000
+[args]
+k = 30
+[dram]
+b0 = \"b0.csv\"
+b = \"b.csv\"
+----
+out y 4294967291
+out y0 50
+dram b0 -19 -25 384413934 4 -20 583209780
+dram b 34 1607624684 28
+----
+<138
+----
+b0.csv|-19;-25;384413934;4;-20;583209780
+b.csv|34;1607624684;28
+====
+val d = DRAM[FixPt[TRUE,_21,_24]](1, 4)
+val k = ArgIn[Int]
+val k0 = ArgIn[FixPt[TRUE,_21,_24]]
+val y = ArgOut[Int]
+Accel {
+val p = SRAM[Int](1, 2, 3)
+val f = FIFO[FixPt[TRUE,_21,_24]](7)
+val r = Reg[FixPt[TRUE,_21,_24]]
+Foreach(2 by 1){ (t) => f.enq(k0) }
+Reduce(r)(2 by 1){ j => f.deq() | mux(true, k0, k0.value) }{_ || _}
+r := r
+val acc = Reg[Int](-20.0)
+val p0 = SRAM[Int](1)
+Foreach(1){ t =>
+if (!mux(true & false, mux(true, true, false), k > acc)) { }
+p0(t) = mux(k >= 7, ~t, mux(true, t, acc))
+}
+if (!!mux(true, false, true)) {
+Foreach(-3 until -3 by 1, 0 until 5 by 3){ (j, k1) =>
+FSM(3.to[FixPt[TRUE,_21,_24]])(q => q > 0){ q =>
+val v = max(mux(false, j, p0((p0(min(max(k, 0), 0)) & 0))).to[FixPt[TRUE,_21,_24]], mux(true, r, k0 | r)) ; ;
+acc := ~acc.to[FixPt[TRUE,_21,_24]].to[Int]
+}{ q => q - 1 }
+};
+val s = SRAM[Int](3, 3, 3);
+Foreach(0 until 3, 3 by 1, 3 par 2){ (r0, t, t0) => s(r0, t, t0) = -min(acc, 2) };
+} else {
+}
+val r0 = Reg[Int](-12)
+r0 := r0 + r.to[Int]
+r0 := r0 + acc
+Fold(r0)(1){ w0 => p0(w0) }{_ + _}
+y := r0
+}
+----
+turns = 116307
+[args]
+k0 = \"-23.23499071598052978515625\"
+k = 30
+[dram]
+d = \"d.csv\"
+----
+out y -57
+dram d -976593.146544396877288818359375 -31.858939230442047119140625 -13.7127330303192138671875 30.926994860172271728515625
+----
+<84
+----
+d.csv|-976593.146544396877288818359375;-31.858939230442047119140625;-13.7127330303192138671875;30.926994860172271728515625
 ";
 
 /// How many cases there are.
-const COUNT: u32 = 13;
+const COUNT: u32 = 16;
 
 fn file(alloc: Global, name: &str, bytes: &[u8]) -> Result<MemFile, AllocError> {
     Ok(MemFile {

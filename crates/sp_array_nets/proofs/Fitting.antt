@@ -1,17 +1,19 @@
 -- What is done to an SRAM fits its banks, and what stands in a draft still stands in a later one.
-use Rattle.std.proofs.Common.{◌≡◌, ◌≢◌, ℕ, ◌-◌, ◌<◌, ◌≤◌, ◌^◌, ◌+◌, min, inl, inr, true, List, [], ◌∷◌, length, map, All, Contains, refl, sym, ap, subst, ◌∙◌, arith}
+use Rattle.std.proofs.Common.{◌≡◌, ◌≢◌, ℕ, ◌-◌, ◌<◌, ◌≤◌, ◌^◌, ◌+◌, ◌*◌, min, inl, inr, true, List, [], ◌∷◌, length, map, All, Contains, refl, sym, ap, subst, ◌∙◌, arith}
 use Rattle.std.specs.List.{AllZip, filter}
 use Rattle.std.proofs.lemmas.List.Elements.{All-weaker, All-contains_itself}
 use Rattle.sp_words.specs.declared.kind.Kind.{Kind}
 use Rattle.sp_words.specs.declared.kind.Kind.TheVariants.{Reg, Sram, Fifo, LineBuf, Dram, ArgIn, ArgOut}
 use Rattle.sp_words.specs.declared.types.Ty.{Ty}
 use Rattle.sp_words.specs.Types.{width_of}
+use Rattle.sp_bank.specs.Places.{bank_length}
 use Rattle.sp_netlist.specs.Draft.{Draft, IsReady, IsKept}
 use Rattle.sp_gates.specs.Grows.{Grows}
 use Rattle.sp_gates.specs.Nets.{HasNet, IsOpen, Awaits}
+use Rattle.sp_gates.proofs.Growing.{HasNet-stays}
 use Rattle.sp_core.specs.declared.operation.OpKind.{OpKind}
 use Rattle.sp_core.specs.declared.operation.OpKind.TheVariants.{Read, Write}
-use Rattle.sp_core.specs.Declarations.{mem, kind_of, dims}
+use Rattle.sp_core.specs.Declarations.{mem, kind_of, dims, depth}
 use Rattle.sp_core.specs.PlainCore.{PlainCore}
 use Rattle.sp_plan.specs.PlainPlan.{PlainPlan, mem_plan}
 use Rattle.sp_mem.specs.declared.part.Touch.{Touch}
@@ -20,6 +22,7 @@ use Rattle.sp_mem.proofs.Kept.{copy_kept}
 use Rattle.sp_places.specs.declared.layout.Layout.{Layout}
 use Rattle.sp_requests.specs.Requests.{TouchFits}
 use Rattle.sp_taps.specs.declared.store.Store.{Store}
+use Rattle.sp_taps.specs.Stores.{AreStores}
 use Rattle.sp_banked.specs.declared.part.Banked.{Banked}
 use Rattle.sp_banked.specs.Fits.{bank_count, BankedFits}
 use Rattle.sp_op_nets.specs.Reserved.{Rise}
@@ -27,41 +30,74 @@ use Rattle.sp_part_runs.specs.ActsEntries.{index_words, word_that_changes}
 use Rattle.sp_access_nets.specs.declared.access.AccessNets.{AccessNets}
 use Rattle.sp_access_nets.specs.Picking.{is_to, PicksAccessesTo}
 use Rattle.sp_tree_handed.specs.declared.owners.OwnerNets.{OwnerNets}
-use Rattle.sp_tree_handed.specs.Scalars.{IsScalar, IsStored, IsInBanks}
+use Rattle.sp_tree_handed.specs.Scalars.{IsScalar, IsInBanks}
 use Rattle.sp_tree_handed.specs.Standing.{AccessStands}
+use Rattle.sp_tree_accesses.specs.Queued.{QueuedStands}
 use Rattle.sp_scalar_nets.specs.Fits.{ScalarFits}
 use Rattle.sp_scalar_nets.specs.Lists as scalar
 use Rattle.sp_scalar_nets.specs.Lists.{answer_net, is_reader, answers_to}
 use Rattle.sp_scalar_nets.proofs.Answering.{reader_answers, answer_in_to, apart}
 use Rattle.sp_scalar_nets.proofs.Fitting.{accesses_stay}
+use Rattle.sp_fifo_nets.specs.Fits.{FifoFits}
 use Rattle.sp_array_nets.specs.Arrays.{HasShapeOf, IsArrayOf}
+use Rattle.sp_array_nets.specs.Banks.{array_banking, banks_of_kind, size_of_kind}
 use Rattle.sp_array_nets.specs.Fits.{AccessesFit, MemoryFits}
+use Rattle.sp_array_nets.specs.Kinds.{IsEmitted}
 use Rattle.sp_array_nets.specs.Touches.{IsReadBy, IsWriteBy}
 use Rattle.sp_array_nets.proofs.Shapes.{count_is, shape_is}
 use Rattle.sp_array_nets.proofs.Zipping.{zip_all, zip_same, passing}
+
+queued_stays : (a b : Draft) (core : PlainCore) (x : AccessNets) → Grows a b → QueuedStands a core x → QueuedStands b core x
+queued_stays a b core x g h = record {
+  some = h.some;
+  word = λ e. HasNet-stays a b _ _ g (h.word e);
+  answered = h.answered;
+  later = h.later;
+  unread = h.unread;
+}
 
 pub accesses_fit_stay : (a b : Draft) (core : PlainCore) (accesses : List AccessNets) → Grows a b → AccessesFit a core accesses → AccessesFit b core accesses
 accesses_fit_stay a b core accesses g h = record {
   stand = accesses_stay a b core accesses g h.stand;
   copied = All-weaker (λ (x : AccessNets). CopyFits a x.copy) (λ (x : AccessNets). CopyFits b x.copy) (λ x s. copy_kept a b g x.copy s) accesses h.copied;
+  queued = All-weaker (QueuedStands a core) (QueuedStands b core) (λ x s. queued_stays a b core x g s) accesses h.queued;
   reads = h.reads;
 }
 
-scalar_of : (k : Kind) → IsStored k → k ≢ Sram → IsScalar k
-scalar_of Reg s n = tt
-scalar_of ArgIn s n = tt
-scalar_of ArgOut s n = tt
-scalar_of Sram s n = absurd (n refl)
-scalar_of Fifo s n = absurd s
-scalar_of LineBuf s n = absurd s
-scalar_of Dram s n = absurd s
+pub scalar_of : (k : Kind) → IsEmitted k → k ≢ Sram → k ≢ Fifo → IsScalar k
+scalar_of Reg s n f = tt
+scalar_of ArgIn s n f = tt
+scalar_of ArgOut s n f = tt
+scalar_of Sram s n f = absurd (n refl)
+scalar_of Fifo s n f = absurd (f refl)
+scalar_of LineBuf s n f = absurd s
+scalar_of Dram s n f = absurd s
 
--- a memory that is no SRAM fits as one word
-pub scalar_fits : (d : Draft) (core : PlainCore) (plan : PlainPlan) (accesses : List AccessNets) (owners : OwnerNets) (port bank : ℕ) (stores : List Store) (start m : ℕ)
-    → kind_of core m ≢ Sram → MemoryFits d core plan accesses owners port bank stores start m → ScalarFits d core accesses owners port start m
-scalar_fits d core plan accesses owners port bank stores start m other h = record {
+-- a FIFO fits as one
+pub fifo_fits : (d : Draft) (core : PlainCore) (plan : PlainPlan) (accesses : List AccessNets) (owners : OwnerNets) (port bank : ℕ) (stores : List Store) (start m : ℕ)
+    → kind_of core m ≡ Fifo → MemoryFits d core plan accesses owners port bank stores start m → FifoFits d core plan accesses owners bank stores start m
+fifo_fits d core plan accesses owners port bank stores start m fifo h = record {
   within = h.within;
-  scalar = scalar_of (kind_of core m) h.stored other;
+  planned = h.planned.memories;
+  fifo = fifo;
+  starts = h.starts;
+  accesses_stand = h.accesses_fit.stand;
+  queued = h.accesses_fit.queued;
+  owners_stand = h.owners_stand;
+  each = h.banks.each ∙ ap (λ k. banks_of_kind k ((mem_plan plan m).duplicates * ((mem_plan plan m).depth * (array_banking core plan m).banks)) (mem_plan plan m).depth) fifo;
+  rows = h.banks.rows;
+  wires = h.banks.wires;
+  banks = subst (λ n. AreStores d bank (width_of (mem core m).ty) n stores) (ap (λ k. size_of_kind k (bank_length (array_banking core plan m) (dims core m)) (depth core m)) fifo) h.banks.banks;
+  awaiting = h.awaiting;
+  rise = h.rise;
+}
+
+-- a memory that is neither an SRAM nor a FIFO fits as one word
+pub scalar_fits : (d : Draft) (core : PlainCore) (plan : PlainPlan) (accesses : List AccessNets) (owners : OwnerNets) (port bank : ℕ) (stores : List Store) (start m : ℕ)
+    → kind_of core m ≢ Sram → kind_of core m ≢ Fifo → MemoryFits d core plan accesses owners port bank stores start m → ScalarFits d core accesses owners port start m
+scalar_fits d core plan accesses owners port bank stores start m other fifo h = record {
+  within = h.within;
+  scalar = scalar_of (kind_of core m) h.stored other fifo;
   starts = h.starts;
   ported = h.ported;
   accesses_stand = h.accesses_fit.stand;
@@ -134,7 +170,12 @@ module _ (picks : PicksAccessesTo) (d : Draft) (core : PlainCore) (plan : PlainP
       }
 
   kind_read : (a : AccessNets) → Reads a → a.kind ≡ Read
-  kind_read a k = let r = reader_answers m a k.0 in fits.accesses_fit.reads a r.1 k.1.there r.2
+  kind_read a k =
+      let r = reader_answers m a k.0 in
+      elim (fits.accesses_fit.reads a r.1 k.1.there r.2) [
+        | inl read ↦ read
+        | inr take ↦ absurd (let other : Fifo ≡ Sram = sym take.1 ∙ ap (kind_of core) r.0 ∙ sram in cc)
+      ]
 
   word_found : (a : AccessNets) → Reads a → Awaits d (answer_net a.answer) width
   word_found a k =

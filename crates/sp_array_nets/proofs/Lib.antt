@@ -7,5 +7,6 @@ pub mod Collecting
 pub mod Pushing
 pub mod OneWord
 pub mod Touched
+mod Queues
 mod Sharing
 pub mod Planned

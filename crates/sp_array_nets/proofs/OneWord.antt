@@ -1,4 +1,4 @@
--- A memory that is no SRAM is one word, and has no banks.
+-- A memory that is neither an SRAM nor a FIFO is one word, and has no banks.
 use Rattle.std.proofs.Common.{◌≡◌, ◌≢◌, ℕ, ◌+◌, ◌<◌, ◌^◌, List, [], ◌∷◌, ◌++◌, length, filter, flat_map, count_by, refl, sym, ap, subst, ◌∙◌, arith}
 use Rattle.std.proofs.lemmas.List.{append-nil}
 use Rattle.std.proofs.lemmas.List.Elements.{All-nil}
@@ -22,30 +22,30 @@ use Rattle.sp_scalar_nets.specs.Runs as word
 use Rattle.sp_array_nets.specs.Banks.{ArrayStands, banks_of_kind, array_banks, array_size}
 use Rattle.sp_array_nets.specs.Runs.{RunsMemory, an_argument, a_register}
 
-pub no_banks : (k : Kind) (n : ℕ) → k ≢ Sram → banks_of_kind k n ≡ 0
-no_banks Sram n other = absurd (other refl)
-no_banks Reg n other = refl
-no_banks Fifo n other = refl
-no_banks LineBuf n other = refl
-no_banks Dram n other = refl
-no_banks ArgIn n other = refl
-no_banks ArgOut n other = refl
+pub no_banks : (k : Kind) (n d : ℕ) → k ≢ Sram → k ≢ Fifo → banks_of_kind k n d ≡ 0
+no_banks Sram n d array fifo = absurd (array refl)
+no_banks Fifo n d array fifo = absurd (fifo refl)
+no_banks Reg n d array fifo = refl
+no_banks LineBuf n d array fifo = refl
+no_banks Dram n d array fifo = refl
+no_banks ArgIn n d array fifo = refl
+no_banks ArgOut n d array fifo = refl
 
 pub none_of : (stores : List Store) → length stores ≡ 0 → stores ≡ []
 none_of [] e = refl
 none_of (x ∷ xs) e = absurd (omega (arith, e))
 
-pub word_fills : (a b d : Draft) (core : PlainCore) (plan : PlainPlan) (m bank : ℕ) (stores : List Store) (nets : List ℕ) → kind_of core m ≢ Sram → ArrayStands d core plan m bank stores → Fills a b nets → Fills a b (flat_map wires_of stores ++ nets)
-word_fills a b d core plan m bank stores nets other h f = subst (λ (ss : List Store). Fills a b (flat_map wires_of ss ++ nets)) (sym (none_of stores (h.each ∙ no_banks (kind_of core m) _ other))) f
+pub word_fills : (a b d : Draft) (core : PlainCore) (plan : PlainPlan) (m bank : ℕ) (stores : List Store) (nets : List ℕ) → kind_of core m ≢ Sram → kind_of core m ≢ Fifo → ArrayStands d core plan m bank stores → Fills a b nets → Fills a b (flat_map wires_of stores ++ nets)
+word_fills a b d core plan m bank stores nets other fifo h f = subst (λ (ss : List Store). Fills a b (flat_map wires_of ss ++ nets)) (sym (none_of stores (h.each ∙ no_banks (kind_of core m) _ _ other fifo))) f
 
-pub word_runs : (core : PlainCore) (plan : PlainPlan) (s : Signals) (accesses : List AccessNets) (owners : OwnerNets) (port m net : ℕ) → kind_of core m ≢ Sram
+pub word_runs : (core : PlainCore) (plan : PlainPlan) (s : Signals) (accesses : List AccessNets) (owners : OwnerNets) (port m net : ℕ) → kind_of core m ≢ Sram → kind_of core m ≢ Fifo
     → word.RunsScalar core s accesses owners port m net → RunsMemory core plan s accesses owners port m net
-word_runs core plan s accesses owners port m net other (word.an_argument is same followed) = an_argument is same followed
-word_runs core plan s accesses owners port m net other (word.a_register is runs) = a_register is other runs
+word_runs core plan s accesses owners port m net other fifo (word.an_argument is same followed) = an_argument is same followed
+word_runs core plan s accesses owners port m net other fifo (word.a_register is runs) = a_register is other fifo runs
 
-module _ (d : Draft) (core : PlainCore) (plan : PlainPlan) (m bank : ℕ) (other : kind_of core m ≢ Sram) where
+module _ (d : Draft) (core : PlainCore) (plan : PlainPlan) (m bank : ℕ) (other : kind_of core m ≢ Sram) (fifo : kind_of core m ≢ Fifo) where
   none : array_banks core plan m ≡ 0
-  none = no_banks (kind_of core m) _ other
+  none = no_banks (kind_of core m) _ _ other fifo
 
   pub word_stands : (stores : List Store) → stores ≡ [] → bank < 2 ^ 64 → ArrayStands d core plan m bank stores
   word_stands stores e l = subst (ArrayStands d core plan m bank) (sym e) (record {

@@ -6,7 +6,7 @@ use Rattle.sp_words.specs.Types.{width_of}
 use Rattle.sp_bank.specs.Banking.{Banking}
 use Rattle.sp_bank.specs.Places.{bank_length}
 use Rattle.sp_netlist.specs.Draft.{Draft}
-use Rattle.sp_core.specs.Declarations.{mem, kind_of}
+use Rattle.sp_core.specs.Declarations.{mem, kind_of, dims, depth}
 use Rattle.sp_core.specs.PlainCore.{PlainCore}
 use Rattle.sp_plan.specs.PlainPlan.{PlainPlan, mem_plan}
 use Rattle.sp_taps.specs.declared.store.Store.{Store}
@@ -15,17 +15,19 @@ use Rattle.sp_taps.specs.Stores.{AreStores, bank_cells}
 use Rattle.sp_banked.specs.declared.part.Banked.{Banked}
 use Rattle.sp_banked.specs.Fits.{bank_count, bank_size, IsShape, StoresFit}
 use Rattle.sp_array_nets.specs.Arrays.{HasShapeOf}
-use Rattle.sp_array_nets.specs.Banks.{HasArrayPlan, ArrayStands, array_banking, banks_of_kind, array_banks, array_size}
+use Rattle.sp_array_nets.specs.Banks.{HasArrayPlan, ArrayStands, array_banking, banks_of_kind, size_of_kind, array_banks, array_size}
 
 module _ (core : PlainCore) (plan : PlainPlan) (m : ℕ) (part : Banked) (sram : kind_of core m ≡ Sram) (h : HasShapeOf core plan m part) where
   pub count_is : bank_count part ≡ array_banks core plan m
   count_is =
       let p = mem_plan plan m in
       ap (λ n. n * (part.copies * part.layout.banks)) h.duplicates ∙ ap (λ n. p.duplicates * (n * part.layout.banks)) h.copies ∙ ap (λ (b : Banking). p.duplicates * (p.depth * b.banks)) h.layout.banking
-      ∙ sym (ap (λ k. banks_of_kind k (p.duplicates * (p.depth * (array_banking core plan m).banks))) sram)
+      ∙ sym (ap (λ k. banks_of_kind k (p.duplicates * (p.depth * (array_banking core plan m).banks)) p.depth) sram)
 
   pub size_is : bank_size part ≡ array_size core plan m
-  size_is = ap (λ (b : Banking). bank_length b part.layout.dims.items) h.layout.banking ∙ ap (bank_length (array_banking core plan m)) h.layout.sizes
+  size_is =
+      ap (λ (b : Banking). bank_length b part.layout.dims.items) h.layout.banking ∙ ap (bank_length (array_banking core plan m)) h.layout.sizes
+      ∙ sym (ap (λ k. size_of_kind k (bank_length (array_banking core plan m) (dims core m)) (depth core m)) sram)
 
   pub shape_is : HasArrayPlan core plan → m < length core.mems → bank_count part < 2 ^ 32 → part.bank + bank_count part < 2 ^ 64 → IsShape part
   shape_is planned within few numbers = record {

@@ -1,13 +1,13 @@
 -- The banks of the SRAMs of a core by a plan, in the order of memories.
 use Rattle.std.specs.Prelude.{◌≡◌, ℕ, zero, suc, ◌+◌, ◌*◌, ◌<◌, ◌≤◌, ◌^◌, List, [], ◌++◌, length, map, flat_map, slice_index, slice_index_or, All, Contains, Some}
 use Rattle.sp_words.specs.declared.kind.Kind.{Kind}
-use Rattle.sp_words.specs.declared.kind.Kind.TheVariants.{Sram}
+use Rattle.sp_words.specs.declared.kind.Kind.TheVariants.{Sram, Fifo}
 use Rattle.sp_words.specs.Types.{width_of}
 use Rattle.sp_bank.specs.Banking.{Banking}
 use Rattle.sp_bank.specs.Places.{bank_length}
 use Rattle.sp_netlist.specs.Cells.{PlainCell}
 use Rattle.sp_netlist.specs.Draft.{Draft}
-use Rattle.sp_core.specs.Declarations.{mem, kind_of, dims}
+use Rattle.sp_core.specs.Declarations.{mem, kind_of, dims, depth}
 use Rattle.sp_core.specs.PlainCore.{PlainCore}
 use Rattle.sp_places.specs.declared.layout.Layout.{Layout}
 use Rattle.sp_places.specs.Layouts.{IsLayout}
@@ -27,10 +27,15 @@ pub record HasArrayPlan (core : PlainCore) (plan : PlainPlan) : Type 0 where
   pub copies : (m : ℕ) → m < length core.mems → kind_of core m ≡ Sram → 1 ≤ (mem_plan plan m).depth
   pub duplicates : (m : ℕ) → m < length core.mems → kind_of core m ≡ Sram → 1 ≤ (mem_plan plan m).duplicates
 
--- SRAMs alone have banks
-abbrev pub banks_of_kind : Kind → (banks : ℕ) → ℕ
-banks_of_kind Sram n = n
-banks_of_kind kind n = 0
+-- SRAMs have banks by their layouts, and FIFOs one for each copy, as long as they are deep
+abbrev pub banks_of_kind : Kind → (banks copies : ℕ) → ℕ
+banks_of_kind Sram n k = n
+banks_of_kind Fifo n k = k
+banks_of_kind kind n k = 0
+
+abbrev pub size_of_kind : Kind → (size deep : ℕ) → ℕ
+size_of_kind Fifo n k = k
+size_of_kind kind n k = n
 
 module _ (core : PlainCore) (plan : PlainPlan) where
   abbrev pub array_banking : (mem : ℕ) → Banking
@@ -38,10 +43,10 @@ module _ (core : PlainCore) (plan : PlainPlan) where
 
   -- so many banks has a memory in all its copies and duplicates, and so many words has each of them
   abbrev pub array_banks : (mem : ℕ) → ℕ
-  array_banks m = banks_of_kind (kind_of core m) ((mem_plan plan m).duplicates * ((mem_plan plan m).depth * (array_banking m).banks))
+  array_banks m = banks_of_kind (kind_of core m) ((mem_plan plan m).duplicates * ((mem_plan plan m).depth * (array_banking m).banks)) (mem_plan plan m).depth
 
   abbrev pub array_size : (mem : ℕ) → ℕ
-  array_size m = bank_length (array_banking m) (dims core m)
+  array_size m = size_of_kind (kind_of core m) (bank_length (array_banking m) (dims core m)) (depth core m)
 
   -- those of the memories before one
   abbrev pub banks_before : (mem : ℕ) → ℕ
@@ -70,7 +75,7 @@ stores_in arrays = flat_map (λ (a : Array). a.stores.items) arrays
 abbrev pub wires_in : List Array → List ℕ
 wires_in arrays = flat_map wires_of (stores_in arrays)
 
--- the banks of an SRAM were added, and the nets of their ports are to be driven; each bank is one on whose ports no two enabled taps stand
+-- the banks of a memory were added, and the nets of their ports are to be driven; each bank is one on whose ports no two enabled taps stand
 pub record ArrayStands (d : Draft) (core : PlainCore) (plan : PlainPlan) (m bank : ℕ) (stores : List Store) : Type 0 where
   pub few : array_banks core plan m < 2 ^ 32
   pub numbers : bank + array_banks core plan m < 2 ^ 64

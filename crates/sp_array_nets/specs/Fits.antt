@@ -1,10 +1,10 @@
 -- When the circuits of the memories of a core can be emitted.
-use Rattle.std.specs.Prelude.{◌≡◌, ℕ, ◌<◌, List, length, slice_index, All, Contains, Some}
-use Rattle.sp_words.specs.declared.kind.Kind.TheVariants.{ArgIn}
+use Rattle.std.specs.Prelude.{◌≡◌, ◌⊎◌, ℕ, ◌<◌, List, length, slice_index, All, Contains, Some}
+use Rattle.sp_words.specs.declared.kind.Kind.TheVariants.{Fifo, ArgIn}
 use Rattle.sp_words.specs.Types.{width_of}
 use Rattle.sp_netlist.specs.Draft.{Draft}
 use Rattle.sp_gates.specs.Nets.{HasNet, IsOpen}
-use Rattle.sp_core.specs.declared.operation.OpKind.TheVariants.{Read}
+use Rattle.sp_core.specs.declared.operation.OpKind.TheVariants.{Read, Deq}
 use Rattle.sp_core.specs.Declarations.{mem, kind_of}
 use Rattle.sp_core.specs.PlainCore.{PlainCore}
 use Rattle.sp_plan.specs.PlainPlan.{PlainPlan}
@@ -15,22 +15,24 @@ use Rattle.sp_circuit_ops.specs.declared.ops.WordNet.{WordNet}
 use Rattle.sp_access_nets.specs.declared.access.AccessNets.{AccessNets}
 use Rattle.sp_access_nets.specs.Laws.{answer_nets}
 use Rattle.sp_tree_handed.specs.declared.owners.OwnerNets.{OwnerNets}
-use Rattle.sp_tree_handed.specs.Scalars.{IsStored, AreStored}
 use Rattle.sp_tree_handed.specs.Standing.{AccessStands, OwnersStand}
+use Rattle.sp_tree_accesses.specs.Queued.{QueuedStands}
 use Rattle.sp_scalar_nets.specs.Lists.{answers_to}
 use Rattle.sp_array_nets.specs.declared.array.Array.{Array}
 use Rattle.sp_array_nets.specs.Banks.{HasArrayPlan, ArrayStands, ArraysStand}
+use Rattle.sp_array_nets.specs.Kinds.{IsEmitted, AreEmitted}
 
--- what is asked of accesses: they have their nets, the net of a copy is 32 bits wide, and what is answered reads
+-- what is asked of accesses: they have their nets, the net of a copy is 32 bits wide, and what is answered reads, or takes from a FIFO
 pub record AccessesFit (d : Draft) (core : PlainCore) (accesses : List AccessNets) : Type 0 where
   pub stand : All (AccessStands d core) accesses
   pub copied : All (λ (a : AccessNets). CopyFits d a.copy) accesses
-  pub reads : (a : AccessNets) (word : WordNet) → Contains accesses a → a.answer ≡ Some word → a.kind ≡ Read
+  pub queued : All (QueuedStands d core) accesses
+  pub reads : (a : AccessNets) (word : WordNet) → Contains accesses a → a.answer ≡ Some word → (a.kind ≡ Read) ⊎ ((a.kind ≡ Deq) × (kind_of core a.mem ≡ Fifo))
 
 -- of one memory, whose banks begin with a number; an argument has the net of its port
 pub record MemoryFits (d : Draft) (core : PlainCore) (plan : PlainPlan) (accesses : List AccessNets) (owners : OwnerNets) (port bank : ℕ) (stores : List Store) (start m : ℕ) : Type 0 where
   pub within : m < length core.mems
-  pub stored : IsStored (kind_of core m)
+  pub stored : IsEmitted (kind_of core m)
   pub planned : HasArrayPlan core plan
   pub starts : HasNet d start 1
   pub ported : kind_of core m ≡ ArgIn → HasNet d port (width_of (mem core m).ty)
@@ -41,10 +43,10 @@ pub record MemoryFits (d : Draft) (core : PlainCore) (plan : PlainPlan) (accesse
   pub awaiting : (net : ℕ) → Contains (answers_to m accesses) net → IsOpen d net
   pub rise : Rise 0 (answers_to m accesses)
 
--- of all memories of a core, which are registers, arguments, outputs and SRAMs; `arguments` has the nets of the arguments' ports, by the
+-- of all memories of a core, which are registers, arguments, outputs, SRAMs and FIFOs; `arguments` has the nets of the arguments' ports, by the
 -- memory's number
 pub record MemoriesFit (d : Draft) (core : PlainCore) (plan : PlainPlan) (accesses : List AccessNets) (owners : OwnerNets) (arguments : List ℕ) (arrays : List Array) (start : ℕ) : Type 0 where
-  pub stored : AreStored core
+  pub stored : AreEmitted core
   pub planned : HasArrayPlan core plan
   pub starts : HasNet d start 1
   pub each : length arguments ≡ length core.mems

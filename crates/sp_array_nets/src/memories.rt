@@ -1,7 +1,7 @@
 //! The circuits of all memories of a core.
 ghost use Rattle.std.specs.Prelude.{◌≡◌, ◌≢◌, ℕ, ◌<◌, ◌++◌, length, slice_index, flat_map, IfOk, OnOk};
 ghost use Rattle.sp_words.specs.Types.{width_of};
-ghost use Rattle.sp_words.specs.declared.kind.Kind.TheVariants.{Sram};
+ghost use Rattle.sp_words.specs.declared.kind.Kind.TheVariants.{Sram, Fifo};
 ghost use Rattle.sp_netlist.specs.Signals.{Signals};
 ghost use Rattle.sp_gates.specs.Grows.{Fills};
 ghost use Rattle.sp_gates.specs.Nets.{HasNet};
@@ -21,6 +21,7 @@ use crate::arrays::emit_array;
 use crate::shape::memory;
 use sp_access_nets::AccessNets;
 use sp_core::Core;
+use sp_fifo_nets::emit_fifo;
 use sp_netlist::{Builder, NetId, NoMemory};
 use sp_plan::Plan;
 use sp_scalar_nets::emit_scalar;
@@ -29,13 +30,13 @@ use sp_tree_handed::OwnerNets;
 use sp_words::Kind;
 use std::alloc::Global;
 
-/// The nets of the words of a core's memories, by the memory's number; of an SRAM any net.
+/// The nets of the words of a core's memories, by the memory's number; of an SRAM or a FIFO any net.
 #[derive(Debug, Drop)]
 pub struct MemoryNets {
     pub words: Vec<NetId>,
 }
 
-/// Emits a memory. The net has its word; that of an argument is its port, and for an SRAM any net stands.
+/// Emits a memory. The net has its word; that of an argument is its port, and for an SRAM or a FIFO any net stands.
 fn emit_memory(
     alloc: Global,
     builder: &mut Builder,
@@ -50,12 +51,27 @@ fn emit_memory(
 ) -> Result<NetId, NoMemory>
     requires fits { MemoryFits builder.old (plain_core core.now) (plain_plan plan.now) accesses.now owners.now port array.now.bank array.now.stores.items start m }
     ensures fills { OnOk result (Fills builder.old builder.new (flat_map wires_of array.now.stores.items ++ answers_to m accesses.now)) }
-    ensures net { IfOk result (λ net. kind_of (plain_core core.now) m ≢ Sram → HasNet builder.new net (width_of (mem (plain_core core.now) m).ty)) }
+    ensures net { IfOk result (λ net. kind_of (plain_core core.now) m ≢ Sram → kind_of (plain_core core.now) m ≢ Fifo → HasNet builder.new net (width_of (mem (plain_core core.now) m).ty)) }
     ensures runs { IfOk result (λ net. (s : Signals) → RunsOn s builder.new.cells → RunsMemory (plain_core core.now) (plain_plan plan.now) s accesses.now owners.now port m net) }
 {
     match memory(core, m).kind {
         Kind::Sram => {
             emit_array(alloc, builder, core, plan, accesses, array, start, m)?;
+            Ok(start)
+        }
+        Kind::Fifo => {
+            emit_fifo(
+                alloc,
+                builder,
+                core,
+                plan,
+                accesses,
+                owners,
+                array.bank,
+                &array.stores,
+                start,
+                m,
+            )?;
             Ok(start)
         }
         _ => {
@@ -65,8 +81,9 @@ fn emit_memory(
     }
 }
 
-/// Emits the memories of a core of which each is a register, an argument, an output or an SRAM: a register in one copy, an SRAM in
-/// banks that were added before. Each access that is to be answered is so a cycle later, and two cycles later by an SRAM.
+/// Emits the memories of a core of which each is a register, an argument, an output, an SRAM or a FIFO: a register in one copy, an
+/// SRAM and a FIFO in banks that were added before. Each access that is to be answered is so a cycle later, and two cycles later by an
+/// SRAM or a FIFO.
 /// `arguments` has the nets of the arguments' ports by the memory's number, and anything else at other numbers; `start` is 1 in
 /// the cycle in which a run begins.
 pub fn emit_memories(
@@ -83,7 +100,7 @@ pub fn emit_memories(
     requires { MemoriesFit builder.old (plain_core core.now) (plain_plan plan.now) accesses.now owners.now arguments.now arrays.now start }
     ensures fills { OnOk result (Fills builder.old builder.new (answer_nets accesses.now ++ wires_in arrays.now)) }
     ensures each { IfOk result (λ nets. length nets.words.items ≡ length (plain_core core.now).mems) }
-    ensures nets { IfOk result (λ nets. (m : ℕ) → m < length (plain_core core.now).mems → kind_of (plain_core core.now) m ≢ Sram → HasNet builder.new (slice_index nets.words.items m) (width_of (mem (plain_core core.now) m).ty)) }
+    ensures nets { IfOk result (λ nets. (m : ℕ) → m < length (plain_core core.now).mems → kind_of (plain_core core.now) m ≢ Sram → kind_of (plain_core core.now) m ≢ Fifo → HasNet builder.new (slice_index nets.words.items m) (width_of (mem (plain_core core.now) m).ty)) }
     ensures runs { IfOk result (λ nets. (s : Signals) → RunsOn s builder.new.cells → RunMemories (plain_core core.now) (plain_plan plan.now) s accesses.now owners.now arguments.now nets.words.items) }
 {
     tap_laws();

@@ -1,9 +1,9 @@
 -- The accesses of an SRAM are those of its circuit, and each read is answered.
-use Rattle.std.proofs.Common.{◌≡◌, ◌≢◌, ℕ, suc, ◌<◌, ◌^◌, List, [], ◌∷◌, ◌++◌, length, map, All, Option, Some, refl, sym, ap, subst, ◌∙◌, arith}
+use Rattle.std.proofs.Common.{◌≡◌, ◌≢◌, ℕ, suc, ◌<◌, ◌^◌, inl, inr, List, [], ◌∷◌, ◌++◌, length, map, All, Option, Some, refl, sym, ap, subst, ◌∙◌, arith}
 use Rattle.std.specs.List.{AllZip, Contains, filter}
 use Rattle.std.proofs.lemmas.List.Elements.{All-contains}
 use Rattle.sp_words.specs.declared.kind.Kind.{Kind}
-use Rattle.sp_words.specs.declared.kind.Kind.TheVariants.{Sram, ArgIn}
+use Rattle.sp_words.specs.declared.kind.Kind.TheVariants.{Sram, Fifo, ArgIn}
 use Rattle.sp_words.specs.Memory.{Contents}
 use Rattle.sp_netlist.specs.Signals.{Signals}
 use Rattle.sp_core.specs.declared.operation.OpKind.{OpKind}
@@ -106,7 +106,14 @@ module _ (core : PlainCore) (plan : PlainPlan) (s : Signals) (events : List Stam
     a_read a c =
         let f = filter_from (is_reader m) accesses a c in
         let r = reader_answers m a f.1 in
-        record { there = f.0; mem = r.0; kind_is = h.asked a r.1 f.0 r.2 }
+        record {
+          there = f.0;
+          mem = r.0;
+          kind_is = elim (h.asked a r.1 f.0 r.2) [
+            | inl read ↦ read
+            | inr take ↦ absurd (let other : Fifo ≡ Sram = sym take.1 ∙ ap (kind_of core) r.0 ∙ sram in cc)
+          ];
+        }
 
     a_write : (a : AccessNets) → Contains (filter (is_to m Write) accesses) a → IsOne a Write
     a_write a c =

@@ -1,10 +1,10 @@
 -- Each read of a core's memories is answered.
-use Rattle.std.proofs.Common.{◌≡◌, ◌≢◌, ℕ, suc, ◌<◌, List, length, slice_index, refl, sym, subst}
+use Rattle.std.proofs.Common.{◌≡◌, ◌≢◌, ℕ, suc, ◌<◌, inl, inr, List, length, slice_index, refl, sym, ◌∙◌, subst}
 use Rattle.std.proofs.lemmas.List.Elements.{All-contains}
 use Rattle.sp_words.specs.declared.kind.Kind.{Kind}
 use Rattle.sp_words.specs.declared.kind.Kind.TheVariants.{Reg, Sram, Fifo, LineBuf, Dram, ArgIn, ArgOut}
 use Rattle.sp_netlist.specs.Signals.{Signals}
-use Rattle.sp_core.specs.declared.operation.OpKind.TheVariants.{Read}
+use Rattle.sp_core.specs.declared.operation.OpKind.TheVariants.{Read, Deq}
 use Rattle.sp_core.specs.Declarations.{kind_of}
 use Rattle.sp_core.specs.PlainCore.{PlainCore}
 use Rattle.sp_plan.specs.PlainPlan.{PlainPlan}
@@ -20,21 +20,15 @@ use Rattle.sp_bank_words.specs.Laws.{OperationsGo}
 use Rattle.sp_bank_runs.specs.Laws.{RunsHoldWords}
 use Rattle.sp_access_nets.specs.declared.access.AccessNets.{AccessNets}
 use Rattle.sp_access_nets.specs.Picking.{PicksAccessesTo}
-use Rattle.sp_tree_handed.specs.Scalars.{IsScalar, IsStored}
+use Rattle.sp_tree_handed.specs.Scalars.{IsScalar}
+use Rattle.sp_tree_accesses.specs.Queued.{QueuedStands}
 use Rattle.sp_scalar_nets.specs.Runs as scalar
 use Rattle.sp_scalar_words.specs.InTime.{ScalarsHold, ScalarsAnswer}
-use Rattle.sp_array_nets.specs.Runs.{an_argument, a_register, an_array}
+use Rattle.sp_array_nets.specs.Runs.{an_argument, a_register, an_array, a_fifo}
+use Rattle.sp_array_nets.proofs.Fitting.{scalar_of}
+use Rattle.sp_fifo_words.specs.Laws.{FifosAnswer}
 use Rattle.sp_array_words.specs.Laws.{MemoriesHold, ArraysAnswer, MemoriesAnswer}
 use Rattle.sp_array_words.proofs.Going.{reading, writing, memory_of, memory_goes, answered}
-
-stored_scalar : (k : Kind) → IsStored k → k ≢ Sram → IsScalar k
-stored_scalar Reg h n = tt
-stored_scalar ArgIn h n = tt
-stored_scalar ArgOut h n = tt
-stored_scalar Sram h n = absurd (n refl)
-stored_scalar Fifo h n = h
-stored_scalar LineBuf h n = h
-stored_scalar Dram h n = h
 
 register_scalar : (k : Kind) → IsRegister k → IsScalar k
 register_scalar Reg h = tt
@@ -51,11 +45,15 @@ no_argument k h e = subst IsRegister e h
 no_array : (k : Kind) → IsRegister k → k ≡ Sram → ⊥
 no_array k h e = subst IsRegister e h
 
+no_fifo : (k : Kind) → IsRegister k → k ≡ Fifo → ⊥
+no_fifo k h e = subst IsRegister e h
+
 pub hold : (core : PlainCore) (plan : PlainPlan) → ScalarsHold core plan → MemoriesHold core plan
 hold core plan scalars s events last accesses owners input h well arguments words run m l is = elim (run m l) [
   | an_argument arg same follows ↦ absurd (no_argument (kind_of core m) is arg)
-  | a_register other array r ↦ scalars s events last accesses owners input h well m (slice_index words m) l (register_scalar (kind_of core m) is) other r
+  | a_register other array fifo r ↦ scalars s events last accesses owners input h well m (slice_index words m) l (register_scalar (kind_of core m) is) other r
   | an_array sram part array runs ↦ absurd (no_array (kind_of core m) is sram)
+  | a_fifo fifo bank runs ↦ absurd (no_fifo (kind_of core m) is fifo)
 ]
 
 module _ (core : PlainCore) (plan : PlainPlan) (delays : Delays) where
@@ -67,15 +65,24 @@ module _ (core : PlainCore) (plan : PlainPlan) (delays : Delays) where
       (memory_goes core plan s events last accesses owners in_time first well stays m sram picks part is (λ u n touch. go s events m u n touch)) in
       answered core plan s events last accesses owners in_time first well stays m sram picks part is (λ u n touch. go s events m u n touch) holding.answers
 
-  pub memories_answer : ScalarsAnswer core plan → ArraysAnswer core plan delays → MemoriesAnswer core plan delays
-  memories_answer scalars arrays input h end goes well none s last accesses owners in_time stored arguments words run given later a w c k e = elim (run a.mem inside) [
-    | an_argument is same follows ↦ by_scalar (subst IsScalar (sym is) tt) (scalar.an_argument is same follows)
-    | a_register other array r ↦ by_scalar (stored_scalar (kind_of core a.mem) (stored a.mem inside) array) (scalar.a_register other r)
-    | an_array is part array runs ↦ arrays input h end goes well none s last accesses owners in_time a.mem part is array runs a w c refl k e
+  pub memories_answer : ScalarsAnswer core plan → FifosAnswer core plan → ArraysAnswer core plan delays → MemoriesAnswer core plan delays
+  memories_answer scalars fifos arrays input h end goes well none timed s last accesses owners in_time d queued emitted arguments words run given later a w c e = elim (in_time.asked a w c e) [
+    | inl read ↦ subst (λ kind. IsAnswered s (core_timed core plan delays h).events (suc last) a.number kind w.after w.net) (sym read) (elim (run a.mem inside) [
+      | an_argument is same follows ↦ by_scalar read (subst IsScalar (sym is) tt) (scalar.an_argument is same follows)
+      | a_register other array fifo r ↦ by_scalar read (scalar_of (kind_of core a.mem) (emitted a.mem inside) array fifo) (scalar.a_register other r)
+      | an_array is part array runs ↦ arrays input h end goes well none s last accesses owners in_time a.mem part is array runs a w c refl read e
+      | a_fifo fifo bank runs ↦ absurd ((All-contains (QueuedStands d core) accesses a queued c).unread read fifo)
+    ])
+    | inr take ↦ subst (λ kind. IsAnswered s (core_timed core plan delays h).events (suc last) a.number kind w.after w.net) (sym take.0) (elim (run a.mem inside) [
+      | an_argument is same follows ↦ absurd (let other : Fifo ≡ ArgIn = sym take.1 ∙ is in cc)
+      | a_register other array fifo r ↦ absurd (fifo take.1)
+      | an_array is part array runs ↦ absurd (let other : Fifo ≡ Sram = sym take.1 ∙ is in cc)
+      | a_fifo fifo bank runs ↦ fifos timed s (core_timed core plan delays h).events last accesses owners input in_time well d queued a.mem bank inside fifo runs a w c refl take.0 e
+    ])
   ]
     where
       inside : a.mem < length core.mems
       inside = All-contains (λ (x : AccessNets). x.mem < length core.mems) accesses a in_time.within c
 
-      by_scalar : IsScalar (kind_of core a.mem) → scalar.RunsScalar core s accesses owners (slice_index arguments a.mem) a.mem (slice_index words a.mem) → IsAnswered s (core_timed core plan delays h).events (suc last) a.number Read w.after w.net
-      by_scalar is r = scalars s (core_timed core plan delays h).events last accesses owners input in_time well later a w c k e is (slice_index arguments a.mem) (slice_index words a.mem) r (given a.mem inside)
+      by_scalar : a.kind ≡ Read → IsScalar (kind_of core a.mem) → scalar.RunsScalar core s accesses owners (slice_index arguments a.mem) a.mem (slice_index words a.mem) → IsAnswered s (core_timed core plan delays h).events (suc last) a.number Read w.after w.net
+      by_scalar read is r = scalars s (core_timed core plan delays h).events last accesses owners input in_time well later a w c read e is (slice_index arguments a.mem) (slice_index words a.mem) r (given a.mem inside)

@@ -1,8 +1,10 @@
--- The words of SRAMs, and of all memories of a core of registers, arguments, outputs and SRAMs, over the timeline of a run, as statements.
-use Rattle.std.specs.Prelude.{◌≡◌, ℕ, suc, ◌<◌, ◌≤◌, List, length, slice_index, Some}
+-- The words of SRAMs, and of all memories of a core of registers, arguments, outputs, SRAMs and FIFOs, over the timeline of a run, as
+-- statements.
+use Rattle.std.specs.Prelude.{◌≡◌, ℕ, suc, ◌<◌, ◌≤◌, List, length, slice_index, All, Some}
 use Rattle.std.specs.List.{Contains}
 use Rattle.sp_words.specs.declared.kind.Kind.TheVariants.{Sram}
 use Rattle.sp_words.specs.Ports.{PlainInput}
+use Rattle.sp_netlist.specs.Draft.{Draft}
 use Rattle.sp_netlist.specs.Signals.{Signals}
 use Rattle.sp_core.specs.declared.operation.OpKind.TheVariants.{Read}
 use Rattle.sp_core.specs.Declarations.{kind_of}
@@ -13,6 +15,7 @@ use Rattle.sp_plan.specs.PlainPlan.{PlainPlan}
 use Rattle.sp_machine.specs.Stamps.{Stamped}
 use Rattle.sp_machine.specs.Timeline.{core_timed}
 use Rattle.sp_machine.specs.Transfers.{Delays}
+use Rattle.sp_overlap.specs.Whole.{IsTimed}
 use Rattle.sp_contents.specs.Found.{first_contents}
 use Rattle.sp_banked.specs.declared.part.Banked.{Banked}
 use Rattle.sp_banked.specs.Runs.{RunsBanked}
@@ -23,10 +26,11 @@ use Rattle.sp_memory_words.specs.Registers.{IsRegister, copy_place, standing, Ha
 use Rattle.sp_bank_runs.specs.Laws.{GoesWell}
 use Rattle.sp_access_nets.specs.declared.access.AccessNets.{AccessNets}
 use Rattle.sp_tree_handed.specs.declared.owners.OwnerNets.{OwnerNets}
-use Rattle.sp_tree_handed.specs.Scalars.{AreStored}
+use Rattle.sp_tree_accesses.specs.Queued.{QueuedStands}
 use Rattle.sp_tree_nets.specs.Emitted.{HasNoTransfer}
 use Rattle.sp_scalar_words.specs.InTime.{MemoriesInTime, ArgumentsGiven, ArgumentsAreLater}
 use Rattle.sp_array_nets.specs.Arrays.{IsArrayOf}
+use Rattle.sp_array_nets.specs.Kinds.{AreEmitted}
 use Rattle.sp_array_nets.specs.Runs.{RunMemories}
 
 module _ (core : PlainCore) (plan : PlainPlan) where
@@ -47,10 +51,10 @@ module _ (core : PlainCore) (plan : PlainPlan) (delays : Delays) where
       → (m : ℕ) (part : Banked) → kind_of core m ≡ Sram → IsArrayOf core plan accesses m part → RunsBanked s part
       → (a : AccessNets) (w : WordNet) → Contains accesses a → a.mem ≡ m → a.kind ≡ Read → a.answer ≡ Some w → IsAnswered s (core_timed core plan delays h).events (suc last) a.number Read w.after w.net
 
-  -- so is each read of any memory, where each has its circuit
+  -- so is each read of any memory, and each take from a FIFO, where each memory has its circuit and the core no `Stream` block
   abbrev pub MemoriesAnswer : Type 0
   MemoriesAnswer =
-      (input : PlainInput) (h : History) (end : Store) → GoesWell core plan delays input h end → HappensWell core plan (core_timed core plan delays h).events (first_contents core input) → HasNoTransfer core.root
-      → (s : Signals) (last : ℕ) (accesses : List AccessNets) (owners : OwnerNets) → MemoriesInTime core plan s (core_timed core plan delays h).events last accesses owners
-      → AreStored core → (arguments words : List ℕ) → RunMemories core plan s accesses owners arguments words → ArgumentsGiven core input s arguments → ArgumentsAreLater core (core_timed core plan delays h).events accesses
-      → (a : AccessNets) (w : WordNet) → Contains accesses a → a.kind ≡ Read → a.answer ≡ Some w → IsAnswered s (core_timed core plan delays h).events (suc last) a.number Read w.after w.net
+      (input : PlainInput) (h : History) (end : Store) → GoesWell core plan delays input h end → HappensWell core plan (core_timed core plan delays h).events (first_contents core input) → HasNoTransfer core.root → IsTimed core.root
+      → (s : Signals) (last : ℕ) (accesses : List AccessNets) (owners : OwnerNets) → MemoriesInTime core plan s (core_timed core plan delays h).events last accesses owners → (d : Draft) → All (QueuedStands d core) accesses
+      → AreEmitted core → (arguments words : List ℕ) → RunMemories core plan s accesses owners arguments words → ArgumentsGiven core input s arguments → ArgumentsAreLater core (core_timed core plan delays h).events accesses
+      → (a : AccessNets) (w : WordNet) → Contains accesses a → a.answer ≡ Some w → IsAnswered s (core_timed core plan delays h).events (suc last) a.number a.kind w.after w.net

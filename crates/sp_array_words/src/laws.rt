@@ -8,6 +8,7 @@ ghost use Rattle.sp_plan.specs.PlainPlan.{PlainPlan};
 use sp_access_nets::picks_accesses_to;
 use sp_bank_runs::runs_hold_words;
 use sp_bank_words::operations_go;
+use sp_fifo_words::fifos_answer;
 use sp_memory_words::operations_stay;
 use sp_scalar_words::{scalars_answer, scalars_hold};
 
@@ -22,11 +23,13 @@ pub fn arrays_answer()
     runs_hold_words();
 }
 
-/// So is each read of a core whose memories are registers, arguments, outputs and SRAMs.
+/// So is each read of a core whose memories are registers, arguments, outputs, SRAMs and FIFOs, and each take from a FIFO, where the
+/// core has no `Stream` block.
 pub fn memories_answer()
     ensures { (core : PlainCore) (plan : PlainPlan) (delays : Delays) → MemoriesAnswer core plan delays }
 {
     arrays_answer();
+    fifos_answer();
     scalars_answer();
 }
 

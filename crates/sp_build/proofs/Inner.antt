@@ -51,7 +51,7 @@ on_chip_stored Reg h other = refl
 on_chip_stored ArgIn h other = refl
 on_chip_stored ArgOut h other = refl
 on_chip_stored Sram h other = refl
-on_chip_stored Fifo h other = h
+on_chip_stored Fifo h other = refl
 on_chip_stored LineBuf h other = h
 on_chip_stored Dram h other = other
 

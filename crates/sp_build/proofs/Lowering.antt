@@ -18,7 +18,7 @@ use Rattle.sp_overlap.specs.Whole.{IsTimed, AreTimed}
 use Rattle.sp_plans.specs.Planned.{IsPlanned}
 use Rattle.sp_plans.specs.Laws.{ChosenAreValid}
 use Rattle.sp_tree_handed.specs.Lists.{NumberedOps, numbered, standing, bounds_in, lists_in, lists_in_stages}
-use Rattle.sp_tree_handed.specs.Scalars.{IsStored, AreStored}
+use Rattle.sp_array_nets.specs.Kinds.{IsEmitted, AreEmitted}
 use Rattle.sp_tree_handed.specs.Standing.{BoundsReadArguments}
 use Rattle.sp_tree_nets.specs.Emitted.{HasNoTransfer, HaveNoTransfer}
 use Rattle.sp_tree_nets.specs.Whole.{HasTreePlan}
@@ -173,17 +173,17 @@ uncounted (load r m spans) h = absurd (true≢false (sym h))
 uncounted (store r m spans) h = absurd (true≢false (sym h))
 uncounted (sparse kind r m places spans count par) h = absurd (true≢false (sym h))
 
-stored_kind : (k : Kind) → is_stored k ≡ true → IsStored k
+stored_kind : (k : Kind) → is_stored k ≡ true → IsEmitted k
 stored_kind Reg h = tt
 stored_kind ArgIn h = tt
 stored_kind ArgOut h = tt
-stored_kind Fifo h = absurd (true≢false (sym h))
+stored_kind Fifo h = tt
 stored_kind Sram h = tt
 stored_kind LineBuf h = absurd (true≢false (sym h))
 stored_kind Dram h = absurd (true≢false (sym h))
 
-stored : (core : PlainCore) → list_all is_stored_mem core.mems ≡ true → AreStored core
-stored core h m l = subst IsStored (sym (own_kind core m l)) (stored_kind (mem core m).kind (all_at is_stored_mem core.mems (mem core m) h (Contains-get_or core.mems m no_mem l)))
+stored : (core : PlainCore) → list_all is_stored_mem core.mems ≡ true → AreEmitted core
+stored core h m l = subst IsEmitted (sym (own_kind core m l)) (stored_kind (mem core m).kind (all_at is_stored_mem core.mems (mem core m) h (Contains-get_or core.mems m no_mem l)))
 
 single : (core : PlainCore) (plan : PlainPlan) → length plan.mems ≡ length core.mems → list_all is_single plan.mems ≡ true → AreSingle core plan
 single core plan same h m l = eqb-true (mem_plan plan m).depth 1 (all_at is_single plan.mems (mem_plan plan m) h (Contains-get_or plan.mems m no_mem_plan (omega (arith, same, l))))

@@ -2,7 +2,7 @@
 use Rattle.std.specs.Prelude.{◌≡◌, ℕ, ◌==◌, ◌&&◌, not, Bool, true, false, IsTrue, List, [], ◌∷◌, Option, Some, None}
 use Rattle.std.specs.List.{list_all}
 use Rattle.sp_words.specs.declared.kind.Kind.{Kind}
-use Rattle.sp_words.specs.declared.kind.Kind.TheVariants.{Reg, Sram, ArgIn, ArgOut}
+use Rattle.sp_words.specs.declared.kind.Kind.TheVariants.{Reg, Sram, Fifo, ArgIn, ArgOut}
 use Rattle.sp_tree.specs.PlainProgram.{PlainProgram}
 use Rattle.sp_core.specs.declared.operation.OpKind.{OpKind}
 use Rattle.sp_core.specs.declared.operation.OpKind.TheVariants.{Read}
@@ -12,10 +12,11 @@ use Rattle.sp_core.specs.PlainCore.{PlainOp, PlainCounter, PlainNode, PlainStage
 use Rattle.sp_plan.specs.PlainPlan.{PlainMemPlan, PlainPlan}
 use Rattle.sp_compile.specs.Choices.{lanes_of, IsPlanOf}
 
--- a register, an argument, an output or an SRAM
+-- a register, an argument, an output, an SRAM or a FIFO
 abbrev pub is_stored : Kind → Bool
 is_stored Reg = true
 is_stored Sram = true
+is_stored Fifo = true
 is_stored ArgIn = true
 is_stored ArgOut = true
 is_stored _ = false

@@ -31,6 +31,6 @@ CoresCarryPrograms p plan = IsPlanOf p plan → is_buildable (lanes_of p) plan �
 abbrev pub CoresKeepCosts : PlainProgram → PlainPlan → Type 0
 CoresKeepCosts p plan = IsPlanOf p plan → is_buildable (lanes_of p) plan ≡ true → (cells : List PlainCell) → CarriesCore (lanes_of p) plan cells → KeepsCost p plan cells
 
--- a program whose block is one inner body, over registers, arguments, outputs and SRAMs, with any DRAMs, can be built
+-- a program whose block is one inner body, over registers, arguments, outputs, SRAMs and FIFOs, with any DRAMs, can be built
 abbrev pub InnerBlocksCanBeBuilt : PlainProgram → Type 0
 InnerBlocksCanBeBuilt p = is_inner p.body ≡ true → list_all (λ (m : program.PlainMem). is_stored m.kind || is_dram m.kind) p.mems ≡ true → CanBeBuilt p

@@ -20,7 +20,10 @@ fn both(one: bool, other: bool) -> bool
 fn is_stored(kind: Kind) -> bool
     ensures { result ≡ is_stored kind }
 {
-    matches!(kind, Kind::Reg | Kind::Sram | Kind::ArgIn | Kind::ArgOut)
+    matches!(
+        kind,
+        Kind::Reg | Kind::Sram | Kind::Fifo | Kind::ArgIn | Kind::ArgOut
+    )
 }
 
 fn is_stored_mem(mem: &CoreMem) -> bool
@@ -29,7 +32,7 @@ fn is_stored_mem(mem: &CoreMem) -> bool
     is_stored(mem.kind)
 }
 
-/// Whether all memories are registers, arguments, outputs and SRAMs.
+/// Whether all memories are registers, arguments, outputs, SRAMs and FIFOs.
 fn are_stored(mems: &[CoreMem]) -> bool
     ensures { result ≡ list_all is_stored_mem (map plain_mem mems.now) }
 {
@@ -156,8 +159,8 @@ fn are_single(mems: &[MemPlan]) -> bool
     all
 }
 
-/// Whether a core has a netlist by its plan so far: its memories are registers, arguments, outputs and SRAMs, in one copy each; it
-/// has no transfer and no `Stream` block; bounds of counters read arguments alone.
+/// Whether a core has a netlist by its plan so far: its memories are registers, arguments, outputs, SRAMs and FIFOs, in one copy
+/// each; it has no transfer and no `Stream` block; bounds of counters read arguments alone.
 pub fn is_buildable(core: &Core, plan: &Plan) -> bool
     ensures { result ≡ is_buildable (plain_core core.now) (plain_plan plan.now) }
 {

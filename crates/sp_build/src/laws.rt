@@ -44,8 +44,8 @@ pub fn cores_keep_costs()
     programs_stay_cores();
 }
 
-/// A program whose block is one inner body, without controllers and transfers, over registers, arguments, outputs and SRAMs, with any
-/// DRAMs, can be built.
+/// A program whose block is one inner body, without controllers and transfers, over registers, arguments, outputs, SRAMs and FIFOs,
+/// with any DRAMs, can be built.
 pub fn inner_blocks_can_be_built()
     ensures { (p : PlainProgram) → IsProgram p → InnerBlocksCanBeBuilt p }
 {}

@@ -3,7 +3,7 @@ use Rattle.std.proofs.Common.{◌≡◌, ◌≢◌, ℕ, zero, suc, cond, append
 use Rattle.std.specs.List.{All, AllZip, filter, list_all}
 use Rattle.std.proofs.lemmas.Bool.{and_parts, cases_eq, lt-ltb, ltb-true}
 use Rattle.sp_words.specs.declared.kind.Kind.{Kind}
-use Rattle.sp_words.specs.declared.kind.Kind.TheVariants.{Sram, ArgIn, ArgOut}
+use Rattle.sp_words.specs.declared.kind.Kind.TheVariants.{Sram, Fifo, ArgIn, ArgOut}
 use Rattle.sp_words.specs.Ports.{PlainPort, PlainInput}
 use Rattle.sp_words.specs.Interface.{word_count}
 use Rattle.sp_words.specs.Types.{width_of}
@@ -89,13 +89,12 @@ same_number a b e = elim (cases_eq a b) [
   | inr other ↦ absurd (let clash : true ≡ false = sym e ∙ ne_eqb a b other in cc)
 ]
 
--- an output is no SRAM
+-- an output is no SRAM and no FIFO
 no_array : {k : Kind} → k ≡ ArgOut → k ≢ Sram
-no_array {k} out array = absurd (let clash : true ≡ false = ap is_out (sym out ∙ array) in cc)
-  where
-    is_out : Kind → Rattle.std.proofs.Common.Bool
-    is_out ArgOut = true
-    is_out _ = false
+no_array {k} out array = absurd (let clash : ArgOut ≡ Sram = sym out ∙ array in cc)
+
+no_fifo : {k : Kind} → k ≡ ArgOut → k ≢ Fifo
+no_fifo {k} out fifo = absurd (let clash : ArgOut ≡ Fifo = sym out ∙ fifo in cc)
 
 kind_is : (core : PlainCore) (m : ℕ) → m < length core.mems → kind_of core m ≡ (mem core m).kind
 kind_is core m l = rw (lt-ltb m (length core.mems) l) refl
@@ -139,7 +138,7 @@ module _ (core : PlainCore) (right : IsCore core) (law : PortLaws) (arg_ports : 
       (λ i other l. (
       let at = (out_ports core right).at i l in
       let inside : i < length (outs_of core) = (let e = (out_ports core right).each in omega (arith, e, l)) in
-      let net = HasNet-stays d final _ _ g (stand.nets (slice_index (outs_of core) i) at.within (no_array (kind_is core (slice_index (outs_of core) i) at.within ∙ at.of_kind))) in
+      let net = HasNet-stays d final _ _ g (stand.nets (slice_index (outs_of core) i) at.within (no_array (kind_is core (slice_index (outs_of core) i) at.within ∙ at.of_kind)) (no_fifo (kind_is core (slice_index (outs_of core) i) at.within ∙ at.of_kind))) in
       subst (λ n. HasNet final n (width_of (slice_index_or core.ports.outs i other).ty)) (sym (at_map (slice_index words) (outs_of core) i inside))
       (subst (λ ty. HasNet final (slice_index words (slice_index (outs_of core) i)) (width_of ty)) (sym at.port.ty ∙ ap (λ (p : PlainPort). p.ty) (any_port core.ports.outs i no_port other l)) net)))
     where

@@ -1,4 +1,4 @@
-//! The netlist of a core whose memories are registers, arguments, outputs and SRAMs, by a valid plan.
+//! The netlist of a core whose memories are registers, arguments, outputs, SRAMs and FIFOs, by a valid plan.
 #![tactic(auto)]
 
 mod netlists;

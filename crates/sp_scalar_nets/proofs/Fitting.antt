@@ -21,7 +21,7 @@ use Rattle.sp_core.specs.Sequential.{has_reset}
 use Rattle.sp_mem.specs.declared.part.Touch.{Touch}
 use Rattle.sp_mem.specs.declared.part.Register.{Register}
 use Rattle.sp_mem.specs.Copies.{first_word}
-use Rattle.sp_mem.specs.Fits.{CopyFits, FreshFits, ReadFits, RegisterFits, AreApart}
+use Rattle.sp_mem.specs.Fits.{CopyFits, FreshFits, WriteFits, ReadFits, RegisterFits, AreApart}
 use Rattle.sp_mem.proofs.Kept.{copy_kept}
 use Rattle.sp_mem.proofs.Waiting.{awaits_kept}
 use Rattle.sp_op_nets.specs.Reserved.{Rise}
@@ -32,7 +32,7 @@ use Rattle.sp_tree_handed.specs.declared.owners.OwnerNets.{OwnerNets}
 use Rattle.sp_tree_handed.specs.declared.owners.Renewal.{Renewal}
 use Rattle.sp_tree_handed.specs.Standing.{AccessStands, KeepingStands, OwnersStand}
 use Rattle.sp_scalar_nets.specs.Fits.{ScalarFits}
-use Rattle.sp_scalar_nets.specs.Lists.{PlainTouch, plain_touch, answer_net, write_of, state_of, reset_of, renewal_of, read_of, is_kept, is_renewed, is_reader, writes_to, renewals_to, fresh_to, reads_to}
+use Rattle.sp_scalar_nets.specs.Lists.{PlainTouch, plain_touch, answer_net, write_of, state_of, reset_of, renewal_of, read_of, is_kept, is_renewed, is_reader, writes_to, renewals_to, fresh_to, reads_to, answers_to}
 use Rattle.sp_scalar_nets.specs.Runs.{IsPartOf}
 use Rattle.sp_scalar_nets.proofs.Picked.{each_of, unmapped}
 use Rattle.sp_scalar_nets.proofs.Answering.{reader_answers, answer_in_to, words_are, apart}
@@ -74,74 +74,97 @@ right_at [] m h l = absurd (omega (arith, l))
 right_at (x ∷ ms) zero h l = (and_parts (is_mem_right x) (list_all is_mem_right ms) h).0
 right_at (x ∷ ms) (suc m) h l = right_at ms m (and_parts (is_mem_right x) (list_all is_mem_right ms) h).1 (omega (arith, l))
 
+-- a memory of a core keeps the core's rules
+pub memory_right : (core : PlainCore) (m : ℕ) → IsCore core → m < length core.mems → is_mem_right (mem core m) ≡ true
+memory_right core m is_core l = right_at core.mems m (and_parts _ _ is_core.memories).0 l
+
 pub start_fits : (core : PlainCore) (m : ℕ) → IsCore core → m < length core.mems → first_word (mem core m).start < 2 ^ width_of (mem core m).ty
 start_fits core m is_core l =
-    let right = right_at core.mems m (and_parts _ _ is_core.memories).0 l in
+    let right = memory_right core m is_core l in
     let x = mem core m in
     let shape = (and_parts (has_rank x.kind (length x.dims) && has_start x.kind x.ty x.start) (has_words 4194304 x.dims) right).0 in
     some_start x.kind x.ty x.start (and_parts (has_rank x.kind (length x.dims)) (has_start x.kind x.ty x.start) shape).1 (pow_pos (width_of x.ty))
 
-module _ (picks : PicksAccessesTo) (d : Draft) (core : PlainCore) (accesses : List AccessNets) (owners : OwnerNets) (port start m : ℕ) (fits : ScalarFits d core accesses owners port start m) where
-  abbrev width : ℕ
-  width = width_of (mem core m).ty
+-- the width of a memory's words
+abbrev pub width_at : PlainCore → (m : ℕ) → ℕ
+width_at core m = width_of (mem core m).ty
 
-  abbrev Written : PlainTouch → Type 0
-  Written p = (p.copy ≡ None) × HasNet d p.enable 1 × HasNet d p.word width
+pub wide_at : (d : Draft) (core : PlainCore) (m n k : ℕ) → k ≡ m → HasNet d n (width_at core k) → HasNet d n (width_at core m)
+wide_at d core m n k e h = subst (λ j. HasNet d n (width_at core j)) e h
 
-  wide_at : (n : ℕ) (k : ℕ) → k ≡ m → HasNet d n (width_of (mem core k).ty) → HasNet d n width
-  wide_at n k e h = subst (λ j. HasNet d n (width_of (mem core j).ty)) e h
-
-  writes_fit : All Written (writes_to m accesses owners)
-  writes_fit = All-append Written (map write_of (filter (is_to m Write) accesses)) (map state_of (filter (is_kept m) owners.kept.items))
-      (each_of write_of Written (is_to m Write) (AccessStands d core) accesses fits.accesses_stand (λ a t s.
-      let is = (picks m Write a refl).0 t in
-      (refl, s.enable, wide_at _ a.mem is.0 (subst (λ k. HasNet d (word_that_changes k a.operands.items) (width_of (mem core a.mem).ty)) is.1 (s.word is.1)))))
-      (each_of state_of Written (is_kept m) (KeepingStands d core) owners.kept.items fits.owners_stand.kept (λ k t s. (refl, s.done, wide_at k.word k.mem (eqb-true k.mem m t) s.word)))
-
+-- what makes a memory fresh
+module _ (d : Draft) (core : PlainCore) (accesses : List AccessNets) (owners : OwnerNets) (m : ℕ) (stand : All (AccessStands d core) accesses) (owned : OwnersStand d core owners) where
   renewals_fit : (b : Bool) → All (FreshFits d) (renewals_to b m owners.renewed.items)
-  renewals_fit true = each_of renewal_of (FreshFits d) (is_renewed m) (λ (r : Renewal). HasNet d r.first 1) owners.renewed.items fits.owners_stand.renewed (λ r t s. record { enable = s; copy = tt })
+  renewals_fit true = each_of renewal_of (FreshFits d) (is_renewed m) (λ (r : Renewal). HasNet d r.first 1) owners.renewed.items owned.renewed (λ r t s. record { enable = s; copy = tt })
   renewals_fit false = All-nil (FreshFits d)
 
-  fresh_fits : All (FreshFits d) (fresh_to core m accesses owners)
+  pub fresh_fits : All (FreshFits d) (fresh_to core m accesses owners)
   fresh_fits = All-append (FreshFits d) (map reset_of (filter (is_to m Reset) accesses)) (renewals_to (has_reset (mem core m).kind (mem core m).start) m owners.renewed.items)
-      (each_of reset_of (FreshFits d) (is_to m Reset) (AccessStands d core) accesses fits.accesses_stand (λ a t s. record { enable = s.enable; copy = tt }))
+      (each_of reset_of (FreshFits d) (is_to m Reset) (AccessStands d core) accesses stand (λ a t s. record { enable = s.enable; copy = tt }))
       (renewals_fit (has_reset (mem core m).kind (mem core m).start))
 
-  awaits_from : (n : ℕ) → HasNet d n width → IsOpen d n → Awaits d n width
-  awaits_from n h o = record { wide = h.wide; kept = kept_of h.ready; undriven = o.undriven }
-    where
-      kept_of : IsReady d n → IsKept d n
-      kept_of (inl k) = k
-      kept_of (inr e) = (let u = o.undriven in absurd (omega (arith, e, u)))
+-- an access at copy 0 that gives a word to a memory
+pub record IsGiving (d : Draft) (width : ℕ) (p : PlainTouch) : Type 0 where
+  pub copy : p.copy ≡ None
+  pub enable : HasNet d p.enable 1
+  pub word : HasNet d p.word width
 
-  abbrev Waits : PlainTouch → Type 0
-  Waits p = (p.copy ≡ None) × Awaits d p.word width
+pub gives_fit : (d : Draft) (width : ℕ) (ps : List PlainTouch) (writes : List Touch) → map plain_touch writes ≡ ps → All (IsGiving d width) ps → All (WriteFits d width) writes
+gives_fit d width ps writes e all =
+    let h = unmapped plain_touch (IsGiving d width) writes (subst (All (IsGiving d width)) (sym e) all) in
+    λ k w l. let it = h k w l in record { enable = it.enable; copy = subst (CopyFits d) (sym it.copy) tt; word = it.word }
 
-  reads_wait : All Waits (reads_to m accesses)
-  reads_wait = each_of read_of Waits (is_reader m) (λ a. AccessStands d core a × Contains accesses a) accesses (λ k e l. (fits.accesses_stand k e l, All-contains_itself accesses k e l)) (λ a t s.
+-- an access at copy 0 whose word a memory is to drive
+pub record IsWaiting (d : Draft) (width : ℕ) (p : PlainTouch) : Type 0 where
+  pub copy : p.copy ≡ None
+  pub enable : HasNet d p.enable 1
+  pub word : Awaits d p.word width
+
+awaits_from : (d : Draft) (n width : ℕ) → HasNet d n width → IsOpen d n → Awaits d n width
+awaits_from d n width h o = record { wide = h.wide; kept = kept_of h.ready; undriven = o.undriven }
+  where
+    kept_of : IsReady d n → IsKept d n
+    kept_of (inl k) = k
+    kept_of (inr e) = (let u = o.undriven in absurd (omega (arith, e, u)))
+
+-- the accesses that are to be answered
+module _ (d : Draft) (core : PlainCore) (accesses : List AccessNets) (m : ℕ) (stand : All (AccessStands d core) accesses) (awaiting : (net : ℕ) → Contains (answers_to m accesses) net → IsOpen d net) where
+  reads_wait : All (IsWaiting d (width_at core m)) (reads_to m accesses)
+  reads_wait = each_of read_of (IsWaiting d (width_at core m)) (is_reader m) (λ a. AccessStands d core a × Contains accesses a) accesses (λ k e l. (stand k e l, All-contains_itself accesses k e l)) (λ a t s.
       let r = reader_answers m a t in
       let n = ap answer_net r.2 in
-      (refl, awaits_from _ (subst (λ k. HasNet d k width) (sym n) (wide_at r.1.net a.mem r.0 (s.0.answer r.1 r.2))) (fits.awaiting _ (answer_in_to m accesses a s.1 t))))
+      record {
+        copy = refl;
+        enable = s.0.enable;
+        word = awaits_from d _ _ (subst (λ k. HasNet d k (width_at core m)) (sym n) (wide_at d core m r.1.net a.mem r.0 (s.0.answer r.1 r.2))) (awaiting _ (answer_in_to m accesses a s.1 t));
+      })
 
-  pub reads_fit : (reads : List Touch) → map plain_touch reads ≡ reads_to m accesses → All (ReadFits d width) reads
-  reads_fit reads e =
-      let h = unmapped plain_touch Waits reads (subst (All Waits) (sym e) reads_wait) in
-      λ k r l. let it = h k r l in record { copy = subst (CopyFits d) (sym it.0) tt; word = it.1 }
+  pub answers_wait : (reads : List Touch) → map plain_touch reads ≡ reads_to m accesses → All (λ r. IsWaiting d (width_at core m) (plain_touch r)) reads
+  answers_wait reads e = unmapped plain_touch (IsWaiting d (width_at core m)) reads (subst (All (IsWaiting d (width_at core m))) (sym e) reads_wait)
 
-  pub reads_apart : (reads : List Touch) → map plain_touch reads ≡ reads_to m accesses → AreApart reads
-  reads_apart reads e = apart reads (subst (Rise 0) (sym (words_are m accesses reads e)) fits.rise)
+  pub reads_fit : (reads : List Touch) → map plain_touch reads ≡ reads_to m accesses → All (ReadFits d (width_at core m)) reads
+  reads_fit reads e = λ k r l. let it = answers_wait reads e k r l in record { copy = subst (CopyFits d) (sym it.copy) tt; word = it.word }
+
+pub reads_apart : (m : ℕ) (accesses : List AccessNets) → Rise 0 (answers_to m accesses) → (reads : List Touch) → map plain_touch reads ≡ reads_to m accesses → AreApart reads
+reads_apart m accesses rise reads e = apart reads (subst (Rise 0) (sym (words_are m accesses reads e)) rise)
+
+module _ (picks : PicksAccessesTo) (d : Draft) (core : PlainCore) (accesses : List AccessNets) (owners : OwnerNets) (port start m : ℕ) (fits : ScalarFits d core accesses owners port start m) where
+  writes_fit : All (IsGiving d (width_at core m)) (writes_to m accesses owners)
+  writes_fit = All-append (IsGiving d (width_at core m)) (map write_of (filter (is_to m Write) accesses)) (map state_of (filter (is_kept m) owners.kept.items))
+      (each_of write_of (IsGiving d (width_at core m)) (is_to m Write) (AccessStands d core) accesses fits.accesses_stand (λ a t s.
+      let is = (picks m Write a refl).0 t in
+      record { copy = refl; enable = s.enable; word = wide_at d core m _ a.mem is.0 (subst (λ k. HasNet d (word_that_changes k a.operands.items) (width_at core a.mem)) is.1 (s.word is.1)) }))
+      (each_of state_of (IsGiving d (width_at core m)) (is_kept m) (KeepingStands d core) owners.kept.items fits.owners_stand.kept (λ k t s. record { copy = refl; enable = s.done; word = wide_at d core m k.word k.mem (eqb-true k.mem m t) s.word }))
 
   pub register_fits : (part : Register) → IsCore core → part.start ≡ start → IsPartOf core accesses owners m part → RegisterFits d part
   register_fits part is_core at is = record {
     start = subst (λ n. HasNet d n 1) (sym at) fits.starts;
     copies = (let e = is.copies in omega (arith, e));
     first = subst (λ f. first_word f < 2 ^ width_of part.ty) (sym is.first) (subst (λ ty. first_word (mem core m).start < 2 ^ width_of ty) (sym is.ty) (start_fits core m is_core fits.within));
-    fresh = subst (All (FreshFits d)) (sym is.fresh) fresh_fits;
-    writes =
-        let h = unmapped plain_touch Written part.writes.items (subst (All Written) (sym is.writes) writes_fit) in
-        λ k w l. let it = h k w l in record { enable = it.1; copy = subst (CopyFits d) (sym it.0) tt; word = subst (λ ty. HasNet d (slice_index_or part.writes.items k w).word (width_of ty)) (sym is.ty) it.2 };
-    reads = subst (λ ty. All (ReadFits d (width_of ty)) part.reads.items) (sym is.ty) (reads_fit part.reads.items is.reads);
-    apart = reads_apart part.reads.items is.reads;
+    fresh = subst (All (FreshFits d)) (sym is.fresh) (fresh_fits d core accesses owners m fits.accesses_stand fits.owners_stand);
+    writes = subst (λ ty. All (WriteFits d (width_of ty)) part.writes.items) (sym is.ty) (gives_fit d (width_at core m) (writes_to m accesses owners) part.writes.items is.writes writes_fit);
+    reads = subst (λ ty. All (ReadFits d (width_of ty)) part.reads.items) (sym is.ty) (reads_fit d core accesses m fits.accesses_stand fits.awaiting part.reads.items is.reads);
+    apart = reads_apart m accesses fits.rise part.reads.items is.reads;
   }
 
 -- readers still wait while nothing that was open is driven

@@ -5,4 +5,5 @@ mod followers;
 mod lists;
 mod scalars;
 
-pub use scalars::emit_scalar;
+pub use lists::{fresh_to, has_reset, reads_to, touch};
+pub use scalars::{emit_scalar, memory};

@@ -17,7 +17,7 @@ use sp_words::Kind;
 use std::alloc::Global;
 
 /// Whether a loop makes a memory fresh.
-pub(crate) fn has_reset(kind: Kind, start: Option<u64>) -> bool
+pub fn has_reset(kind: Kind, start: Option<u64>) -> bool
     ensures { result ≡ has_reset kind start }
 {
     match kind {
@@ -28,7 +28,7 @@ pub(crate) fn has_reset(kind: Kind, start: Option<u64>) -> bool
 }
 
 /// An access at copy 0.
-fn touch(alloc: Global, enable: NetId, word: NetId) -> Touch
+pub fn touch(alloc: Global, enable: NetId, word: NetId) -> Touch
     ensures { plain_touch result ≡ touch_by enable word }
 {
     Touch {
@@ -131,7 +131,7 @@ fn add_renewals(fresh: &mut Vec<Fresh>, mem: u32, renewed: &[Renewal]) -> Result
 }
 
 /// What makes a memory fresh, of which this says whether loops do.
-pub(crate) fn fresh_to(
+pub fn fresh_to(
     alloc: Global,
     mem: u32,
     has_reset: bool,
@@ -168,11 +168,7 @@ fn add_reads(
 }
 
 /// The accesses to a memory that are to be answered.
-pub(crate) fn reads_to(
-    alloc: Global,
-    mem: u32,
-    accesses: &[AccessNets],
-) -> Result<Vec<Touch>, NoMemory>
+pub fn reads_to(alloc: Global, mem: u32, accesses: &[AccessNets]) -> Result<Vec<Touch>, NoMemory>
     ensures { IfOk result (λ reads. map plain_touch reads.items ≡ reads_to mem accesses.now) }
 {
     let mut reads = Vec::new(alloc);

@@ -26,7 +26,7 @@ use sp_words::Kind;
 use std::alloc::Global;
 
 /// The memory of a number.
-fn memory(core: &Core, m: u32) -> &CoreMem
+pub fn memory(core: &Core, m: u32) -> &CoreMem
     requires { m < length (plain_core core.now).mems }
     ensures memory { plain_mem result.now ≡ mem (plain_core core.now) m }
     ensures kind { result.now.kind ≡ kind_of (plain_core core.now) m }
@@ -99,7 +99,6 @@ fn emit_argument(
     ensures fills { OnOk result (Fills builder.old builder.new (answers_to m accesses.now)) }
     ensures runs { OnOk result ((s : Signals) → RunsOn s builder.new.cells → IsFollowed s accesses.now m port) }
 {
-    picks_accesses_to();
     let reads = reads_to(alloc, m, accesses)?;
     let one = one(builder)?;
     emit_followers(builder, memory(core, m).ty.width(), &reads, port, one)?;

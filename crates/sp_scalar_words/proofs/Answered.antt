@@ -105,7 +105,7 @@ module _ (core : PlainCore) (plan : PlainPlan) where
         begins = λ c below. begins core input m c (kind_of core m) (first_word w.part.first) (from input) refl kind (λ out. ap first_word w.is.first ∙ output_start core m h.right l out);
         runs = w.runs;
         writes = answers.writes s last w.part.writes.items (all_writes core plan s events last accesses owners h first well m l picks stays w.part w.is);
-        fresh = answers.fresh s last w.part.fresh.items (all_fresh core plan s events last accesses owners h first well m l picks stays w.part w.is);
+        fresh = answers.fresh s last w.part.fresh.items (all_fresh core plan s events last accesses owners h first well m l picks stays w.part.fresh.items w.is.fresh);
       }
 
   pub holds : RegistersAreAsked core plan → RegistersHold core plan → ScalarsHold core plan

@@ -95,9 +95,9 @@ module _ (core : PlainCore) (plan : PlainPlan) (s : Signals) (events : List Stam
       let zero_copy = at_zero there.copy e.mem of_m (each_at (λ x. HasCopy core plan x.copy x.moment) events _ well.copied there.there) in
       ap (copy_at s t) none ∙ sym zero_copy
 
-  module _ (picks : PicksAccessesTo) (stays : OperationsStay core plan) (part : Register) (is : IsPartOf core accesses owners m part) where
+  module _ (picks : PicksAccessesTo) (stays : OperationsStay core plan) where
     -- an access of a kind to the memory, by the nets of a touch or of what makes it fresh
-    access : (kind : OpKind) (a : AccessNets) (enable : ℕ) (copy : Option ℕ) → Contains accesses a → a.mem ≡ m → a.kind ≡ kind → kind ≢ Read → a.enable ≡ enable → copy ≡ None
+    pub access : (kind : OpKind) (a : AccessNets) (enable : ℕ) (copy : Option ℕ) → Contains accesses a → a.mem ≡ m → a.kind ≡ kind → kind ≢ Read → a.enable ≡ enable → copy ≡ None
         → IsAccess core s events last m kind a.number enable a.operands.items copy
     access kind a enable copy c e k no_read on none =
         let operation : IsOperation core m kind a.number = subst (λ j. IsOperation core j kind a.number) e (subst (λ q. IsOperation core a.mem q a.number) k (h.is_operation a c)) in
@@ -125,80 +125,83 @@ module _ (core : PlainCore) (plan : PlainPlan) (s : Signals) (events : List Stam
         let kept : IsAt events u 0 (keeps m (s.net u w.word)) = subst (λ n. IsAt events u 0 (keeps m (s.net u n))) (ap (λ (x : PlainTouch). x.word) e) (subst (λ j. IsAt events u 0 (keeps j (s.net u k.word))) (eqb-true k.mem m t) at) in
         subst (λ n. IsAt events u n (keeps m (s.net u w.word))) (ap (λ (x : PlainTouch). copy_at s u x.copy) e) kept)
 
-    -- a touch of the part with these nets
-    touch_of : (p : PlainTouch) → Contains (writes_to m accesses owners) p → (w : Touch) × Contains part.writes.items w × (plain_touch w ≡ p)
-    touch_of p c = from_mapped plain_touch part.writes.items p (subst (λ xs. Contains xs p) (sym is.writes) c)
+    module _ (part : Register) (is : IsPartOf core accesses owners m part) where
+      -- a touch of the part with these nets
+      touch_of : (p : PlainTouch) → Contains (writes_to m accesses owners) p → (w : Touch) × Contains part.writes.items w × (plain_touch w ≡ p)
+      touch_of p c = from_mapped plain_touch part.writes.items p (subst (λ xs. Contains xs p) (sym is.writes) c)
 
-    is_write : (w : Touch) → Contains part.writes.items w → IsWrite core s events last m w
-    is_write w c = elim (Contains-append_cases (map write_of (filter (is_to m Write) accesses)) (map state_of (filter (is_kept m) owners.kept.items)) (plain_touch w) (mapped_in plain_touch part.writes.items (writes_to m accesses owners) w is.writes c)) [
-      | inl a ↦ from_write w (from_picked write_of (is_to m Write) accesses (plain_touch w) a)
-      | inr k ↦ from_state w (from_picked state_of (is_kept m) owners.kept.items (plain_touch w) k)
-    ]
+      is_write : (w : Touch) → Contains part.writes.items w → IsWrite core s events last m w
+      is_write w c = elim (Contains-append_cases (map write_of (filter (is_to m Write) accesses)) (map state_of (filter (is_kept m) owners.kept.items)) (plain_touch w) (mapped_in plain_touch part.writes.items (writes_to m accesses owners) w is.writes c)) [
+        | inl a ↦ from_write w (from_picked write_of (is_to m Write) accesses (plain_touch w) a)
+        | inr k ↦ from_state w (from_picked state_of (is_kept m) owners.kept.items (plain_touch w) k)
+      ]
 
-    has_write : (n : ℕ) → IsOperation core m Write n → (w : Touch) × (operands : List ℕ) × Contains part.writes.items w × IsAccess core s events last m Write n w.enable operands w.copy
-    has_write n operation =
-        let a = h.all_operations m n Write refl operation in
-        let w = touch_of (write_of a.0) (Contains-append_left (map write_of (filter (is_to m Write) accesses)) (map state_of (filter (is_kept m) owners.kept.items)) (write_of a.0) (picked write_of (is_to m Write) accesses a.0 a.1 ((picks m Write a.0 refl).1 a.3 a.4))) in (
-          w.0,
-          a.0.operands.items,
-          w.1,
-          subst (λ j. IsAccess core s events last m Write j w.0.enable a.0.operands.items w.0.copy) a.2
-              (access Write a.0 w.0.enable w.0.copy a.1 a.3 a.4 (write_no_read Write refl) (sym (ap (λ (x : PlainTouch). x.enable) w.2)) (ap (λ (x : PlainTouch). x.copy) w.2)),
-        )
+      has_write : (n : ℕ) → IsOperation core m Write n → (w : Touch) × (operands : List ℕ) × Contains part.writes.items w × IsAccess core s events last m Write n w.enable operands w.copy
+      has_write n operation =
+          let a = h.all_operations m n Write refl operation in
+          let w = touch_of (write_of a.0) (Contains-append_left (map write_of (filter (is_to m Write) accesses)) (map state_of (filter (is_kept m) owners.kept.items)) (write_of a.0) (picked write_of (is_to m Write) accesses a.0 a.1 ((picks m Write a.0 refl).1 a.3 a.4))) in (
+            w.0,
+            a.0.operands.items,
+            w.1,
+            subst (λ j. IsAccess core s events last m Write j w.0.enable a.0.operands.items w.0.copy) a.2
+                (access Write a.0 w.0.enable w.0.copy a.1 a.3 a.4 (write_no_read Write refl) (sym (ap (λ (x : PlainTouch). x.enable) w.2)) (ap (λ (x : PlainTouch). x.copy) w.2)),
+          )
 
-    has_state : (t c word : ℕ) → t ≤ last → IsAt events t c (keeps m word) → (w : Touch) × Contains part.writes.items w × (is_at s t w.enable w.copy c ≡ true)
-    has_state t c word l at =
-        let k = h.owners_act.all_keepings t c m word l at in
-        let w = touch_of (state_of k.0) (Contains-append_right (map write_of (filter (is_to m Write) accesses)) (map state_of (filter (is_kept m) owners.kept.items)) (state_of k.0) (picked state_of (is_kept m) owners.kept.items k.0 k.1 (eq-eqb k.0.mem m k.2))) in
-        let none = at_zero c m refl (each_at (λ x. HasCopy core plan x.copy x.moment) events _ well.copied at) in (
-          w.0,
-          w.1,
-          both_true (is_on s w.0.enable t) (copy_at s t w.0.copy == c) (ap (λ (x : PlainTouch). is_on s x.enable t) w.2 ∙ k.3) (eq-eqb (copy_at s t w.0.copy) c (ap (λ (x : PlainTouch). copy_at s t x.copy) w.2 ∙ sym none)),
-        )
+      has_state : (t c word : ℕ) → t ≤ last → IsAt events t c (keeps m word) → (w : Touch) × Contains part.writes.items w × (is_at s t w.enable w.copy c ≡ true)
+      has_state t c word l at =
+          let k = h.owners_act.all_keepings t c m word l at in
+          let w = touch_of (state_of k.0) (Contains-append_right (map write_of (filter (is_to m Write) accesses)) (map state_of (filter (is_kept m) owners.kept.items)) (state_of k.0) (picked state_of (is_kept m) owners.kept.items k.0 k.1 (eq-eqb k.0.mem m k.2))) in
+          let none = at_zero c m refl (each_at (λ x. HasCopy core plan x.copy x.moment) events _ well.copied at) in (
+            w.0,
+            w.1,
+            both_true (is_on s w.0.enable t) (copy_at s t w.0.copy == c) (ap (λ (x : PlainTouch). is_on s x.enable t) w.2 ∙ k.3) (eq-eqb (copy_at s t w.0.copy) c (ap (λ (x : PlainTouch). copy_at s t x.copy) w.2 ∙ sym none)),
+          )
 
-    pub all_writes : HasAllWrites core s events last m part.writes.items
-    all_writes = record { each = is_write; operations = has_write; states = has_state }
+      pub all_writes : HasAllWrites core s events last m part.writes.items
+      all_writes = record { each = is_write; operations = has_write; states = has_state }
 
-    from_reset : (f : Fresh) → (a : AccessNets) × Contains accesses a × (is_to m Reset a ≡ true) × (reset_of a ≡ f) → Makes core s events last m f
-    from_reset f (a, c, t, e) =
-        let p = (picks m Reset a refl).0 t in
-        a_reset f a.number a.operands.items (access Reset a f.enable f.copy c p.0 p.1 (reset_no_read Reset refl) (ap (λ (x : Fresh). x.enable) e) (sym (ap (λ (x : Fresh). x.copy) e)))
+    -- what makes it fresh is all that accesses and owners do so
+    module _ (list : List Fresh) (is : list ≡ fresh_to core m accesses owners) where
+      from_reset : (f : Fresh) → (a : AccessNets) × Contains accesses a × (is_to m Reset a ≡ true) × (reset_of a ≡ f) → Makes core s events last m f
+      from_reset f (a, c, t, e) =
+          let p = (picks m Reset a refl).0 t in
+          a_reset f a.number a.operands.items (access Reset a f.enable f.copy c p.0 p.1 (reset_no_read Reset refl) (ap (λ (x : Fresh). x.enable) e) (sym (ap (λ (x : Fresh). x.copy) e)))
 
-    from_renewal : (b : Bool) → has_reset (mem core m).kind (mem core m).start ≡ b → (f : Fresh) → Contains (renewals_to b m owners.renewed.items) f → Makes core s events last m f
-    from_renewal true done f c =
-        let r = from_picked renewal_of (is_renewed m) owners.renewed.items f c in
-        an_owner f done (λ u l on.
-        let at = h.owners_act.renewal r.0 r.1 u l (ap (λ (x : Fresh). is_on s x.enable u) r.3 ∙ on) in
-        subst (λ n. IsAt events u n (renews m)) (ap (λ (x : Fresh). copy_at s u x.copy) r.3) (subst (λ j. IsAt events u 0 (renews j)) (eqb-true r.0.mem m r.2) at))
-    from_renewal false done f c = absurd (none_there f c)
+      from_renewal : (b : Bool) → has_reset (mem core m).kind (mem core m).start ≡ b → (f : Fresh) → Contains (renewals_to b m owners.renewed.items) f → Makes core s events last m f
+      from_renewal true done f c =
+          let r = from_picked renewal_of (is_renewed m) owners.renewed.items f c in
+          an_owner f done (λ u l on.
+          let at = h.owners_act.renewal r.0 r.1 u l (ap (λ (x : Fresh). is_on s x.enable u) r.3 ∙ on) in
+          subst (λ n. IsAt events u n (renews m)) (ap (λ (x : Fresh). copy_at s u x.copy) r.3) (subst (λ j. IsAt events u 0 (renews j)) (eqb-true r.0.mem m r.2) at))
+      from_renewal false done f c = absurd (none_there f c)
 
-    fresh_in : (f : Fresh) → Contains (fresh_to core m accesses owners) f → Contains part.fresh.items f
-    fresh_in f c = subst (λ xs. Contains xs f) (sym is.fresh) c
+      fresh_in : (f : Fresh) → Contains (fresh_to core m accesses owners) f → Contains list f
+      fresh_in f c = subst (λ xs. Contains xs f) (sym is) c
 
-    makes : (f : Fresh) → Contains part.fresh.items f → Makes core s events last m f
-    makes f c = elim (Contains-append_cases (map reset_of (filter (is_to m Reset) accesses)) (renewals_to (has_reset (mem core m).kind (mem core m).start) m owners.renewed.items) f (subst (λ xs. Contains xs f) is.fresh c)) [
-      | inl a ↦ from_reset f (from_picked reset_of (is_to m Reset) accesses f a)
-      | inr r ↦ from_renewal (has_reset (mem core m).kind (mem core m).start) refl f r
-    ]
+      makes : (f : Fresh) → Contains list f → Makes core s events last m f
+      makes f c = elim (Contains-append_cases (map reset_of (filter (is_to m Reset) accesses)) (renewals_to (has_reset (mem core m).kind (mem core m).start) m owners.renewed.items) f (subst (λ xs. Contains xs f) is c)) [
+        | inl a ↦ from_reset f (from_picked reset_of (is_to m Reset) accesses f a)
+        | inr r ↦ from_renewal (has_reset (mem core m).kind (mem core m).start) refl f r
+      ]
 
-    has_fresh : (n : ℕ) → IsOperation core m Reset n → (f : Fresh) × (operands : List ℕ) × Contains part.fresh.items f × IsAccess core s events last m Reset n f.enable operands f.copy
-    has_fresh n operation =
-        let a = h.all_operations m n Reset refl operation in
-        let c = fresh_in (reset_of a.0) (Contains-append_left (map reset_of (filter (is_to m Reset) accesses)) (renewals_to (has_reset (mem core m).kind (mem core m).start) m owners.renewed.items) (reset_of a.0) (picked reset_of (is_to m Reset) accesses a.0 a.1 ((picks m Reset a.0 refl).1 a.3 a.4))) in
-        (reset_of a.0, a.0.operands.items, c, subst (λ j. IsAccess core s events last m Reset j a.0.enable a.0.operands.items None) a.2 (access Reset a.0 a.0.enable None a.1 a.3 a.4 (reset_no_read Reset refl) refl refl))
+      has_fresh : (n : ℕ) → IsOperation core m Reset n → (f : Fresh) × (operands : List ℕ) × Contains list f × IsAccess core s events last m Reset n f.enable operands f.copy
+      has_fresh n operation =
+          let a = h.all_operations m n Reset refl operation in
+          let c = fresh_in (reset_of a.0) (Contains-append_left (map reset_of (filter (is_to m Reset) accesses)) (renewals_to (has_reset (mem core m).kind (mem core m).start) m owners.renewed.items) (reset_of a.0) (picked reset_of (is_to m Reset) accesses a.0 a.1 ((picks m Reset a.0 refl).1 a.3 a.4))) in
+          (reset_of a.0, a.0.operands.items, c, subst (λ j. IsAccess core s events last m Reset j a.0.enable a.0.operands.items None) a.2 (access Reset a.0 a.0.enable None a.1 a.3 a.4 (reset_no_read Reset refl) refl refl))
 
-    renewal_there : (b : Bool) → b ≡ true → (r : Renewal) → Contains owners.renewed.items r → r.mem ≡ m → Contains (renewals_to b m owners.renewed.items) (renewal_of r)
-    renewal_there true done r c e = picked renewal_of (is_renewed m) owners.renewed.items r c (eq-eqb r.mem m e)
-    renewal_there false done r c e = absurd (true≢false (sym done))
+      renewal_there : (b : Bool) → b ≡ true → (r : Renewal) → Contains owners.renewed.items r → r.mem ≡ m → Contains (renewals_to b m owners.renewed.items) (renewal_of r)
+      renewal_there true done r c e = picked renewal_of (is_renewed m) owners.renewed.items r c (eq-eqb r.mem m e)
+      renewal_there false done r c e = absurd (true≢false (sym done))
 
-    has_owner : (t c : ℕ) → t ≤ last → IsAt events t c (renews m) → is_done core (renews m) ≡ true → (f : Fresh) × Contains part.fresh.items f × (is_at s t f.enable f.copy c ≡ true)
-    has_owner t c l at done =
-        let r = h.owners_act.all_renewals t c m l at done in
-        let none = at_zero c m refl (each_at (λ x. HasCopy core plan x.copy x.moment) events _ well.copied at) in (
-          renewal_of r.0,
-          fresh_in (renewal_of r.0) (Contains-append_right (map reset_of (filter (is_to m Reset) accesses)) (renewals_to (has_reset (mem core m).kind (mem core m).start) m owners.renewed.items) (renewal_of r.0) (renewal_there (has_reset (mem core m).kind (mem core m).start) done r.0 r.1 r.2)),
-          both_true (is_on s r.0.first t) (0 == c) r.3 (eq-eqb 0 c (sym none)),
-        )
+      has_owner : (t c : ℕ) → t ≤ last → IsAt events t c (renews m) → is_done core (renews m) ≡ true → (f : Fresh) × Contains list f × (is_at s t f.enable f.copy c ≡ true)
+      has_owner t c l at done =
+          let r = h.owners_act.all_renewals t c m l at done in
+          let none = at_zero c m refl (each_at (λ x. HasCopy core plan x.copy x.moment) events _ well.copied at) in (
+            renewal_of r.0,
+            fresh_in (renewal_of r.0) (Contains-append_right (map reset_of (filter (is_to m Reset) accesses)) (renewals_to (has_reset (mem core m).kind (mem core m).start) m owners.renewed.items) (renewal_of r.0) (renewal_there (has_reset (mem core m).kind (mem core m).start) done r.0 r.1 r.2)),
+            both_true (is_on s r.0.first t) (0 == c) r.3 (eq-eqb 0 c (sym none)),
+          )
 
-    pub all_fresh : HasAllFresh core s events last m part.fresh.items
-    all_fresh = record { each = makes; operations = has_fresh; owners = has_owner }
+      pub all_fresh : HasAllFresh core s events last m list
+      all_fresh = record { each = makes; operations = has_fresh; owners = has_owner }

@@ -1,14 +1,14 @@
 -- The memories of a core over the timeline of a run: accesses and owners do what the timeline has, up to a cycle, so registers hold what
 -- stands at their places, and each read of a memory of one word is answered.
-use Rattle.std.specs.Prelude.{◌≡◌, ◌≢◌, ℕ, suc, ◌+◌, ◌<◌, ◌≤◌, true, List, [], ◌∷◌, length, slice_index, slice_index_or, All, Some, None}
+use Rattle.std.specs.Prelude.{◌≡◌, ◌≢◌, ◌⊎◌, ℕ, suc, ◌+◌, ◌<◌, ◌≤◌, true, List, [], ◌∷◌, length, slice_index, slice_index_or, All, Some, None}
 use Rattle.std.specs.List.{Contains}
-use Rattle.sp_words.specs.declared.kind.Kind.TheVariants.{ArgIn, ArgOut}
+use Rattle.sp_words.specs.declared.kind.Kind.TheVariants.{Fifo, ArgIn, ArgOut}
 use Rattle.sp_words.specs.Ports.{PlainInput}
 use Rattle.sp_netlist.specs.Draft.{Draft}
 use Rattle.sp_netlist.specs.Signals.{Signals}
 use Rattle.sp_gates.specs.Tested.{is_on}
 use Rattle.sp_core.specs.declared.operation.OpKind.{OpKind}
-use Rattle.sp_core.specs.declared.operation.OpKind.TheVariants.{Read}
+use Rattle.sp_core.specs.declared.operation.OpKind.TheVariants.{Read, Deq}
 use Rattle.sp_core.specs.Declarations.{kind_of}
 use Rattle.sp_core.specs.Events.{Event, renews, keeps}
 use Rattle.sp_core.specs.Invariant.{IsCore}
@@ -46,7 +46,7 @@ pub record OwnersInTime (core : PlainCore) (s : Signals) (events : List Stamped)
   pub all_keepings : (t c m word : ℕ) → t ≤ last → IsAt events t c (keeps m word) → (k : Keeping) × Contains owners.kept.items k × (k.mem ≡ m) × (is_on s k.done t ≡ true)
 
 -- Accesses are those of the core's operations, and all of them. They act at their operations' events, but for reads of memories that bounds
--- and slices read, too. Each memory has one copy, so no access names one; and what is answered is a read.
+-- and slices read, too. Each memory has one copy, so no access names one; and what is answered is a read, or takes a word from a FIFO.
 pub record MemoriesInTime (core : PlainCore) (plan : PlainPlan) (s : Signals) (events : List Stamped) (last : ℕ) (accesses : List AccessNets) (owners : OwnerNets) : Type 0 where
   pub right : IsCore core
   pub one_copy : (m : ℕ) → m < length core.mems → (mem_plan plan m).depth ≡ 1
@@ -55,7 +55,7 @@ pub record MemoriesInTime (core : PlainCore) (plan : PlainPlan) (s : Signals) (e
   pub act : (a : AccessNets) → Contains accesses a → a.kind ≢ Read → ActsInTime s events last a.number a.kind a.enable a.operands.items
   pub in_banks : (a : AccessNets) → Contains accesses a → IsInBanks (kind_of core a.mem) → ActsInTime s events last a.number a.kind a.enable a.operands.items
   pub uncopied : (a : AccessNets) → Contains accesses a → a.copy ≡ None
-  pub asked : (a : AccessNets) (w : WordNet) → Contains accesses a → a.answer ≡ Some w → a.kind ≡ Read
+  pub asked : (a : AccessNets) (w : WordNet) → Contains accesses a → a.answer ≡ Some w → (a.kind ≡ Read) ⊎ ((a.kind ≡ Deq) × (kind_of core a.mem ≡ Fifo))
   pub owners_act : OwnersInTime core s events last owners
   -- the nets of accesses, as some draft has them
   pub within : All (λ (a : AccessNets). a.mem < length core.mems) accesses

@@ -40,6 +40,7 @@ use Rattle.sp_tree_circuits.specs.Acts.{PartGoes, Acts}
 use Rattle.sp_tree_circuits.specs.Answers.{Answered}
 use Rattle.sp_tree_circuits.specs.Circuits.{Circuit}
 use Rattle.sp_tree_circuits.specs.Laws.{core_run, core_events, CirclesClose}
+use Rattle.sp_memory_words.specs.Answers.{IsAnswered}
 use Rattle.sp_memory_words.specs.Moments.{HappensWell}
 use Rattle.sp_memory_words.specs.Registers.{IsRegister, copy_place}
 use Rattle.sp_patterns.specs.Patterns.{patterns_of}
@@ -168,11 +169,9 @@ module _ (core : PlainCore) (plan : PlainPlan) (delays : Delays) (laws : Closing
   answered t a =
       laws.tree s (core_events core plan delays h) (suc t) (nets_at []) c x.circuit _ x.acted x.accesses x.accesses_are x.handed
       (λ b w there answer. (
-      let reading = x.asked b w there answer in
-      let so = laws.answer input h left goes well is.moves_none s t x.accesses x.owners (in_time t a) is.stored arguments words x.memories given (λ q v here arg ans u e happens. (let l = late q.number u e happens in omega (arith, l))) b w there
-      reading answer in
-      subst (λ es. Rattle.sp_memory_words.specs.Answers.IsAnswered s es (suc t) b.number b.kind w.after w.net) (sym (laws.timed h))
-      (subst (λ k. Rattle.sp_memory_words.specs.Answers.IsAnswered s (core_timed core plan delays h).events (suc t) b.number k w.after w.net) (sym reading) so)))
+      let so = laws.answer input h left goes well is.moves_none is.timed s t x.accesses x.owners (in_time t a) x.draft x.queued is.stored arguments words x.memories given
+      (λ q v here arg ans u e happens. (let l = late q.number u e happens in omega (arith, l))) b w there answer in
+      subst (λ es. IsAnswered s es (suc t) b.number b.kind w.after w.net) (sym (laws.timed h)) so))
 
   at_first : Answered core plan s (core_events core plan delays h) 0 core.root [] (nets_at []) 0 0 c x.circuit
   at_first =

@@ -1,11 +1,13 @@
--- The circuit of a core all of whose memories are registers, arguments, outputs and SRAMs, in one copy each.
-use Rattle.std.specs.Prelude.{◌≡◌, ℕ, suc, ◌<◌, true, false, List, [], length, All, Some}
+-- The circuit of a core all of whose memories are registers, arguments, outputs, SRAMs and FIFOs, in one copy each.
+use Rattle.std.specs.Prelude.{◌≡◌, ◌⊎◌, ℕ, suc, ◌<◌, true, false, List, [], length, All, Some}
 use Rattle.std.specs.List.{Contains}
+use Rattle.sp_words.specs.declared.kind.Kind.TheVariants.{Fifo}
 use Rattle.sp_netlist.specs.declared.parts.Child.{Child}
 use Rattle.sp_netlist.specs.Draft.{Draft}
 use Rattle.sp_netlist.specs.Signals.{Signals}
 use Rattle.sp_gates.specs.Tested.{is_on}
-use Rattle.sp_core.specs.declared.operation.OpKind.TheVariants.{Read}
+use Rattle.sp_core.specs.declared.operation.OpKind.TheVariants.{Read, Deq}
+use Rattle.sp_core.specs.Declarations.{kind_of}
 use Rattle.sp_core.specs.Invariant.{IsCore}
 use Rattle.sp_core.specs.PlainCore.{PlainCore}
 use Rattle.sp_plan.specs.PlainPlan.{PlainPlan}
@@ -18,11 +20,12 @@ use Rattle.sp_access_nets.specs.Accesses.{copy_in}
 use Rattle.sp_tree_circuits.specs.Circuits.{Circuit}
 use Rattle.sp_tree_handed.specs.declared.owners.OwnerNets.{OwnerNets}
 use Rattle.sp_tree_handed.specs.Owners.{AreOwners}
-use Rattle.sp_tree_handed.specs.Scalars.{AreStored}
 use Rattle.sp_tree_handed.specs.Standing.{AccessStands, BoundsReadArguments}
 use Rattle.sp_tree_nets.specs.Emitted.{HasNoTransfer}
 use Rattle.sp_tree_nets.specs.Handed.{AreHanded}
 use Rattle.sp_tree_accesses.specs.Laws.{AreTreeAccesses}
+use Rattle.sp_tree_accesses.specs.Queued.{QueuedStands}
+use Rattle.sp_array_nets.specs.Kinds.{AreEmitted}
 use Rattle.sp_array_nets.specs.Runs.{RunMemories}
 use Rattle.sp_owner_runs.specs.Acting.{AreSingle}
 use Rattle.sp_stored_cores.specs.Quiet.{HasNoCounters}
@@ -34,7 +37,7 @@ pub record IsStoredCore (core : PlainCore) (plan : PlainPlan) : Type 0 where
   pub timed : IsTimed core.root
   pub moves_none : HasNoTransfer core.root
   pub uncounted : HasNoCounters core.root
-  pub stored : AreStored core
+  pub stored : AreEmitted core
   pub arguments : BoundsReadArguments core core.root
   pub single : AreSingle core plan
 
@@ -51,7 +54,8 @@ pub record StoredCircuit (core : PlainCore) (plan : PlainPlan) (s : Signals) (c 
   pub draft : Draft
   pub stand : All (AccessStands draft core) accesses
   pub within : All (λ (a : AccessNets). a.mem < length core.mems) accesses
-  pub asked : (a : AccessNets) (w : WordNet) → Contains accesses a → a.answer ≡ Some w → a.kind ≡ Read
+  pub queued : All (QueuedStands draft core) accesses
+  pub asked : (a : AccessNets) (w : WordNet) → Contains accesses a → a.answer ≡ Some w → (a.kind ≡ Read) ⊎ ((a.kind ≡ Deq) × (kind_of core a.mem ≡ Fifo))
   pub memories : RunMemories core plan s accesses owners arguments words
 
 -- a part is started in cycle 0 and in no other

@@ -1,5 +1,5 @@
-//! The circuit of a core of registers, arguments, outputs and SRAMs goes along with its timeline. Each function does nothing: what it
-//! ensures is the law.
+//! The circuit of a core of registers, arguments, outputs, SRAMs and FIFOs goes along with its timeline. Each function does nothing:
+//! what it ensures is the law.
 
 ghost use Rattle.sp_core.specs.PlainCore.{PlainCore};
 ghost use Rattle.sp_machine.specs.Transfers.{Delays};
@@ -17,9 +17,9 @@ use sp_tree_accesses::{accesses_act, operations_have_accesses, trees_are_answere
 use sp_tree_circuits::circles_close;
 use sp_tree_runs::runs_are_done;
 
-/// In each run of a core all of whose memories are registers, arguments, outputs and SRAMs, in one copy each, its circuit is done in
-/// the last cycle of the run, and its outputs then have the words that the run leaves: the circle from what is read to what is written is closed
-/// cycle by cycle.
+/// In each run of a core all of whose memories are registers, arguments, outputs, SRAMs and FIFOs, in one copy each, its circuit is
+/// done in the last cycle of the run, and its outputs then have the words that the run leaves: the circle from what is read to what is
+/// written is closed cycle by cycle.
 pub fn stored_cores_go()
     ensures { (core : PlainCore) (plan : PlainPlan) (delays : Delays) → StoredCoresGo core plan delays }
 {

@@ -1,4 +1,5 @@
-//! Laws only, of cores whose memories are registers, arguments, outputs and SRAMs. Each function does nothing: what it ensures is the law.
+//! Laws only, of cores whose memories are registers, arguments, outputs, SRAMs and FIFOs. Each function does nothing: what it ensures
+//! is the law.
 #![tactic(auto)]
 
 mod closing;

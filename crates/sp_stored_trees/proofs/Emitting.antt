@@ -1,5 +1,6 @@
 -- The memories of a tree that was emitted can be emitted behind it, and then the whole is a circuit of the core.
-use Rattle.std.proofs.Common.{◌≡◌, ◌≢◌, ℕ, suc, ◌<◌, ◌≤◌, Bool, true, false, List, [], ◌∷◌, ◌++◌, length, slice_index, Some, None, refl, sym, ap, subst, ◌∙◌, arith}
+use Rattle.std.proofs.Common.{◌≡◌, ◌≢◌, ℕ, suc, ◌<◌, ◌≤◌, ◌⊎◌, inl, inr, true, slice_index_or, List, [], ◌∷◌, ◌++◌, length, slice_index, Some, None, refl, sym, ap, subst, ◌∙◌, arith}
+use Rattle.std.proofs.lemmas.Bool.{false≢true}
 use Rattle.std.specs.Prelude.{All}
 use Rattle.std.specs.List.{Contains}
 use Rattle.sp_words.specs.declared.kind.Kind.{Kind}
@@ -13,7 +14,8 @@ use Rattle.sp_gates.specs.Runs.{RunsOn}
 use Rattle.sp_gates.proofs.Growing.{HasNet-stays}
 use Rattle.sp_gates.proofs.Running.{runs_earlier}
 use Rattle.sp_core.specs.Invariant.{IsCore}
-use Rattle.sp_core.specs.Declarations.{kind_of}
+use Rattle.sp_core.specs.Declarations.{mem, kind_of}
+use Rattle.sp_core.specs.OperationRules.{can, is_fifo}
 use Rattle.sp_core.specs.PlainCore.{PlainCore}
 use Rattle.sp_plan.specs.PlainPlan.{PlainPlan}
 use Rattle.sp_op_nets.specs.declared.acted.ActedList.{ActedList}
@@ -24,15 +26,15 @@ use Rattle.sp_access_nets.specs.declared.access.AccessNets.{AccessNets}
 use Rattle.sp_access_nets.specs.Accesses.{copy_in}
 use Rattle.sp_access_nets.specs.Laws.{answer_nets}
 use Rattle.sp_circuit_ops.specs.declared.ops.WordNet.{WordNet}
-use Rattle.sp_core.specs.declared.operation.OpKind.TheVariants.{Read}
+use Rattle.sp_core.specs.declared.operation.OpKind.TheVariants.{Read, Deq}
 use Rattle.sp_mem.specs.Fits.{CopyFits}
 use Rattle.sp_tree_handed.specs.declared.owners.OwnerNets.{OwnerNets}
 use Rattle.sp_tree_handed.specs.Lists.{lists_in}
-use Rattle.sp_tree_handed.specs.Scalars.{IsStored}
 use Rattle.sp_tree_handed.specs.Standing.{AreListsStanding, AccessStands, BoundsReadArguments, OwnersStand}
 use Rattle.sp_tree_nets.specs.Whole.{IsWhole}
 use Rattle.sp_tree_accesses.specs.Accesses.{AreAllAccesses}
-use Rattle.sp_tree_accesses.specs.Laws.{AreTreeAccesses, IsOfCore, ScalarsAreRead}
+use Rattle.sp_tree_accesses.specs.Laws.{AreTreeAccesses, IsOfCore, AnswersAreOfReads}
+use Rattle.sp_tree_accesses.specs.Queued.{QueuedStands}
 use Rattle.sp_array_nets.specs.declared.array.Array.{Array}
 use Rattle.sp_array_nets.specs.Banks.{ArraysStand, wires_in}
 use Rattle.sp_array_nets.specs.Fits.{MemoriesFit}
@@ -45,56 +47,47 @@ lower : (from to : ℕ) (ns : List ℕ) → from ≤ to → Rise to ns → Rise 
 lower from to [] le r = tt
 lower from to (n ∷ ns) le r = ((let l = r.0 in omega (arith, le, l)), r.1)
 
-no_fifo : (k : Kind) → IsStored k → k ≢ Fifo
-no_fifo Reg h e = absurd (let clash : true ≡ false = ap is_reg e in cc)
-  where
-    is_reg : Kind → Bool
-    is_reg Reg = true
-    is_reg _ = false
-no_fifo ArgIn h e = absurd (let clash : true ≡ false = ap is_in e in cc)
-  where
-    is_in : Kind → Bool
-    is_in ArgIn = true
-    is_in _ = false
-no_fifo ArgOut h e = absurd (let clash : true ≡ false = ap is_out e in cc)
-  where
-    is_out : Kind → Bool
-    is_out ArgOut = true
-    is_out _ = false
-no_fifo Fifo h e = elim h [ ]
-no_fifo Sram h e = absurd (let clash : true ≡ false = ap is_sram e in cc)
-  where
-    is_sram : Kind → Bool
-    is_sram Sram = true
-    is_sram _ = false
-no_fifo LineBuf h e = elim h [ ]
-no_fifo Dram h e = elim h [ ]
+-- words are taken from FIFOs alone
+fifo_of : (k : Kind) → is_fifo k ≡ true → k ≡ Fifo
+fifo_of Fifo e = refl
+fifo_of Reg e = absurd (false≢true e)
+fifo_of Sram e = absurd (false≢true e)
+fifo_of LineBuf e = absurd (false≢true e)
+fifo_of Dram e = absurd (false≢true e)
+fifo_of ArgIn e = absurd (false≢true e)
+fifo_of ArgOut e = absurd (false≢true e)
 
 -- no access names a copy
 uncopied : (d : Draft) (accesses : List AccessNets) → All (λ (a : AccessNets). a.copy ≡ None) accesses → All (λ (a : AccessNets). CopyFits d a.copy) accesses
 uncopied d accesses none k e l = subst (CopyFits d) (sym (none k e l)) tt
 
-module _ (core : PlainCore) (plan : PlainPlan) (old mid : Draft) (acted : List ActedList) (owners : OwnerNets) (accesses : List AccessNets) (arguments : List ℕ) (arrays : List Array) (start : ℕ) (can : CanEmitStored core plan)
+module _ (core : PlainCore) (plan : PlainPlan) (old mid : Draft) (acted : List ActedList) (owners : OwnerNets) (accesses : List AccessNets) (arguments : List ℕ) (arrays : List Array) (start : ℕ) (able : CanEmitStored core plan)
     (r : Reserves old mid (answers_in acted)) (same : answer_nets accesses ≡ answers_in acted) (stand : BoundsReadArguments core core.root → All (AccessStands mid core) accesses) (of_core : All (IsOfCore core (copy_in [])) accesses)
-    (right : IsCore core) (read : ScalarsAreRead core) (lists : AreListsStanding mid core (lists_in core.root 0) acted) (all : AreAllAccesses (copy_in []) (lists_in core.root 0) acted accesses) where
+    (queued : All (QueuedStands mid core) accesses) (right : IsCore core) (read : AnswersAreOfReads core) (lists : AreListsStanding mid core (lists_in core.root 0) acted) (all : AreAllAccesses (copy_in []) (lists_in core.root 0) acted accesses) where
   are : AreTreeAccesses core (copy_in []) acted accesses
   are = record { right = right; draft = mid; stand = lists; all = all }
 
-  on_chip : (a : AccessNets) → Contains accesses a → a.mem < length core.mems
-  on_chip a (k, l, e) = subst (λ b. b.mem < length core.mems) e (of_core k a l).on_chip
+  takes : (a : AccessNets) → Contains accesses a → a.kind ≡ Deq → kind_of core a.mem ≡ Fifo
+  takes a (k, l, e) take = subst (λ (b : AccessNets). b.kind ≡ Deq → kind_of core b.mem ≡ Fifo) e (taken (slice_index_or accesses k a) (of_core k a l)) take
+    where
+      taken : (b : AccessNets) → IsOfCore core (copy_in []) b → b.kind ≡ Deq → kind_of core b.mem ≡ Fifo
+      taken b of_b take = fifo_of (kind_of core b.mem) (subst (λ k. can k (kind_of core b.mem) (mem core b.mem).start ≡ true) take of_b.allowed)
 
-  asked : (a : AccessNets) (w : WordNet) → Contains accesses a → a.answer ≡ Some w → a.kind ≡ Read
-  asked a w there answer = read (copy_in []) acted accesses are a w there answer (no_fifo (kind_of core a.mem) (can.stored a.mem (on_chip a there)))
+  asked : (a : AccessNets) (w : WordNet) → Contains accesses a → a.answer ≡ Some w → (a.kind ≡ Read) ⊎ ((a.kind ≡ Deq) × (kind_of core a.mem ≡ Fifo))
+  asked a w there answer = elim (read (copy_in []) acted accesses are a w there answer) [
+    | inl reads ↦ inl reads
+    | inr take ↦ inr (take, takes a there take)
+  ]
 
   pub fits : ArraysAreOpen → ArraysStay → ArgumentsStand old core arguments → ArraysStand old core plan arrays → HasNet old start 1 → OwnersStand mid core owners → All (λ (a : AccessNets). a.copy ≡ None) accesses
       → MemoriesFit mid core plan accesses owners arguments arrays start
   fits are_open stay args banks begin own none = record {
-    stored = can.stored;
-    planned = can.arrays;
+    stored = able.stored;
+    planned = able.arrays;
     starts = HasNet-stays old mid start 1 r.grows begin;
     each = args.each;
     ports = λ m l arg. HasNet-stays old mid _ _ r.grows (args.nets m l arg);
-    accesses_fit = record { stand = stand can.bounds; copied = uncopied mid accesses none; reads = asked };
+    accesses_fit = record { stand = stand able.bounds; copied = uncopied mid accesses none; queued = queued; reads = asked };
     within = λ k d l. (of_core k d l).on_chip;
     owners_stand = own;
     arrays_stand = stay old mid core plan arrays r.grows (λ net there. r.still_open net (are_open old core plan arrays banks net there)) banks;
@@ -118,8 +111,9 @@ module _ (core : PlainCore) (plan : PlainPlan) (old mid : Draft) (acted : List A
           owners_are = t.owners;
           accesses_are = are;
           draft = mid;
-          stand = stand can.bounds;
+          stand = stand able.bounds;
           within = λ k d l. (of_core k d l).on_chip;
+          queued = queued;
           asked = asked;
           memories = memories s run;
         }

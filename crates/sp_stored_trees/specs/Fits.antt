@@ -1,22 +1,22 @@
--- When the circuit of a core of registers, arguments, outputs and SRAMs can be emitted.
+-- When the circuit of a core of registers, arguments, outputs, SRAMs and FIFOs can be emitted.
 use Rattle.std.specs.Prelude.{◌≡◌, ◌≢◌, ℕ, ◌<◌, List, length, slice_index}
-use Rattle.sp_words.specs.declared.kind.Kind.TheVariants.{Sram, ArgIn}
+use Rattle.sp_words.specs.declared.kind.Kind.TheVariants.{Sram, Fifo, ArgIn}
 use Rattle.sp_words.specs.Types.{width_of}
 use Rattle.sp_netlist.specs.Draft.{Draft}
 use Rattle.sp_gates.specs.Nets.{HasNet}
 use Rattle.sp_core.specs.Declarations.{mem, kind_of}
 use Rattle.sp_core.specs.PlainCore.{PlainCore}
 use Rattle.sp_plan.specs.PlainPlan.{PlainPlan}
-use Rattle.sp_tree_handed.specs.Scalars.{AreStored}
 use Rattle.sp_tree_handed.specs.Standing.{BoundsReadArguments}
 use Rattle.sp_tree_nets.specs.Whole.{HasTreePlan}
 use Rattle.sp_array_nets.specs.Banks.{HasArrayPlan}
+use Rattle.sp_array_nets.specs.Kinds.{AreEmitted}
 
--- the tree and the banks of SRAMs can be emitted by the plan, all memories are registers, arguments, outputs and SRAMs, and bounds read
--- arguments alone
+-- the tree and the banks of SRAMs can be emitted by the plan, all memories are registers, arguments, outputs, SRAMs and FIFOs, and
+-- bounds read arguments alone
 pub record CanEmitStored (core : PlainCore) (plan : PlainPlan) : Type 0 where
   pub planned : HasTreePlan core plan
-  pub stored : AreStored core
+  pub stored : AreEmitted core
   pub arrays : HasArrayPlan core plan
   pub bounds : BoundsReadArguments core core.root
 
@@ -28,4 +28,4 @@ pub record ArgumentsStand (d : Draft) (core : PlainCore) (arguments : List ℕ) 
 -- each memory of one word has a net with it
 pub record WordsStand (d : Draft) (core : PlainCore) (words : List ℕ) : Type 0 where
   pub each : length words ≡ length core.mems
-  pub nets : (m : ℕ) → m < length core.mems → kind_of core m ≢ Sram → HasNet d (slice_index words m) (width_of (mem core m).ty)
+  pub nets : (m : ℕ) → m < length core.mems → kind_of core m ≢ Sram → kind_of core m ≢ Fifo → HasNet d (slice_index words m) (width_of (mem core m).ty)

@@ -1,4 +1,4 @@
-//! The circuit of a core of registers, arguments, outputs and SRAMs.
+//! The circuit of a core of registers, arguments, outputs, SRAMs and FIFOs.
 ghost use Rattle.std.specs.Prelude.{◌≡◌, [], length, IfOk, OnOk};
 ghost use Rattle.sp_netlist.specs.Signals.{Signals};
 ghost use Rattle.sp_gates.specs.Grows.{Fills};
@@ -15,21 +15,21 @@ use sp_core::Core;
 use sp_netlist::{Builder, Child, NetId, NoMemory};
 use sp_op_nets::reserved_are_driven;
 use sp_plan::Plan;
-use sp_tree_accesses::{scalars_are_read, tree_accesses};
+use sp_tree_accesses::{answers_are_of_reads, tree_accesses};
 use sp_tree_nets::emit_core;
 use std::alloc::Global;
 
-/// The start and the end of the circuit of a core, and by each memory's number the net of its word; an SRAM has none, and any net
-/// stands for it.
+/// The start and the end of the circuit of a core, and by each memory's number the net of its word; an SRAM and a FIFO have none, and
+/// any net stands for them.
 #[derive(Debug, Drop)]
 pub struct StoredTree {
     pub child: Child,
     pub words: Vec<NetId>,
 }
 
-/// Emits the circuit of a core all of whose memories are registers, arguments, outputs and SRAMs, by a valid plan: its tree, and for
-/// each memory a register, or its banks' ports, which answer the tree's reads. It is started where `start` is 1. `arguments` has the
-/// net of each argument's port, and `arrays` the banks of each SRAM, by the memory's number.
+/// Emits the circuit of a core all of whose memories are registers, arguments, outputs, SRAMs and FIFOs, by a valid plan: its tree, and
+/// for each memory a register, or its banks' ports, which answer the tree's reads and takes. It is started where `start` is 1.
+/// `arguments` has the net of each argument's port, and `arrays` the banks of each SRAM and FIFO, by the memory's number.
 pub fn emit_stored_core(
     alloc: Global,
     builder: &mut Builder,
@@ -49,10 +49,10 @@ pub fn emit_stored_core(
     ensures words { IfOk result (λ tree. WordsStand builder.new (plain_core core.now) tree.words.items) }
     ensures circuit { IfOk result (λ tree. (s : Signals) → RunsOn s builder.new.cells → StoredCircuit (plain_core core.now) (plain_plan plan.now) s tree.child arguments.now tree.words.items) }
 {
+    answers_are_of_reads();
     arrays_are_open();
     arrays_stay();
     reserved_are_driven();
-    scalars_are_read();
     // (what is asked of accesses is that the core keeps its rules, as each does whose root is given)
     let _root = core.root();
     let tree = emit_core(alloc, builder, core, plan, start)?;

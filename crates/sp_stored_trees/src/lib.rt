@@ -1,5 +1,5 @@
-//! The whole circuit of a core whose memories are registers, arguments, outputs and SRAMs: its tree, and the memories that the tree
-//! asks.
+//! The whole circuit of a core whose memories are registers, arguments, outputs, SRAMs and FIFOs: its tree, and the memories that the
+//! tree asks.
 #![tactic(auto)]
 
 mod emit;

@@ -10,3 +10,4 @@ pub mod Small
 pub mod Indices
 pub mod Standing
 pub mod AnswerKinds
+mod Queued

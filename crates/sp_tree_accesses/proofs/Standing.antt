@@ -70,12 +70,12 @@ word_of None = record { net = 0; after = 0 }
 word_of (Some w) = w
 
 -- what is answered, on which net and when
-record IsAnswer (a : Act) (w : WordNet) : Type 0 where
-  answered : is_answered a ≡ true
-  net : net_of a ≡ w.net
-  after : answer_of a ≡ w.after
+pub record IsAnswer (a : Act) (w : WordNet) : Type 0 where
+  pub answered : is_answered a ≡ true
+  pub net : net_of a ≡ w.net
+  pub after : answer_of a ≡ w.after
 
-answer_told : (a : Act) (w : WordNet) → answer_in a ≡ Some w → IsAnswer a w
+pub answer_told : (a : Act) (w : WordNet) → answer_in a ≡ Some w → IsAnswer a w
 answer_told (act.Read net after) w e = record { answered = refl; net = ap (λ o. (word_of o).net) e; after = ap (λ o. (word_of o).after) e }
 answer_told (act.Deq net after) w e = record { answered = refl; net = ap (λ o. (word_of o).net) e; after = ap (λ o. (word_of o).after) e }
 answer_told (act.Given net) w e = absurd (cc)

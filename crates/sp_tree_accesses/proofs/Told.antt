@@ -123,7 +123,7 @@ answer_is act.Write e = absurd (false≢true e)
 answer_is act.Enq e = absurd (false≢true e)
 answer_is act.Reset e = absurd (false≢true e)
 
-early_at : (core : PlainCore) (around : Around) (ops : List PlainOp) (k : ℕ) (op : PlainOp) → list_all (is_early core around) ops ≡ true → IsOpAt ops k op → is_early core around op ≡ true
+pub early_at : (core : PlainCore) (around : Around) (ops : List PlainOp) (k : ℕ) (op : PlainOp) → list_all (is_early core around) ops ≡ true → IsOpAt ops k op → is_early core around op ≡ true
 early_at core around [] k op h at = (let w = at.within in absurd (omega (arith, w)))
 early_at core around (o ∷ ops) zero op h at = subst (λ x. is_early core around x ≡ true) (op_same o op ops at) (and_parts (is_early core around o) (list_all (is_early core around) ops) h).0
 early_at core around (o ∷ ops) (suc k) op h at = early_at core around ops k op (and_parts (is_early core around o) (list_all (is_early core around) ops) h).1 (op_behind o op ops k at)

@@ -11,6 +11,7 @@ ghost use Rattle.sp_tree_handed.specs.Lists.{lists_in};
 ghost use Rattle.sp_tree_handed.specs.Standing.{AccessStands, AreListsStanding, BoundsReadArguments};
 ghost use Rattle.sp_tree_accesses.specs.Accesses.{AreAllAccesses};
 ghost use Rattle.sp_tree_accesses.specs.Laws.{IsOfCore};
+ghost use Rattle.sp_tree_accesses.specs.Queued.{QueuedStands};
 
 use crate::walk::{Walk, add_node};
 use sp_access_nets::{AccessNets, each_is_of_operation, reserved_are_answers, rules_name_memories};
@@ -30,6 +31,7 @@ pub fn tree_accesses(
     ensures of_core { IfOk result (λ accesses. (d : Draft) → AreListsStanding d (plain_core core.now) (lists_in (plain_node core.now.root) 0) acted.now → All (IsOfCore (plain_core core.now) (copy_in [])) accesses.items) }
     ensures copies { IfOk result (λ accesses. (d : Draft) → AreListsStanding d (plain_core core.now) (lists_in (plain_node core.now.root) 0) acted.now → All (λ (a : AccessNets). a.copy ≡ None) accesses.items) }
     ensures answers { IfOk result (λ accesses. (d : Draft) → AreListsStanding d (plain_core core.now) (lists_in (plain_node core.now.root) 0) acted.now → answer_nets accesses.items ≡ answers_in acted.now) }
+    ensures queued { IfOk result (λ accesses. (d : Draft) → AreListsStanding d (plain_core core.now) (lists_in (plain_node core.now.root) 0) acted.now → All (QueuedStands d (plain_core core.now)) accesses.items) }
     ensures stand { IfOk result (λ accesses. (d : Draft) → AreListsStanding d (plain_core core.now) (lists_in (plain_node core.now.root) 0) acted.now → BoundsReadArguments (plain_core core.now) (plain_node core.now.root) → All (AccessStands d (plain_core core.now)) accesses.items) }
 {
     each_is_of_operation();

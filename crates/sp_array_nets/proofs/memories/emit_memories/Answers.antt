@@ -1,6 +1,6 @@
 use Rattle.std.proofs.Common.{◌≡◌, ◌≢◌, ℕ, suc, ◌+◌, ◌<◌, List, [], ◌∷◌, length, slice_index, All, ap, subst, ◌∙◌, arith}
 use Rattle.std.proofs.lemmas.List.{length-map, length-append, get_or_default}
-use Rattle.sp_words.specs.declared.kind.Kind.TheVariants.{Sram}
+use Rattle.sp_words.specs.declared.kind.Kind.TheVariants.{Sram, Fifo}
 use Rattle.sp_words.specs.Types.{width_of}
 use Rattle.sp_gates.specs.Grows.{Fills}
 use Rattle.sp_gates.specs.Nets.{HasNet}
@@ -51,7 +51,7 @@ loop-m-preserved c =
           (more_driven _ _ core plan c.args.accesses.now c.args.owners.now c.args.arguments.now c.args.arrays.now c.args.start m c.requires i.fills inside c.index-arrays-m.result c.index-arrays-m.is _ e.fills);
       each = (let a = ap (λ (ns : List ℕ). length ns) c.in_ok-push.ensures.items in let b = i.each in let d = length-append c.loop-m.words.items (c.in_ok-net.net ∷ []) in omega (arith, a, b, d));
       nets = rw c.in_ok-push.ensures.items
-          (one_more (λ k n. kind_of core k ≢ Sram → HasNet c.emit_memory.new.builder n (width_of (mem core k).ty)) c.loop-m.words.items m c.in_ok-net.net i.each (λ k below other. HasNet-stays _ _ _ _ e.fills.grows (i.nets k below other)) e.net);
+          (one_more (λ k n. kind_of core k ≢ Sram → kind_of core k ≢ Fifo → HasNet c.emit_memory.new.builder n (width_of (mem core k).ty)) c.loop-m.words.items m c.in_ok-net.net i.each (λ k below other fifo. HasNet-stays _ _ _ _ e.fills.grows (i.nets k below other fifo)) e.net);
       runs = λ s run. rw c.in_ok-push.ensures.items
           (one_more (λ k n. RunsMemory core plan s c.args.accesses.now c.args.owners.now (slice_index c.args.arguments.now k) k n) c.loop-m.words.items m c.in_ok-net.net i.each (i.runs s (runs_earlier _ _ s e.fills.grows run))
           (subst (λ n. RunsMemory core plan s c.args.accesses.now c.args.owners.now n m c.in_ok-net.net) port (e.runs s run)));

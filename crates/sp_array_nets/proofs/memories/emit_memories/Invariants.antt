@@ -1,5 +1,5 @@
 use Rattle.std.proofs.Common.{◌≡◌, ◌≢◌, ℕ, ◌<◌, length, slice_index}
-use Rattle.sp_words.specs.declared.kind.Kind.TheVariants.{Sram}
+use Rattle.sp_words.specs.declared.kind.Kind.TheVariants.{Sram, Fifo}
 use Rattle.sp_words.specs.Types.{width_of}
 use Rattle.sp_netlist.specs.Signals.{Signals}
 use Rattle.sp_gates.specs.Grows.{Fills}
@@ -16,6 +16,6 @@ abbrev pub invariant-loop-m : goal.invariant-loop-m
 invariant-loop-m l = record {
   fills : Fills l.fn.builder l.builder (driven_up_to l.m l.accesses l.arrays);
   each : length l.words.items ≡ l.m;
-  nets : (k : ℕ) → k < l.m → kind_of (plain_core l.core) k ≢ Sram → HasNet l.builder (slice_index l.words.items k) (width_of (mem (plain_core l.core) k).ty);
+  nets : (k : ℕ) → k < l.m → kind_of (plain_core l.core) k ≢ Sram → kind_of (plain_core l.core) k ≢ Fifo → HasNet l.builder (slice_index l.words.items k) (width_of (mem (plain_core l.core) k).ty);
   runs : (s : Signals) → RunsOn s l.builder.cells → (k : ℕ) → k < l.m → RunsMemory (plain_core l.core) (plain_plan l.plan) s l.accesses l.owners (slice_index l.arguments k) k (slice_index l.words.items k);
 }

@@ -25,7 +25,7 @@ emit_memories-requires c =
     let a = c.in_ok-accesses.ensures in
     subst (λ xs. MemoriesFit mid core (plain_plan c.args.plan.now) xs c.in_ok-tree.tree.owners c.args.arguments.now c.args.arrays.now c.args.start) (sym c.deref-2.ensures.value)
     (fits core (plain_plan c.args.plan.now) c.args.builder.now mid acted c.in_ok-tree.tree.owners c.in_ok-accesses.accesses.items c.args.arguments.now c.args.arrays.now c.args.start c.requires.can r (a.answers mid lists) (a.stand mid lists)
-    (a.of_core mid lists) c.root-root.ensures.core (c.scalars_are_read.ensures core) lists (a.accesses mid lists) c.arrays_are_open.ensures c.arrays_stay.ensures c.requires.arguments c.requires.arrays c.requires.start c.in_ok-tree.ensures.owners
+    (a.of_core mid lists) (a.queued mid lists) c.root-root.ensures.core (c.answers_are_of_reads.ensures core) lists (a.accesses mid lists) c.arrays_are_open.ensures c.arrays_stay.ensures c.requires.arguments c.requires.arrays c.requires.start c.in_ok-tree.ensures.owners
     (a.copies mid lists))
 
 pub returns-clause-fills : goal.returns-clause-fills
@@ -38,7 +38,7 @@ returns-clause-fills c =
     let a = c.in_ok-accesses.ensures in
     let f = subst (λ xs. Fills mid c.emit_memories.new.builder (answer_nets xs ++ wires_in c.args.arrays.now)) c.deref-2.ensures.value c.in_ok-nets.ensures.fills in
     filled core (plain_plan c.args.plan.now) c.args.builder.now mid acted c.in_ok-tree.tree.owners c.in_ok-accesses.accesses.items c.args.arguments.now c.args.arrays.now c.args.start c.requires.can r (a.answers mid lists) (a.stand mid lists)
-    (a.of_core mid lists) c.root-root.ensures.core (c.scalars_are_read.ensures core) lists (a.accesses mid lists) c.emit_memories.new.builder f c.reserved_are_driven.ensures
+    (a.of_core mid lists) (a.queued mid lists) c.root-root.ensures.core (c.answers_are_of_reads.ensures core) lists (a.accesses mid lists) c.emit_memories.new.builder f c.reserved_are_driven.ensures
 
 pub returns-clause-done : goal.returns-clause-done
 returns-clause-done c = HasNet-stays c.emit_core.new.builder c.emit_memories.new.builder c.in_ok-tree.tree.child.done 1 c.in_ok-nets.ensures.fills.grows c.in_ok-tree.ensures.done
@@ -56,6 +56,5 @@ returns-clause-circuit c =
     let a = c.in_ok-accesses.ensures in
     let f = subst (λ xs. Fills mid c.emit_memories.new.builder (answer_nets xs ++ wires_in c.args.arrays.now)) c.deref-2.ensures.value c.in_ok-nets.ensures.fills in
     let whole = subst (λ xs. IsWhole mid core plan c.in_ok-tree.tree.child xs owners.renewed.items owners.kept.items) (sym c.deref.ensures.value) c.in_ok-tree.ensures.whole in
-    circuit core plan c.args.builder.now mid acted owners accesses c.args.arguments.now c.args.arrays.now c.args.start c.requires.can r (a.answers mid lists) (a.stand mid lists) (a.of_core mid lists) c.root-root.ensures.core
-    (c.scalars_are_read.ensures core) lists (a.accesses mid lists) c.emit_memories.new.builder f c.in_ok-tree.tree.child c.in_ok-nets.nets.words.items whole
+    circuit core plan c.args.builder.now mid acted owners accesses c.args.arguments.now c.args.arrays.now c.args.start c.requires.can r (a.answers mid lists) (a.stand mid lists) (a.of_core mid lists) (a.queued mid lists) c.root-root.ensures.core (c.answers_are_of_reads.ensures core) lists (a.accesses mid lists) c.emit_memories.new.builder f c.in_ok-tree.tree.child c.in_ok-nets.nets.words.items whole
     (λ s run. subst (λ xs. RunMemories core plan s xs owners c.args.arguments.now c.in_ok-nets.nets.words.items) c.deref-2.ensures.value (c.in_ok-nets.ensures.runs s run))

@@ -7,6 +7,7 @@ use Rattle.sp_access_nets.specs.Accesses.{copy_in}
 use Rattle.sp_tree_handed.specs.Lists.{lists_in}
 use Rattle.sp_tree_accesses.specs.Walks.{AddsLists}
 use Rattle.sp_tree_accesses.proofs.Allowed.{of_core, no_copy}
+use Rattle.sp_tree_accesses.proofs.Queued.{all_queued}
 use Rattle.sp_tree_accesses.proofs.Rules.{lists_right}
 use Rattle.sp_tree_accesses.proofs.Small.{walked}
 use Rattle.sp_tree_accesses.proofs.Standing.{all_answers, all_stand}
@@ -34,3 +35,8 @@ returns-clause-of_core c d stand k o lt =
 
 pub returns-clause-copies : goal.returns-clause-copies
 returns-clause-copies c d stand k o lt = (returns-clause-of_core c d stand k o lt).copied ∙ no_copy (slice_index_or c.add_node.new.walk.accesses.items k o).mem
+
+pub returns-clause-queued : goal.returns-clause-queued
+returns-clause-queued c d stand =
+    all_queued (plain_core c.args.core.now) (copy_in []) c.rules_name_memories.ensures d c.each_is_of_operation.ensures (plain_node c.args.core.now.root) c.args.acted.now c.add_node.new.walk.accesses.items (returns-clause-accesses c d stand)
+    (lists_right (plain_core c.args.core.now) (plain_node c.args.core.now.root) nothing [] 0 c.root-root.ensures.core.nodes) stand
