@@ -22,7 +22,10 @@ pub mod Parts
 pub mod Watched
 pub mod StepLemmas
 pub mod StepWords
-pub mod DenseRows
 pub mod StepNets
 pub mod Ordered
 pub mod Levelled
+mod Placed
+mod ShiftLemmas
+mod RunLemmas
+mod Nets

@@ -12,14 +12,14 @@ read_at [] i x e = absurd (cc)
 read_at (y ∷ ys) zero x e = cc
 read_at (y ∷ ys) (suc i) x e = read_at ys i x e
 
-increasing_far : (ns : List ℕ) → IsStrictlyIncreasing ns → (i j : ℕ) → i < j → j < length ns → get_or ns i 0 < get_or ns j 0
+pub increasing_far : (ns : List ℕ) → IsStrictlyIncreasing ns → (i j : ℕ) → i < j → j < length ns → get_or ns i 0 < get_or ns j 0
 increasing_far ns up i zero l b = absurd (omega arith)
 increasing_far ns up i (suc j) l b =
     let step : get_or ns j 0 < get_or ns (suc j) 0 = subst (λ k. get_or ns j 0 < get_or ns k 0) (add-one j) (up j (omega arith)) in
     ⊎_elim (λ k. let far = increasing_far ns up i j k (omega arith) in omega arith)
     (λ k. let e : i ≡ j = omega arith in subst (λ n. get_or ns n 0 < get_or ns (suc j) 0) (sym e) step) (cases_lt i j)
 
-increasing_up : (ns : List ℕ) → IsStrictlyIncreasing ns → (i j : ℕ) → i ≤ j → j < length ns → get_or ns i 0 ≤ get_or ns j 0
+pub increasing_up : (ns : List ℕ) → IsStrictlyIncreasing ns → (i j : ℕ) → i ≤ j → j < length ns → get_or ns i 0 ≤ get_or ns j 0
 increasing_up ns up i j l b = ⊎_elim (λ k. let far = increasing_far ns up i j k b in omega arith)
     (λ k. let e : i ≡ j = omega arith in subst (λ n. get_or ns n 0 ≤ get_or ns j 0) (sym e) (omega arith)) (cases_lt i j)
 
@@ -173,3 +173,9 @@ put_right f row net v n e r = ⊎_elim
     (λ d. ap (λ ps. word_of ps n) (with_word-none row net v d) ∙ r)
     (stands (nets_of row) net))
     (λ d. word_of-put_other row net v n d ∙ r) (cases_eq n net)
+
+-- the nets of a row are those that it was made of
+pub nets_of-zip : (ns ws : List ℕ) → length ws ≡ length ns → nets_of (zip ns ws) ≡ ns
+nets_of-zip [] ws e = refl
+nets_of-zip (n ∷ ns) [] e = absurd (omega (arith, e))
+nets_of-zip (n ∷ ns) (w ∷ ws) e = ap (λ ms. n ∷ ms) (nets_of-zip ns ws (omega (arith, e)))

@@ -51,7 +51,7 @@ unfolding has_sign
 sign_by_size ty a s = ap (λ t. t && nat_le (2 ^ (width_of ty - 1)) a) (sym s)
 
 -- the word with its sign bit turned is the value, counted from the least one
-turned : (ty : Ty) (a : ℕ) → signed_of ty ≡ true → IsWord ty a → value_of ty a +ℤ pos (2 ^ (width_of ty - 1)) ≡ pos ((a + 2 ^ (width_of ty - 1)) % 2 ^ width_of ty)
+pub turned : (ty : Ty) (a : ℕ) → signed_of ty ≡ true → IsWord ty a → value_of ty a +ℤ pos (2 ^ (width_of ty - 1)) ≡ pos ((a + 2 ^ (width_of ty - 1)) % 2 ^ width_of ty)
 turned ty a s f = by (has_sign ty a) refl
   where
     test : (b : Bool) → has_sign ty a ≡ b → nat_le (2 ^ (width_of ty - 1)) a ≡ b
@@ -69,8 +69,12 @@ shifted_less v u h x y e f = ltb_from_iff (λ t. omega (arith, ints, e, f, t), �
     by false d l = absurd (omega (arith, ints, e, f, d, l))
 
 -- a sum with half of the range, or with 0, cut to the width
-cut : (ty : Ty) (a m h : ℕ) → m + 1 ≡ 2 ^ width_of ty → bit_and ((a + h) % 2 ^ 64) m ≡ (a + h) % 2 ^ width_of ty
+pub cut : (ty : Ty) (a m h : ℕ) → m + 1 ≡ 2 ^ width_of ty → bit_and ((a + h) % 2 ^ 64) m ≡ (a + h) % 2 ^ width_of ty
 cut ty a m h e = mask_and ((a + h) % 2 ^ 64) m (width_of ty) e ∙ mod-mod-pow (a + h) (width_of ty) 64 (width-le ty)
+
+-- a word without a sign is its value
+pub plain : (ty : Ty) (x : ℕ) → IsWord ty x → has_sign ty x ≡ false → value_of ty x +ℤ pos 0 ≡ pos ((x + 0) % 2 ^ width_of ty)
+plain ty x l n = let rest : (x + 0) % 2 ^ width_of ty ≡ x + 0 = mod-eq_of_lt (omega (arith, l)) in let v = value_natural ty x n in omega (arith, ints, rest, v)
 
 -- the words with the sign bit turned, where the type has one, compare as their values do
 pub below_is : (ty : Ty) (a b m h : ℕ) → IsWord ty a → IsWord ty b → m + 1 ≡ 2 ^ width_of ty
@@ -86,10 +90,7 @@ below_is ty a b m h f g e s = ap (λ x. nat_lt x (bit_and ((b + h) % 2 ^ 64) m))
     by false t =
         let none : h ≡ 0 = s ∙ ap (λ k. if k then 2 ^ (width_of ty - 1) else 0) t in
         ap (λ k. nat_lt ((a + k) % 2 ^ width_of ty) ((b + k) % 2 ^ width_of ty)) none
-        ∙ sym (shifted_less (value_of ty a) (value_of ty b) 0 ((a + 0) % 2 ^ width_of ty) ((b + 0) % 2 ^ width_of ty) (plain a f (no_sign ty a t)) (plain b g (no_sign ty b t)))
-      where
-        plain : (x : ℕ) → IsWord ty x → has_sign ty x ≡ false → value_of ty x +ℤ pos 0 ≡ pos ((x + 0) % 2 ^ width_of ty)
-        plain x l n = let rest : (x + 0) % 2 ^ width_of ty ≡ x + 0 = mod-eq_of_lt (omega (arith, l)) in let v = value_natural ty x n in omega (arith, ints, rest, v)
+        ∙ sym (shifted_less (value_of ty a) (value_of ty b) 0 ((a + 0) % 2 ^ width_of ty) ((b + 0) % 2 ^ width_of ty) (plain ty a f (no_sign ty a t)) (plain ty b g (no_sign ty b t)))
 
 -- half of the range as the code computes it
 pub half_is : (ty : Ty) (b r : ℕ) (t : Bool) → t ≡ signed_of ty → b ≡ bool_byte t → r ≡ width_of ty → b * 2 ^ (r - 1) % 2 ^ 64 ≡ (if signed_of ty then 2 ^ (width_of ty - 1) else 0)

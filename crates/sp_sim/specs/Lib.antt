@@ -16,3 +16,4 @@ pub mod Texts
 pub mod Programs
 pub mod Steps
 pub mod Levels
+pub mod Runs

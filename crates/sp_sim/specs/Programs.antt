@@ -7,7 +7,7 @@ use Rattle.sp_sim.specs.declared.program.Part.{Part}
 use Rattle.sp_sim.specs.declared.program.Part.TheVariants.{Reads, Writes, Kept, Units, Dones}
 use Rattle.sp_sim.specs.declared.program.Program.{Program}
 use Rattle.sp_sim.specs.Settling.{cell_at}
-use Rattle.sp_sim.specs.Steps.{cells_of}
+use Rattle.sp_sim.specs.Runs.{AreRunsOf}
 
 abbrev pub is_read : PlainCell → Bool
 is_read (read_tap net bank enable addr) = true
@@ -38,11 +38,11 @@ in_part Kept = is_kept
 in_part Units = is_unit
 in_part Dones = is_done
 
--- The program has the cells that compute in an order in which operands come first, and the others in the netlist's.
+-- The program has runs of the cells that compute, in an order in which operands come first, and the others in the netlist's.
 pub record IsProgram (cells : List PlainCell) (program : Program) : Type 0 where
   pub order : List ℕ
   pub is_order : IsOrder cells order
-  pub computed : cells_of program.steps.items ≡ map (cell_at cells) order
+  pub computed : AreRunsOf cells program.runs.items (map (cell_at cells) order)
   pub reads : plain_cells program.reads.items ≡ filter is_read cells
   pub writes : plain_cells program.writes.items ≡ filter is_write cells
   pub kept : plain_cells program.kept.items ≡ filter is_kept cells

@@ -12,6 +12,8 @@ mod over;
 mod phase;
 mod program;
 mod row;
+mod run;
+mod same;
 mod serve;
 mod settle;
 mod sim;

@@ -54,7 +54,7 @@ fn driven(alloc: Global, cells: &[Cell]) -> Result<Vec<u64>, NoMemory>
 }
 
 /// The nets that the cells drive, ascending.
-fn sorted_nets(alloc: Global, cells: &[Cell]) -> Result<Vec<u64>, NoMemory>
+pub(crate) fn sorted_nets(alloc: Global, cells: &[Cell]) -> Result<Vec<u64>, NoMemory>
     ensures ascending { IfOk result (λ nets. IsStrictlyIncreasing nets.items) }
     ensures same { IfOk result (λ nets. (net : ℕ) → Contains nets.items net ↔ Contains (map (λ p. p.0) (driven_nets (plain_cells cells.now))) net) }
 {

@@ -4,10 +4,14 @@ ghost use Rattle.sp_netlist.specs.Cells.{plain_cell, plain_cells};
 ghost use Rattle.sp_sim.specs.Settling.{cell_at};
 ghost use Rattle.sp_netlist.specs.Order.{IsComputing};
 ghost use Rattle.sp_sim.specs.Programs.{in_part, IsProgram};
+ghost use Rattle.sp_sim.specs.Levels.{AreOrdered};
+ghost use Rattle.sp_sim.specs.Runs.{AreRunsOf};
 ghost use Rattle.sp_sim.specs.Steps.{cell_of, cells_of};
 
 use crate::NoMemory;
 use crate::levels::by_levels;
+use crate::load::sorted_nets;
+use crate::run::{Run, runs_of};
 use crate::step::{Step, step_of};
 use sp_netlist::{Cell, Netlist, evaluation_order};
 use std::alloc::Global;
@@ -28,10 +32,10 @@ pub(crate) enum Part {
 }
 
 /// A netlist's cells, part by part, so that a cycle goes once through each part and looks at no cell that has nothing
-/// to do. Those that compute are steps, in an order in which operands come first; the others are copies.
+/// to do. Those that compute are runs of steps, in an order in which operands come first; the others are copies.
 #[derive(Drop)]
 pub(crate) struct Program {
-    pub(crate) steps: Vec<Step>,
+    pub(crate) runs: Vec<Run>,
     pub(crate) reads: Vec<Cell>,
     pub(crate) writes: Vec<Cell>,
     pub(crate) kept: Vec<Cell>,
@@ -120,6 +124,16 @@ fn steps_at(alloc: Global, cells: &[Cell], places: &[usize]) -> Result<Vec<Step>
     Ok(found)
 }
 
+/// The steps as runs of places in a row of the netlist.
+fn placed(alloc: Global, netlist: &Netlist, steps: &[Step]) -> Result<Vec<Run>, NoMemory>
+    requires { AreOrdered netlist.now steps.now }
+    ensures { IfOk result (λ runs. AreRunsOf netlist.now runs.items (cells_of steps.now)) }
+{
+    let nets = sorted_nets(alloc, netlist.cells())?;
+    let runs = runs_of(alloc, &nets, steps)?;
+    Ok(runs)
+}
+
 /// The netlist's cells, part by part.
 pub(crate) fn program_of(alloc: Global, netlist: &Netlist) -> Result<Program, NoMemory>
     ensures { IfOk result (IsProgram netlist.now) }
@@ -128,13 +142,14 @@ pub(crate) fn program_of(alloc: Global, netlist: &Netlist) -> Result<Program, No
     let cells = netlist.cells();
     let mut steps = steps_at(alloc, cells, &order)?;
     by_levels(alloc, netlist, &mut steps)?;
+    let runs = placed(alloc, netlist, &steps)?;
     let reads = cells_in(alloc, cells, Part::Reads)?;
     let writes = cells_in(alloc, cells, Part::Writes)?;
     let kept = cells_in(alloc, cells, Part::Kept)?;
     let units = cells_in(alloc, cells, Part::Units)?;
     let dones = cells_in(alloc, cells, Part::Dones)?;
     Ok(Program {
-        steps,
+        runs,
         reads,
         writes,
         kept,

@@ -1,14 +1,15 @@
 //! Rows of words, by nets.
-ghost use Rattle.std.specs.Prelude.{◌≡◌, map, IsTrue, IfOk, OnOk, All, Contains};
+ghost use Rattle.std.specs.Prelude.{◌≡◌, ℕ, List, length, map, IsTrue, IfOk, OnOk, All, Contains};
 ghost use Rattle.std.specs.List.{fold};
 ghost use Rattle.std.specs.List.Sorted.{IsStrictlyIncreasing};
-ghost use Rattle.sp_sim.specs.Rows.{word_of, with_word, IsDense, IsPlaceOf};
+ghost use Rattle.sp_netlist.specs.Rules.{IsNetlist};
+ghost use Rattle.sp_sim.specs.Rows.{word_of, with_word, nets_of, IsDense, IsPlaceOf};
+ghost use Rattle.sp_sim.specs.Runs.{runs_cells, AreNetsOf, IsRunWithin};
 ghost use Rattle.sp_sim.specs.Settling.{IsRow, settle_cell};
-ghost use Rattle.sp_sim.specs.Steps.{cells_of};
 
 use crate::NoMemory;
-use crate::settle::{settle_each, settle_places};
-use crate::step::Step;
+use crate::run::Run;
+use crate::settle::settle_runs;
 use sp_netlist::{NetId, Netlist};
 use std::alloc::Global;
 use std::marker::Model;
@@ -28,7 +29,7 @@ fn is_dense(nets: &[u64]) -> bool
 /// The place of a number among those that ascend, or how many they are where it isn't one of them. Kept apart, so that
 /// dense nets don't pay for it.
 #[inline(never)]
-fn searched(nets: &[u64], number: u64) -> usize
+pub(crate) fn searched(nets: &[u64], number: u64) -> usize
     requires { IsStrictlyIncreasing nets.now }
     ensures { IsPlaceOf nets.now number result }
 {
@@ -110,18 +111,16 @@ impl Row {
         }
     }
 
-    /// Computes the nets of these steps, one after the other.
-    pub(crate) fn settle(&mut self, netlist: &Netlist, steps: &[Step])
-        requires stand { All (Contains netlist.now) (cells_of steps.now) }
+    /// Carries out these runs, one after the other.
+    pub(crate) fn settle(&mut self, netlist: &Netlist, runs: &[Run])
+        requires netlist { IsNetlist netlist.now }
+        requires runs { (nets : List ℕ) → AreNetsOf netlist.now nets → All (IsRunWithin (length nets)) runs.now × All (Contains netlist.now) (runs_cells nets runs.now) }
         requires is_row { IsRow netlist.now self.old }
-        ensures settled { self.new ≡ fold settle_cell self.old (cells_of steps.now) }
+        ensures nets { AreNetsOf netlist.now (nets_of self.old) }
+        ensures settled { self.new ≡ fold settle_cell self.old (runs_cells (nets_of self.old) runs.now) }
         ensures is_row { IsRow netlist.now self.new }
     {
-        if self.dense {
-            settle_places(netlist, steps, &self.nets, &mut self.words);
-        } else {
-            settle_each(netlist, steps, self);
-        }
+        settle_runs(netlist, runs, &self.nets, &mut self.words);
     }
 
     /// Puts the words of these nets into `words`, in order.

@@ -63,7 +63,7 @@ pub(crate) fn look(netlist: &Netlist, program: &Program, state: &mut State) -> F
         → StandsIn (record { cells = netlist.now; args = args; drams = drams; delays = delays }) s t state.old
         → LookedIn (record { cells = netlist.now; args = args; drams = drams; delays = delays }) s t state.new result }
 {
-    state.row.settle(netlist, &program.steps);
+    state.row.settle(netlist, &program.runs);
     let clash = conflict(
         &program.reads,
         &program.writes,

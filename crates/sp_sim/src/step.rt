@@ -1,7 +1,7 @@
 //! Steps: the cells that compute, in a form that is quick to carry out.
 ghost use Rattle.std.specs.Prelude.{◌≡◌, ◌+◌, ◌<◌, ◌^◌, IsTrue};
 ghost use Rattle.sp_words.specs.Types.{width_of};
-ghost use Rattle.sp_words.specs.Words.{IsWord, word_mul, word_lt};
+ghost use Rattle.sp_words.specs.Words.{IsWord, word_mul, word_lt, word_shr};
 ghost use Rattle.sp_netlist.specs.Cells.{plain_cell};
 ghost use Rattle.sp_netlist.specs.Rules.{is_computed};
 ghost use Rattle.sp_sim.specs.Steps as steps;
@@ -125,7 +125,7 @@ fn greatest(ty: Ty) -> u64
 
 /// The product. Of whole numbers it is that of the words, which takes no sign into account.
 #[inline]
-fn product(ty: Ty, a: u64, b: u64) -> u64
+pub(crate) fn product(ty: Ty, a: u64, b: u64) -> u64
     requires left { IsWord ty a }
     requires right { IsWord ty b }
     ensures word { result ≡ word_mul ty a b }
@@ -141,7 +141,7 @@ fn product(ty: Ty, a: u64, b: u64) -> u64
 
 /// Whether the value of `a` is below that of `b`: their words compare so once the sign bit of both is turned.
 #[inline]
-fn is_below(ty: Ty, a: u64, b: u64) -> bool
+pub(crate) fn is_below(ty: Ty, a: u64, b: u64) -> bool
     requires left { IsWord ty a }
     requires right { IsWord ty b }
     ensures { result ≡ word_lt ty a b }
@@ -151,30 +151,19 @@ fn is_below(ty: Ty, a: u64, b: u64) -> bool
     (a.wrapping_add(half) & mask) < (b.wrapping_add(half) & mask)
 }
 
-/// The word that the task computes of these.
-#[inline(always)]
-pub(crate) fn compute(task: Task, x: u64, y: u64, z: u64) -> u64
-    requires { steps.Fit task x y z }
-    ensures word { result ≡ steps.word_by task x y z }
-    ensures fits { result < 2 ^ steps.width_by task }
+/// The word over `2 ^ by`, rounded down. It is shifted with its sign bit turned, and half of the range goes off again.
+#[inline]
+pub(crate) fn shifted(ty: Ty, a: u64, by: u8) -> u64
+    requires operand { IsWord ty a }
+    requires distance { by < 64 }
+    ensures word { result ≡ word_shr ty a by }
+    ensures fits { IsWord ty result }
 {
-    match task {
-        Task::Add(ty) => sp_words::add(ty, x, y),
-        Task::Sub(ty) => sp_words::sub(ty, x, y),
-        Task::Mul(ty) => product(ty, x, y),
-        Task::Div(ty) => sp_words::div(ty, x, y),
-        Task::Rem(ty) => sp_words::rem(ty, x, y),
-        Task::And(ty) => sp_words::and(ty, x, y),
-        Task::Or(ty) => sp_words::or(ty, x, y),
-        Task::Xor(ty) => sp_words::xor(ty, x, y),
-        Task::Min(ty) => sp_words::min(ty, x, y),
-        Task::Max(ty) => sp_words::max(ty, x, y),
-        Task::Lt(ty) => u64::from(is_below(ty, x, y)),
-        Task::Eq(ty) => u64::from(sp_words::eq(ty, x, y)),
-        Task::Not(ty) => sp_words::not(ty, x),
-        Task::Shl(ty, places) => sp_words::shl(ty, x, places),
-        Task::Shr(ty, places) => sp_words::shr(ty, x, places),
-        Task::Cast(from, to) => sp_words::cast(from, to, x),
-        Task::Choose(_) => { if z == 1 { x } else { y } }
+    if by < ty.width() {
+        let half = u64::from(ty.signed()) << (ty.width() - 1);
+        let mask = greatest(ty);
+        ((a.wrapping_add(half) & mask) >> by).wrapping_sub(half >> by) & mask
+    } else {
+        sp_words::shr(ty, a, by)
     }
 }

@@ -8,11 +8,11 @@ use Rattle.sp_netlist.specs.Cycle as cycle
 use Rattle.sp_netlist.specs.Rules.{is_bank}
 use Rattle.sp_netlist.specs.Signals.{Setting}
 use Rattle.sp_sim.specs.declared.state.State.{State}
-use Rattle.sp_sim.specs.Rows.{word_of}
+use Rattle.sp_sim.specs.Rows.{word_of, nets_of}
 use Rattle.sp_sim.specs.States.{LookedIn, finding}
 use Rattle.sp_sim.specs.Conflicts.{tally}
 use Rattle.sp_sim.specs.Settling.{settle_cell}
-use Rattle.sp_sim.specs.Steps.{cells_of}
+use Rattle.sp_sim.specs.Runs.{runs_cells, IsRunWithin}
 use Rattle.sp_sim.proofs.SettleLemmas.{settled_as_cells}
 use Rattle.sp_sim.proofs.Held.{all_stand}
 use Rattle.sp_sim.proofs.Parts.{reads_tallied, writes_tallied, over_by_dones}
@@ -46,7 +46,8 @@ returns-clause-looked c = λ args drams delays s t q stands.
       writes = with_items old.writes c.conflict-clash.new.writes;
     } in
     let settles : Settles c.args.netlist.now prog.order old new = record {
-      row = c.settle.ensures.settled ∙ ap (λ xs. fold settle_cell old.row (cells_of xs)) c.deref.ensures.value ∙ ap (fold settle_cell old.row) prog.computed ∙ settled_as_cells cells prog.order old.row;
+      row = c.settle.ensures.settled ∙ ap (λ xs. fold settle_cell old.row (runs_cells (nets_of old.row) xs)) c.deref.ensures.value
+          ∙ ap (fold settle_cell old.row) (prog.computed.same (nets_of old.row) c.settle.ensures.nets) ∙ settled_as_cells cells prog.order old.row;
       is_row = c.settle.ensures.is_row;
       next = refl;
       banks = refl;
@@ -65,8 +66,9 @@ returns-clause-looked c = λ args drams delays s t q stands.
     (subst (λ ws. Tells c.conflict-clash.new.reads ws c.args.netlist.now w (finding clash over)) (sym writes) plain_tells) in
     subst (LookedIn g s t new) (sym c.found_by.ensures) (looked g c.requires.netlist prog.order prog.is_order old new settles c.requires.state (finding clash over) told s q t stands)
 
-pub settle-requires-clause-stand : goal.settle-requires-clause-stand
-settle-requires-clause-stand c =
+pub settle-requires-clause-runs : goal.settle-requires-clause-runs
+settle-requires-clause-runs c = λ nets k.
     let cells = c.args.netlist.now in
     let prog = c.requires.program in
-    subst (All (Contains cells)) (sym (ap cells_of c.deref.ensures.value ∙ prog.computed)) (all_stand cells prog.order prog.is_order.computing)
+    subst (λ runs. All (IsRunWithin (length nets)) runs × All (Contains cells) (runs_cells nets runs)) (sym c.deref.ensures.value)
+    (prog.computed.within nets k, subst (All (Contains cells)) (sym (prog.computed.same nets k)) (all_stand cells prog.order prog.is_order.computing))
