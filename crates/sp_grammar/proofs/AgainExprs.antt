@@ -150,7 +150,7 @@ module _ (source : Text) where
     expr_shorter (IsExpr.operation {us = us} is p takes q) = let a = expr_shorter p in let b = shorter us takes in let c = expr_shorter q in omega (arith, a, b, c)
     expr_shorter (IsExpr.shifted {us = us} {vs = vs} is p takes q) = let a = expr_shorter p in let b = shorter us takes in let c = shorter vs q.takes in omega (arith, a, b, c)
 
-    prefixed_shorter : {ts us : List Token} {e : PlainExpr} → IsPrefixed source ts us e → length us < length ts
+    pub prefixed_shorter : {ts us : List Token} {e : PlainExpr} → IsPrefixed source ts us e → length us < length ts
     prefixed_shorter (IsPrefixed.bare p) = postfix_shorter p
     prefixed_shorter {ts} (IsPrefixed.signed is takes alone p) = let a = shorter ts takes in let b = prefixed_shorter p in omega (arith, a, b)
 
@@ -198,7 +198,7 @@ module _ (source : Text) where
   casts_end zero at e us off = refl
   casts_end (suc n) at e us off = rw off refl
 
-  signs_end : (n : ℕ) (found : List Sign) (us : List Token) → sign_at us ≡ None → signs_from n found us ≡ Ok (found, us)
+  pub signs_end : (n : ℕ) (found : List Sign) (us : List Token) → sign_at us ≡ None → signs_from n found us ≡ Ok (found, us)
   unfolding signs_from
   signs_end zero found us off = refl
   signs_end (suc n) found us off = rw off refl
@@ -289,7 +289,7 @@ module _ (source : Text) where
     unfolding primary
     by_kind kind ts {o} is h = subst (λ x. primary_by source inner x ts ≡ o) (sym is) h
 
-    by_name : (ts : List Token) {us : List Token} {i : PlainIdent} {o : Outcome PlainExpr} → IsName source ts us i → named source inner ts ≡ o → primary source inner ts ≡ o
+    pub by_name : (ts : List Token) {us : List Token} {i : PlainIdent} {o : Outcome PlainExpr} → IsName source ts us i → named source inner ts ≡ o → primary source inner ts ≡ o
     unfolding primary
     by_name ts is h = ap (λ (r : Rule PlainExpr). r ts) (named_kind (kind_of ts) (name_kind source ts is)) ∙ h
 
@@ -323,7 +323,7 @@ module _ (source : Text) where
           skip_it close,
         ) refl
 
-    name_access : {ts a b c d : List Token} {i : PlainIdent} {all : List PlainExpr} → IsName source ts a i → Takes k.OpenRound a b → exprs inner b ≡ Ok (all, c) → Takes k.CloseRound c d
+    pub name_access : {ts a b c d : List Token} {i : PlainIdent} {all : List PlainExpr} → IsName source ts a i → Takes k.OpenRound a b → exprs inner b ≡ Ok (all, c) → Takes k.CloseRound c d
         → named source inner ts ≡ Ok (node i.place (access i (row all)), d)
     unfolding named indexed
     name_access {ts = ts} {a = a} is opened read close = rw (name_again source ts is, sees_it a opened, tail_at a opened, read, skip_it close) refl
@@ -357,7 +357,7 @@ module _ (source : Text) where
   after_comma : {us vs : List Token} → Takes k.Comma us vs → Stops 8 us × IsClosed us
   after_comma {us} takes = (ends_at k.Comma 8 us (kind_at us takes) refl, closed_at k.Comma us (kind_at us takes) refl)
 
-  after_close : {us vs : List Token} → Takes k.CloseRound us vs → Stops 8 us × IsClosed us
+  pub after_close : {us vs : List Token} → Takes k.CloseRound us vs → Stops 8 us × IsClosed us
   after_close {us} takes = (ends_at k.CloseRound 8 us (kind_at us takes) refl, closed_at k.CloseRound us (kind_at us takes) refl)
 
   mutual
@@ -472,7 +472,7 @@ module _ (source : Text) where
         by_kind (expr source depth) k.OpenRound ts (kind_at ts p) (rw (tail_at ts p) (enclosed_again (expr source depth)
         (expr_of depth 7 (expr_shorter x) (omega (arith, h, few)) (λ dd enough. chain_again x dd 7 (omega arith) enough (weaker_stop 7 8 vs (omega arith) (after_close close).0) (after_close close).1) (after_close close).0) close))
 
-    exprs_again : {ts us : List Token} {all : List PlainExpr} → AreExprs source ts us all → (depth n : ℕ) (found : List PlainExpr) → length ts ≤ depth → length ts ≤ n → sees k.Comma us ≡ false → Stops 8 us → IsClosed us
+    pub exprs_again : {ts us : List Token} {all : List PlainExpr} → AreExprs source ts us all → (depth n : ℕ) (found : List PlainExpr) → length ts ≤ depth → length ts ≤ n → sees k.Comma us ≡ false → Stops 8 us → IsClosed us
         → exprs_from (expr source depth) n found ts ≡ Ok (found ++ all, us)
     exprs_again {us = us} (AreExprs.last p) depth zero found few enough off stops closed = let less = expr_shorter p in absurd (omega (arith, less, enough))
     exprs_again {us = us} (AreExprs.last p) depth (suc n) found few enough off stops closed =

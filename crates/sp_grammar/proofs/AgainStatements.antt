@@ -99,7 +99,7 @@ module _ (source : Text) where
   unfolding kind
   by_kind inner wanted ts {o} is h = subst (λ x. kind_by source inner x ts ≡ o) (sym is) h
 
-  named_kind : (inner : Rule PlainStmt) (wanted : TokenKind) → is_name wanted ≡ true → kind_by source inner wanted ≡ on_name source
+  pub named_kind : (inner : Rule PlainStmt) (wanted : TokenKind) → is_name wanted ≡ true → kind_by source inner wanted ≡ on_name source
   named_kind inner k.Val e = absurd (cc)
   named_kind inner k.Pipe e = absurd (cc)
   named_kind inner k.Sequential e = absurd (cc)

@@ -25,12 +25,12 @@ use Rattle.sp_grammar.proofs.Words.{names, numbers, wholes}
 -- ---- operators before an operand
 
 -- one of them
-record SignIs (ts us : List Token) (s : Sign) : Type 0 where
-  kind : TokenKind
-  sign : IsSign kind s.op
-  takes : Takes kind ts us
-  alone : kind ≡ k.Minus → kind_of us ≡ k.Number → ⊥
-  place : s.at ≡ place_of ts
+pub record SignIs (ts us : List Token) (s : Sign) : Type 0 where
+  pub kind : TokenKind
+  pub sign : IsSign kind s.op
+  pub takes : Takes kind ts us
+  pub alone : kind ≡ k.Minus → kind_of us ≡ k.Number → ⊥
+  pub place : s.at ≡ place_of ts
 
 abbrev Signed : List Sign → List Token → List Token → Type 0
 Signed [] ts us = ts ≡ us
@@ -49,7 +49,7 @@ no_number : (ts : List Token) → kind_of ts ≡ k.Number → sees k.Number ts �
 unfolding sees same_kind
 no_number ts digits n = let sees_it : same_kind (kind_of ts) k.Number ≡ true = subst (λ kind. same_kind kind k.Number ≡ true) (sym digits) refl in let bad = sym sees_it ∙ n in absurd (cc)
 
-sign_of : (ts : List Token) (s : Sign) → sign_at ts ≡ Some s → SignIs ts (tail_of ts) s
+pub sign_of : (ts : List Token) (s : Sign) → sign_at ts ≡ Some s → SignIs ts (tail_of ts) s
 unfolding sign_at
 sign_of ts s e = by_prefix (prefix (kind_of ts)) refl e
   where

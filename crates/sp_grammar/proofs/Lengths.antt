@@ -62,7 +62,7 @@ module _ (source : Text) where
       omega (arith, a, b, c, d, e, f, g)
   bound_shorter (IsBound.a_word e) = expr_shorter source e
 
-  spans_shorter : {ts us : List Token} {all : List PlainSpan} → AreSpans source ts us all → length us < length ts
+  pub spans_shorter : {ts us : List Token} {all : List PlainSpan} → AreSpans source ts us all → length us < length ts
   spans_shorter (AreSpans.last p) = span_shorter source p
   spans_shorter (AreSpans.next {us = us} p comma rest) = let a = span_shorter source p in let b = shorter us comma in let c = spans_shorter rest in omega (arith, a, b, c)
 

@@ -1,18 +1,18 @@
-mod Rules
-mod Words
-mod Types
-mod Operators
-mod Exprs
-mod Loops
-mod Again
-mod AgainExprs
-mod AgainLoops
-mod Simple
-mod Statements
-mod Programs
-mod Starts
-mod AgainSimple
-mod Lengths
-mod AgainStatements
-mod AgainPrograms
-mod Texts
+pub mod Rules
+pub mod Words
+pub mod Types
+pub mod Operators
+pub mod Exprs
+pub mod Loops
+pub mod Again
+pub mod AgainExprs
+pub mod AgainLoops
+pub mod Simple
+pub mod Statements
+pub mod Programs
+pub mod Starts
+pub mod AgainSimple
+pub mod Lengths
+pub mod AgainStatements
+pub mod AgainPrograms
+pub mod Texts

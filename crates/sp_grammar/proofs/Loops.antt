@@ -19,7 +19,7 @@ use Rattle.sp_grammar.proofs.Exprs.{whole_go}
 use Rattle.sp_grammar.proofs.Rules.{Reads, is_real, takes_next, given, refused, bound, chosen, seen, skips, weaker}
 use Rattle.sp_grammar.proofs.Words.{names, counts}
 
-combines_is : (kind : TokenKind) (o : BinOp) → combining kind ≡ Some o → Combines kind o
+pub combines_is : (kind : TokenKind) (o : BinOp) → combining kind ≡ Some o → Combines kind o
 combines_is k.Plus o e = let same : op.Add ≡ o = cc in subst (Combines k.Plus) same Combines.sum
 combines_is k.Star o e = let same : op.Mul ≡ o = cc in subst (Combines k.Star) same Combines.product
 combines_is k.And o e = let same : op.And ≡ o = cc in subst (Combines k.And) same Combines.all
@@ -29,7 +29,7 @@ combines_is k.OrOr o e = let same : op.Or ≡ o = cc in subst (Combines k.OrOr) 
 combines_is k.Caret o e = let same : op.Xor ≡ o = cc in subst (Combines k.Caret) same Combines.parity
 combines_is _ o e = absurd (cc)
 
-combining_real : (kind : TokenKind) (o : BinOp) → combining kind ≡ Some o → is_real kind ≡ true
+pub combining_real : (kind : TokenKind) (o : BinOp) → combining kind ≡ Some o → is_real kind ≡ true
 combining_real k.End o e = absurd (cc)
 combining_real _ o e = refl
 

@@ -110,7 +110,7 @@ module _ (source : Text) where
       go s ws false is h = absurd (cc)
 
   -- a token that is a name spells one
-  name_of : (ts : List Token) → is_name (kind_of ts) ≡ true → (i : PlainIdent) × IsName source ts (tail_of ts) i
+  pub name_of : (ts : List Token) → is_name (kind_of ts) ≡ true → (i : PlainIdent) × IsName source ts (tail_of ts) i
   unfolding kind_of tail_of
   name_of [] h = absurd (cc)
   name_of (t ∷ ts) h = (ident source (t ∷ ts), record { token = t; is = refl; named = h; spells = refl })
@@ -129,7 +129,7 @@ module _ (source : Text) where
   no_pair x (single e) z rest h = absurd (cc)
   no_pair x (range a b p) z rest h = absurd (cc)
 
-  pair_parts : {inside us : List Token} {spans : List PlainSpan} {i : PlainIdent} (u v : List Token) → AreSpans source inside us spans → is_pair spans ≡ true → IsName source inside u i → Takes k.Comma u v
+  pub pair_parts : {inside us : List Token} {spans : List PlainSpan} {i : PlainIdent} (u v : List Token) → AreSpans source inside us spans → is_pair spans ≡ true → IsName source inside u i → Takes k.Comma u v
       → (e : PlainExpr) × IsWholeExpr source v us e
   pair_parts u v (AreSpans.last q) h p comma = absurd (cc)
   pair_parts u v (AreSpans.next {s = x} (IsSpan.an_index r) first (AreSpans.next {s = y} q second (AreSpans.last {s = z} t))) h p comma = absurd (no_pair x y z [] h)
