@@ -153,7 +153,16 @@ def sieve(n):
     return {'primes': len(primes), 'is_prime': int(n in primes)}, turns
 
 
-KERNELS = [dot, matrix, transpose, histogram, prefix_sum, fir, convolution, pooling, power, gcd, biquad, sparse, sort, crc, sieve]
+def window(seed):
+    words = [seed]
+    for _ in range(200):
+        words.append((words[-1] * 75 + 74) % 65537)
+    sums = [sum(words[max(1, end - 7):end + 1]) for end in range(1, 201)]
+    turns = 1 + 1 + loop(8, 1) + 3 + 1 + loop(200, 4) + 2
+    return {'greatest': max(sums), 'last': sums[-1]}, turns
+
+
+KERNELS = [dot, matrix, transpose, histogram, prefix_sum, fir, convolution, pooling, power, gcd, biquad, sparse, sort, crc, sieve, window]
 
 
 def text_of(name):
