@@ -388,6 +388,7 @@ fn rows(alloc: Global, line: &str) -> Result<MemFile, Fail> {
 }
 
 /// A call with a file to work on and a setup, and the files that the setup names.
+#[derive(Drop)]
 struct Files<'a> {
     name: &'a str,
     bytes: &'a [u8],
