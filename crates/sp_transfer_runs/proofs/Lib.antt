@@ -4,10 +4,14 @@ pub mod Both
 pub mod Channels
 pub mod Choice
 pub mod Cycles
+pub mod DelayFinding
+pub mod DelayPaths
+pub mod DelayPlaces
 pub mod Events
 pub mod Loads
 pub mod Looks
 pub mod Moved
+pub mod Moving
 pub mod Numbers
 pub mod Parts
 pub mod Passing

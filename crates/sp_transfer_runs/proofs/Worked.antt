@@ -126,6 +126,7 @@ unfolding value_of has_sign
 slice_moves dims moves counts counters masks axes d e h = record {
   walks = walks 1 10 3 4 3 9 moves counts counters masks axes e h moving_walk refl;
   request = cycles _ refl refl refl refl refl refl refl refl (λ t. refl);
+  bit = cycles (λ t. waves.net t 3 < 2) (lit< tt) (lit< tt) (lit< tt) (lit< tt) (lit< tt) (lit< tt) (lit< tt) (lit< tt) (λ t. lit< tt);
   last = subst₂ (λ ns xs. (t : ℕ) → is_on waves 3 t ≡ all_ended waves ns xs t) (sym h.counters_are) (sym h.axes_are) moving_walk.last_is;
   address = subst₂ (λ ds ns. (t : ℕ) → waves.net t 4 ≡ row_major ds (values_at waves ns t) % 2 ^ 32) (sym d) (sym h.counters_are) (cycles _ refl refl refl refl refl refl refl refl (λ t. refl));
   asks = cycles _ refl refl refl refl refl refl refl refl (λ t. refl);

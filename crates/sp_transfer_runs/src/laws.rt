@@ -1,11 +1,15 @@
 //! Laws of loads and stores over all of their runs. Each function does nothing: what it ensures is the law.
 
+ghost use Rattle.std.specs.Prelude.{ℕ};
+ghost use Rattle.sp_core.specs.History.{History};
 ghost use Rattle.sp_core.specs.PlainCore.{PlainCore};
 ghost use Rattle.sp_plan.specs.PlainPlan.{PlainPlan};
 ghost use Rattle.sp_machine.specs.Transfers.{Delays};
 ghost use Rattle.sp_transfer_runs.specs.Channels.{ChannelsAnswer};
 ghost use Rattle.sp_transfer_runs.specs.Choice.{DelaysAreChosen};
+ghost use Rattle.sp_transfer_runs.specs.Delays.{DelaysAreThere};
 ghost use Rattle.sp_transfer_runs.specs.Loads.{LoadsDo, LoadsWork};
+ghost use Rattle.sp_transfer_runs.specs.Moving.{LoadsMove};
 ghost use Rattle.sp_transfer_runs.specs.Stores.{StoresDo, StoresWork};
 ghost use Rattle.sp_transfer_runs.specs.Taken.{SlicesAreTaken};
 ghost use Rattle.sp_transfer_runs.specs.Trees.{TransfersMoveAll};
@@ -69,6 +73,23 @@ pub fn channels_answer()
 pub fn delays_are_chosen()
     ensures { DelaysAreChosen }
 {}
+
+/// Which delays the transfers of a run take hangs on its history and on what their channels took, and on nothing else: with the delays that
+/// are chosen so, each asking of each transfer of a core waits for what its channel took when it had asked so often.
+pub fn delays_are_there()
+    ensures { (core : PlainCore) (h : History) (took : ℕ → ℕ → ℕ) → DelaysAreThere core h took }
+{
+    delays_are_chosen();
+}
+
+/// A load whose channel has its equations goes as the timeline says up to a cycle, where it is started in the cycles of its runs and the
+/// nets of its spans stand there, up to that cycle, and what it reads is found in its DRAM.
+pub fn loads_move()
+    ensures { (core : PlainCore) (plan : PlainPlan) (delays : Delays) → LoadsMove core plan delays }
+{
+    loads_work();
+    channels_answer();
+}
 
 /// The equations of a load and of a store hold of a transfer of two words that is worked by hand, and the words of its slice, their
 /// cycles and its end are those.

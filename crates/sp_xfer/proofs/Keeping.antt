@@ -1,11 +1,11 @@
 -- What is known of a slice that moves as the draft grows.
-use Rattle.std.proofs.Common.{◌≡◌, ◌≢◌, ℕ, zero, suc, Bool, false, List, [], ◌∷◌, length, Contains, All, refl, sym, ◌∙◌, arith, true, ap, ap₂}
+use Rattle.std.proofs.Common.{◌≡◌, ◌≢◌, ℕ, ◌<◌, ◌==◌, if◌then◌else◌, zero, suc, Bool, false, List, [], ◌∷◌, length, Contains, All, refl, sym, ◌∙◌, arith, true, ap, ap₂, subst, inl, option_map}
 use Rattle.std.proofs.lemmas.List.Elements.{All-nil, All-cons, All-head, All-tail}
 use Rattle.std.proofs.lemmas.Option.{slice_get_within}
-use Rattle.sp_netlist.specs.Draft.{Draft}
+use Rattle.sp_netlist.specs.Draft.{Draft, IsKept}
 use Rattle.sp_netlist.specs.Signals.{Signals}
-use Rattle.sp_gates.specs.Grows.{Grows, Fills}
-use Rattle.sp_gates.specs.Nets.{HasNet, IsOpen}
+use Rattle.sp_gates.specs.Grows.{Grows, Fills, Opens}
+use Rattle.sp_gates.specs.Nets.{HasNet, IsOpen, Awaits}
 use Rattle.sp_gates.specs.Tested.{is_on}
 use Rattle.sp_gates.proofs.Growing.{HasNet-stays}
 use Rattle.sp_taps.specs.Wires.{IsWire}
@@ -17,10 +17,11 @@ use Rattle.sp_slices.specs.declared.part.Walk.{Walk}
 use Rattle.sp_slices.specs.Fits.{IsAxis, IsWalk}
 use Rattle.sp_slices.specs.Slices.{WalksSlice, offsets_of}
 use Rattle.sp_slices.proofs.Standing.{moves_stay, counters_stay, axes_stay, as_many, one_move_each}
+use Rattle.sp_xfer.specs.declared.part.Load.{Load}
 use Rattle.sp_xfer.specs.declared.part.Moving.{Moving}
 use Rattle.sp_xfer.specs.declared.part.Wires.{Wires}
-use Rattle.sp_xfer.specs.Fits.{WiresFit, SliceFits, IsMoving}
-use Rattle.sp_xfer.specs.Moving.{was, words_at}
+use Rattle.sp_xfer.specs.Fits.{WiresFit, SliceFits, LoadFits, IsMoving}
+use Rattle.sp_xfer.specs.Moving.{was, words_at, wires_of}
 use Rattle.sp_xfer.specs.Ahead.{are_over, look_offsets, more_index}
 
 -- a register that is driven so
@@ -125,3 +126,51 @@ wire_past a b x y z net width f px py pz h = wire_stays a b net width f.grows (f
     not_there (suc zero, l, e) = py e
     not_there (suc (suc zero), l, e) = pz e
     not_there (suc (suc (suc k)), l, e) = absurd (omega (arith, l))
+
+-- the word of a flag
+pub flag_small : (b : Bool) → (if b then 1 else 0) < 2
+flag_small true = omega arith
+flag_small false = omega arith
+
+pub flag_tells : (b : Bool) → ((if b then 1 else 0) == 1) ≡ b
+flag_tells true = refl
+flag_tells false = refl
+
+-- a kept net that is to be driven stands
+pub awaited_net : (d : Draft) (net width : ℕ) → Awaits d net width → HasNet d net width
+awaited_net d net width h = record { wide = h.wide; ready = inl h.kept }
+
+-- it isn't one that is computed
+kept_apart : (d : Draft) (done net width : ℕ) → IsKept d done → IsWire d net width → done ≢ net
+kept_apart d done net width k h e = let a = subst (IsKept d) e k in let b = ap (option_map (λ (p : ℕ × Bool). p.1)) h.promised in absurd (let f = sym b ∙ a in cc)
+
+pub wires_beside : (a b : Draft) (done : ℕ) (w : Wires) → Fills a b (done ∷ []) → IsKept a done → WiresFit a w → WiresFit b w
+wires_beside a b done w f k h = record {
+  start = HasNet-stays a b w.start 1 f.grows h.start;
+  ready = HasNet-stays a b w.ready 1 f.grows h.ready;
+  request = wire_other a b done w.request 1 f (kept_apart a done w.request 1 k h.request) h.request;
+  last = wire_other a b done w.last 1 f (kept_apart a done w.last 1 k h.last) h.last;
+  address = wire_other a b done w.address 32 f (kept_apart a done w.address 32 k h.address) h.address;
+  request_last = h.request_last;
+  request_address = h.request_address;
+  last_address = h.last_address;
+}
+
+-- where a net is promised, all others stay as they are
+wire_on : (a b : Draft) (own net width : ℕ) → Opens a b own → IsWire a net width → IsWire b net width
+wire_on a b own net width o h = wire_stays a b net width o.grows (o.still_open net (wire_open a net width h)) h
+
+pub wires_on : (a b : Draft) (own : ℕ) (w : Wires) → Opens a b own → WiresFit a w → WiresFit b w
+wires_on a b own w o h = record {
+  start = HasNet-stays a b w.start 1 o.grows h.start;
+  ready = HasNet-stays a b w.ready 1 o.grows h.ready;
+  request = wire_on a b own w.request 1 o h.request;
+  last = wire_on a b own w.last 1 o h.last;
+  address = wire_on a b own w.address 32 o h.address;
+  request_last = h.request_last;
+  request_address = h.request_address;
+  last_address = h.last_address;
+}
+
+pub load_fits_on : (a b : Draft) (own : ℕ) (part : Load) → Opens a b own → LoadFits a part → LoadFits b part
+load_fits_on a b own part o h = record { wires = wires_on a b own (wires_of part) o h.wires; slice = slice_stays a b part.dims.items part.moves.items o.grows h.slice }

@@ -1,5 +1,5 @@
 -- How a slice moves: equations of nets over time, whatever the words of others.
-use Rattle.std.specs.Prelude.{◌≡◌, ℕ, zero, suc, ◌%◌, ◌^◌, Bool, false, ◌&&◌, ◌||◌, not, List, map}
+use Rattle.std.specs.Prelude.{◌≡◌, ℕ, zero, suc, ◌<◌, ◌%◌, ◌^◌, Bool, false, ◌&&◌, ◌||◌, not, List, map}
 use Rattle.sp_netlist.specs.Signals.{Signals}
 use Rattle.sp_gates.specs.Tested.{is_on}
 use Rattle.sp_core.specs.Elements.{row_major}
@@ -28,6 +28,7 @@ ends_at s ready walk t = moves_at s ready walk t && all_ended s walk.counted.cou
 pub record MovesSlice (s : Signals) (wires : Wires) (dims : List ℕ) (moves : List Move) (m : Moving) : Type 0 where
   pub walks : WalksSlice s wires.start wires.ready moves m.walk
   pub request : (t : ℕ) → is_on s wires.request t ≡ (was (is_on s wires.start) t && is_on s m.walk.counted.more t)
+  pub bit : (t : ℕ) → s.net t wires.last < 2
   pub last : (t : ℕ) → is_on s wires.last t ≡ all_ended s m.walk.counted.counters.items m.walk.axes.items t
   pub address : (t : ℕ) → s.net t wires.address ≡ row_major dims (values_at s m.walk.counted.counters.items t) % 2 ^ 32
   pub asks : (t : ℕ) → is_on s m.asks t ≡ (was (is_on s wires.start) t && is_on s m.walk.counted.more t)

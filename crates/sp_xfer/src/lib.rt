@@ -8,6 +8,6 @@ mod moving;
 mod part;
 mod stores;
 
-pub use loads::emit_load;
+pub use loads::{emit_load, emit_load_to};
 pub use part::{Load, Loaded, Moving, Store, Stored, Wires};
 pub use stores::emit_store;

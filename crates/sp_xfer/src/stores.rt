@@ -10,7 +10,7 @@ ghost use Rattle.sp_xfer.specs.Ahead.{RunsStore};
 ghost use Rattle.sp_xfer.specs.Fits.{IsStored, StoreFits};
 
 use crate::ahead::look_all;
-use crate::moving::{after, move_slice};
+use crate::moving::{after, move_alone};
 use crate::part::{Store, Stored, Wires};
 use sp_gates::{on_both, on_either, on_not, one};
 use sp_netlist::{Builder, NetId, NoMemory};
@@ -51,7 +51,7 @@ pub fn emit_store(alloc: Global, builder: &mut Builder, part: &Store) -> Result<
         last: part.port.last,
         address: part.port.address,
     };
-    let moving = move_slice(alloc, builder, &wires, &part.dims, &part.moves, always)?;
+    let moving = move_alone(alloc, builder, &wires, &part.dims, &part.moves, always)?;
     let begun = after(builder, part.start, always)?;
     let step = on_either(builder, begun, part.port.ready)?;
     let look = walk_through(alloc, builder, part.start, step, &part.moves)?;

@@ -11,11 +11,11 @@ use Rattle.sp_xfer.specs.Ahead.{store_wires_of, look_offsets}
 use Rattle.sp_xfer.proofs.Keeping.{wires_kept, wire_kept, wire_past, slice_stays, moving_stays, walk_stays, nets_stay}
 use Rattle.sp_xfer.proofs.stores.emit_store.Goals as goal
 
-pub move_slice-requires-clause-wires : goal.move_slice-requires-clause-wires
-move_slice-requires-clause-wires c = wires_kept _ _ _ c.in_ok-always.ensures.fills c.requires.wires
+pub move_alone-requires-clause-wires : goal.move_alone-requires-clause-wires
+move_alone-requires-clause-wires c = wires_kept _ _ _ c.in_ok-always.ensures.fills c.requires.wires
 
-pub move_slice-requires-clause-slice : goal.move_slice-requires-clause-slice
-move_slice-requires-clause-slice c = subst (λ ds. SliceFits c.one.new.builder ds c.deref-2.result.now) (sym c.deref.ensures.value) (subst (λ ms. SliceFits c.one.new.builder c.args.part.now.dims.items ms) (sym c.deref-2.ensures.value)
+pub move_alone-requires-clause-slice : goal.move_alone-requires-clause-slice
+move_alone-requires-clause-slice c = subst (λ ds. SliceFits c.one.new.builder ds c.deref-2.result.now) (sym c.deref.ensures.value) (subst (λ ms. SliceFits c.one.new.builder c.args.part.now.dims.items ms) (sym c.deref-2.ensures.value)
     (slice_stays _ _ _ _ c.in_ok-always.ensures.fills.grows c.requires.slice))
 
 pub after-requires-clause-net : goal.after-requires-clause-net
