@@ -11,9 +11,8 @@ use Rattle.sp_netlist.specs.Cells.{PlainCell, dram_cell, store_unit}
 use Rattle.sp_netlist.specs.Cycle.{out_words, dram_lists}
 use Rattle.sp_netlist.specs.Parts.{NoCell}
 use Rattle.sp_netlist.specs.Ports.{dram_port}
-use Rattle.sp_netlist.specs.Rules.{is_unit}
 use Rattle.sp_netlist.specs.Signals.{Setting, Signals, IsRun, dram_after, given_words}
-use Rattle.sp_frames.specs.Framed.{dram_cells}
+use Rattle.sp_frames.specs.Framed.{dram_cells, is_store}
 use Rattle.sp_frames.specs.Laws.{given_lists}
 
 -- they pass no test that none of them passes, and give nothing that none of them gives
@@ -33,13 +32,13 @@ pub drams_words : (first : ℕ) (ports : List PlainPort) (words : ℕ → ℕ) �
 drams_words first [] words = refl
 drams_words first (port ∷ ports) words = drams_words (suc first) ports words
 
--- where no unit stands, a DRAM has after a cycle what it had
-untouched : (cells : List PlainCell) → NoCell is_unit cells → (words : ℕ → ℕ) (dram addr old : ℕ) → dram_after cells words dram addr old ≡ old
+-- where no unit stores, a DRAM has after a cycle what it had
+untouched : (cells : List PlainCell) → NoCell is_store cells → (words : ℕ → ℕ) (dram addr old : ℕ) → dram_after cells words dram addr old ≡ old
 untouched [] none words dram addr old = refl
 untouched (store_unit channel into ready request last at word ∷ cells) none words dram addr old = absurd (cc)
-untouched (x ∷ cells) none words dram addr old = untouched cells (or_parts (is_unit x) (list_any is_unit cells) none).1 words dram addr old
+untouched (x ∷ cells) none words dram addr old = untouched cells (or_parts (is_store x) (list_any is_store cells) none).1 words dram addr old
 
-module _ (g : Setting) (s : Signals) (run : IsRun g s) (none : NoCell is_unit g.cells) where
+module _ (g : Setting) (s : Signals) (run : IsRun g s) (none : NoCell is_store g.cells) where
   word_stays : (before : List PlainCell) (dram : ℕ) (name : List ℕ) (ty : Ty) (dims : List ℕ) (after : List PlainCell) → g.cells ≡ before ++ dram_cell dram name ty dims ∷ after
       → (t addr : ℕ) → addr < word_count dims → s.dram t dram addr ≡ slice_index (given_words g dram) addr
   word_stays before dram name ty dims after e zero addr l = (run.cells before (dram_cell dram name ty dims) after e).0 addr

@@ -11,7 +11,7 @@ use Rattle.sp_words.specs.Ports.{PlainPort}
 use Rattle.sp_netlist.specs.declared.cell.Port.{Port}
 use Rattle.sp_netlist.specs.declared.cell.Port.TheVariants.{Read, Write}
 use Rattle.sp_netlist.specs.Cells.{PlainCell, in_cell, out_cell, done_cell, const_cell, op_cell, not_cell, shift_cell, cast_cell, mux_cell, reg_cell, bank_cell, read_tap, write_tap, dram_cell, load_unit, store_unit}
-use Rattle.sp_netlist.specs.Rules.{IsNetlist, IsRight, is_in, is_bank, is_done, is_dram, is_unit, out_name}
+use Rattle.sp_netlist.specs.Rules.{IsNetlist, IsRight, is_in, is_bank, is_done, is_dram, out_name}
 use Rattle.sp_netlist.specs.Ports.{in_port, out_port, dram_port, ports_of}
 use Rattle.sp_netlist.specs.Parts.{NoCell, names_bank}
 use Rattle.sp_netlist.specs.Signals.{Setting, Signals, IsRun}
@@ -22,7 +22,7 @@ use Rattle.sp_gates.specs.Grows.{is_gate, is_no_gate, AddsGates}
 use Rattle.sp_gates.specs.Runs.{RunsOn}
 use Rattle.sp_gates.proofs.Running.{none_joined}
 use Rattle.sp_taps.specs.Stores.{is_bank_part, is_no_bank_part, AddsBanks}
-use Rattle.sp_frames.specs.Framed.{in_cells, dram_cells, front_cells, out_cells, is_outside, AddsInside, IsFramed}
+use Rattle.sp_frames.specs.Framed.{in_cells, dram_cells, front_cells, out_cells, is_load, is_no_load, is_store, is_outside, AddsLoads, AddsInside, IsFramed}
 use Rattle.sp_frames.specs.Ports.{HaveNoDims}
 use Rattle.sp_frames.specs.Laws.{given_lists, FrameLaws, FramesRight, TapsShareNone, FramesEnd}
 use Rattle.sp_frames.proofs.DramCells.{drams_fail, drams_give, drams_declare, drams_words, lists_stay}
@@ -33,7 +33,7 @@ record IsPlain (x : PlainCell) : Type 0 where
   pub no_out : out_port x ≡ None
   pub no_dram : dram_port x ≡ None
   pub no_name : out_name x ≡ None
-  pub no_unit : is_unit x ≡ false
+  pub no_store : is_store x ≡ false
   pub no_end : is_done x ≡ false
   pub not_over : (words : ℕ → ℕ) → cell_is_done words x ≡ false
   pub no_word : (words : ℕ → ℕ) (rest : List PlainCell) → out_words (x ∷ rest) words ≡ out_words rest words
@@ -45,21 +45,21 @@ tap_none x bank words read write Read = read
 tap_none x bank words read write Write = write
 
 inside_plain : (x : PlainCell) → is_outside x ≡ false → IsPlain x
-inside_plain (const_cell net width word) e = record { no_in = refl; no_out = refl; no_dram = refl; no_name = refl; no_unit = refl; no_end = refl; not_over = λ words. refl; no_word = λ words rest. refl; no_list = λ drams rest. refl }
-inside_plain (op_cell net ty op a b) e = record { no_in = refl; no_out = refl; no_dram = refl; no_name = refl; no_unit = refl; no_end = refl; not_over = λ words. refl; no_word = λ words rest. refl; no_list = λ drams rest. refl }
-inside_plain (not_cell net ty a) e = record { no_in = refl; no_out = refl; no_dram = refl; no_name = refl; no_unit = refl; no_end = refl; not_over = λ words. refl; no_word = λ words rest. refl; no_list = λ drams rest. refl }
-inside_plain (shift_cell net ty side a places) e = record { no_in = refl; no_out = refl; no_dram = refl; no_name = refl; no_unit = refl; no_end = refl; not_over = λ words. refl; no_word = λ words rest. refl; no_list = λ drams rest. refl }
-inside_plain (cast_cell net from to a) e = record { no_in = refl; no_out = refl; no_dram = refl; no_name = refl; no_unit = refl; no_end = refl; not_over = λ words. refl; no_word = λ words rest. refl; no_list = λ drams rest. refl }
-inside_plain (mux_cell net width choice a b) e = record { no_in = refl; no_out = refl; no_dram = refl; no_name = refl; no_unit = refl; no_end = refl; not_over = λ words. refl; no_word = λ words rest. refl; no_list = λ drams rest. refl }
-inside_plain (reg_cell net width first next enable) e = record { no_in = refl; no_out = refl; no_dram = refl; no_name = refl; no_unit = refl; no_end = refl; not_over = λ words. refl; no_word = λ words rest. refl; no_list = λ drams rest. refl }
-inside_plain (bank_cell bank width len) e = record { no_in = refl; no_out = refl; no_dram = refl; no_name = refl; no_unit = refl; no_end = refl; not_over = λ words. refl; no_word = λ words rest. refl; no_list = λ drams rest. refl }
-inside_plain (read_tap net bank enable addr) e = record { no_in = refl; no_out = refl; no_dram = refl; no_name = refl; no_unit = refl; no_end = refl; not_over = λ words. refl; no_word = λ words rest. refl; no_list = λ drams rest. refl }
-inside_plain (write_tap bank enable addr word) e = record { no_in = refl; no_out = refl; no_dram = refl; no_name = refl; no_unit = refl; no_end = refl; not_over = λ words. refl; no_word = λ words rest. refl; no_list = λ drams rest. refl }
+inside_plain (const_cell net width word) e = record { no_in = refl; no_out = refl; no_dram = refl; no_name = refl; no_store = refl; no_end = refl; not_over = λ words. refl; no_word = λ words rest. refl; no_list = λ drams rest. refl }
+inside_plain (op_cell net ty op a b) e = record { no_in = refl; no_out = refl; no_dram = refl; no_name = refl; no_store = refl; no_end = refl; not_over = λ words. refl; no_word = λ words rest. refl; no_list = λ drams rest. refl }
+inside_plain (not_cell net ty a) e = record { no_in = refl; no_out = refl; no_dram = refl; no_name = refl; no_store = refl; no_end = refl; not_over = λ words. refl; no_word = λ words rest. refl; no_list = λ drams rest. refl }
+inside_plain (shift_cell net ty side a places) e = record { no_in = refl; no_out = refl; no_dram = refl; no_name = refl; no_store = refl; no_end = refl; not_over = λ words. refl; no_word = λ words rest. refl; no_list = λ drams rest. refl }
+inside_plain (cast_cell net from to a) e = record { no_in = refl; no_out = refl; no_dram = refl; no_name = refl; no_store = refl; no_end = refl; not_over = λ words. refl; no_word = λ words rest. refl; no_list = λ drams rest. refl }
+inside_plain (mux_cell net width choice a b) e = record { no_in = refl; no_out = refl; no_dram = refl; no_name = refl; no_store = refl; no_end = refl; not_over = λ words. refl; no_word = λ words rest. refl; no_list = λ drams rest. refl }
+inside_plain (reg_cell net width first next enable) e = record { no_in = refl; no_out = refl; no_dram = refl; no_name = refl; no_store = refl; no_end = refl; not_over = λ words. refl; no_word = λ words rest. refl; no_list = λ drams rest. refl }
+inside_plain (bank_cell bank width len) e = record { no_in = refl; no_out = refl; no_dram = refl; no_name = refl; no_store = refl; no_end = refl; not_over = λ words. refl; no_word = λ words rest. refl; no_list = λ drams rest. refl }
+inside_plain (read_tap net bank enable addr) e = record { no_in = refl; no_out = refl; no_dram = refl; no_name = refl; no_store = refl; no_end = refl; not_over = λ words. refl; no_word = λ words rest. refl; no_list = λ drams rest. refl }
+inside_plain (write_tap bank enable addr word) e = record { no_in = refl; no_out = refl; no_dram = refl; no_name = refl; no_store = refl; no_end = refl; not_over = λ words. refl; no_word = λ words rest. refl; no_list = λ drams rest. refl }
 inside_plain (in_cell name net ty) e = absurd (cc)
 inside_plain (out_cell name net ty) e = absurd (cc)
 inside_plain (done_cell net) e = absurd (cc)
 inside_plain (dram_cell dram name ty dims) e = absurd (cc)
-inside_plain (load_unit channel dram ready net request last addr) e = absurd (cc)
+inside_plain (load_unit channel dram ready net request last addr) e = record { no_in = refl; no_out = refl; no_dram = refl; no_name = refl; no_store = refl; no_end = refl; not_over = λ words. refl; no_word = λ words rest. refl; no_list = λ drams rest. refl }
 inside_plain (store_unit channel dram ready request last addr word) e = absurd (cc)
 
 -- no gate is a tap
@@ -81,14 +81,20 @@ gate_taps words port of (dram_cell dram name ty dims) e = absurd (cc)
 gate_taps words port of (load_unit channel dram ready net request last addr) e = absurd (cc)
 gate_taps words port of (store_unit channel dram ready request last addr word) e = absurd (cc)
 
--- gates, and banks with their taps, stand inside
-either_gate : (a b : Bool) → not a ≡ false → not (a || b) ≡ false
-either_gate true b e = refl
-either_gate false b e = absurd (cc)
+-- gates, banks with their taps, and units that load stand inside
+either_gate : (a b c : Bool) → not a ≡ false → not ((a || b) || c) ≡ false
+either_gate true b c e = refl
+either_gate false b c e = absurd (cc)
 
-either_bank : (a b : Bool) → not b ≡ false → not (a || b) ≡ false
-either_bank true b e = refl
-either_bank false b e = e
+either_bank : (a b c : Bool) → not b ≡ false → not ((a || b) || c) ≡ false
+either_bank true b c e = refl
+either_bank false true c e = refl
+either_bank false false c e = absurd (cc)
+
+either_load : (a b c : Bool) → not c ≡ false → not ((a || b) || c) ≡ false
+either_load true b c e = refl
+either_load false true c e = refl
+either_load false false c e = e
 
 no_other : (p q : PlainCell → Bool) → ((x : PlainCell) → p x ≡ false → q x ≡ false) → (cells : List PlainCell) → NoCell p cells → NoCell q cells
 no_other p q sub [] h = refl
@@ -97,10 +103,13 @@ no_other p q sub (x ∷ cells) h =
     rw (sub x both.0, no_other p q sub cells both.1) refl
 
 pub gates_inside : (old new : Draft) → AddsGates old new → AddsInside old new
-gates_inside old new a = record { added = a.added; stands = a.stands; all = no_other is_no_gate is_outside (λ x e. either_gate (is_gate x) (is_bank_part x) e) a.added a.all }
+gates_inside old new a = record { added = a.added; stands = a.stands; all = no_other is_no_gate is_outside (λ x e. either_gate (is_gate x) (is_bank_part x) (is_load x) e) a.added a.all }
 
 pub banks_inside : (old new : Draft) → AddsBanks old new → AddsInside old new
-banks_inside old new a = record { added = a.added; stands = a.stands; all = no_other is_no_bank_part is_outside (λ x e. either_bank (is_gate x) (is_bank_part x) e) a.added a.all }
+banks_inside old new a = record { added = a.added; stands = a.stands; all = no_other is_no_bank_part is_outside (λ x e. either_bank (is_gate x) (is_bank_part x) (is_load x) e) a.added a.all }
+
+pub loads_inside : (old new : Draft) → AddsLoads old new → AddsInside old new
+loads_inside old new a = record { added = a.added; stands = a.stands; all = no_other is_no_load is_outside (λ x e. either_load (is_gate x) (is_bank_part x) (is_load x) e) a.added a.all }
 
 pub inside_join : (old mid new : Draft) → AddsInside old mid → AddsInside mid new → AddsInside old new
 inside_join old mid new a b = record {
@@ -257,8 +266,8 @@ module _ (cells : List PlainCell) (args : List PlainPort) (arg_nets : List ℕ) 
       only_end (cell_is_done words) (λ name net ty. refl) (λ dram name ty dims. refl) (inside_fail _ (λ x p. p.not_over words) inside f.all_inside) (λ name net ty. refl)
       ∙ or-none (words done == 1)
 
-  no_unit : NoCell is_unit cells
-  no_unit = only_end is_unit (λ name net ty. refl) (λ dram name ty dims. refl) (inside_fail is_unit (λ x p. p.no_unit) inside f.all_inside) (λ name net ty. refl)
+  no_store : NoCell is_store cells
+  no_store = only_end is_store (λ name net ty. refl) (λ dram name ty dims. refl) (inside_fail is_store (λ x p. p.no_store) inside f.all_inside) (λ name net ty. refl)
 
   front_words : (words : ℕ → ℕ) → out_words (front_cells args arg_nets drams) words ≡ []
   front_words words = out_words-append (in_cells args arg_nets) (dram_cells 0 drams) words ∙ ap₂ (λ (xs ys : List ℕ). xs ++ ys) (ins_words args arg_nets words) (drams_words 0 drams words)
@@ -289,7 +298,7 @@ module _ (cells : List PlainCell) (args : List PlainPort) (arg_nets : List ℕ) 
   drams_stand : (g : Setting) (s : Signals) → g.cells ≡ cells → IsRun g s → (t : ℕ) → dram_lists cells (s.dram t) ≡ given_lists g 0 drams
   drams_stand g s same run t =
       lists_are (s.dram t)
-      ∙ lists_stay g s run (ap (list_any is_unit) same ∙ no_unit) (in_cells args arg_nets) 0 drams (inside ++ (out_cells outs out_nets ++ done_cell done ∷ [])) (behind g same) t
+      ∙ lists_stay g s run (ap (list_any is_store) same ∙ no_store) (in_cells args arg_nets) 0 drams (inside ++ (out_cells outs out_nets ++ done_cell done ∷ [])) (behind g same) t
 
   declared : {X : Type 0} (k : PlainCell → Option X) (a b : List X) → filter_map k (front_cells args arg_nets drams) ≡ a → filter_map k inside ≡ [] → filter_map k (out_cells outs out_nets) ≡ b → filter_map k (done_cell done ∷ []) ≡ []
       → filter_map k cells ≡ a ++ b

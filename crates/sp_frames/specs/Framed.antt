@@ -1,7 +1,8 @@
--- The cells of a netlist without channels: those of its arguments and DRAMs, then gates and banks, then those of its outputs and the end.
-use Rattle.std.specs.Prelude.{◌≡◌, ℕ, suc, Bool, ◌||◌, not, List, [], ◌∷◌, ◌++◌, length}
+-- The cells of a netlist that stores to no DRAM: those of its arguments and DRAMs, then units that load, gates and banks, then those of its outputs
+-- and the end.
+use Rattle.std.specs.Prelude.{◌≡◌, ℕ, suc, Bool, true, false, ◌||◌, not, List, [], ◌∷◌, ◌++◌, length}
 use Rattle.sp_words.specs.Ports.{PlainPort}
-use Rattle.sp_netlist.specs.Cells.{PlainCell, in_cell, out_cell, done_cell, dram_cell}
+use Rattle.sp_netlist.specs.Cells.{PlainCell, in_cell, out_cell, done_cell, dram_cell, load_unit, store_unit}
 use Rattle.sp_netlist.specs.Draft.{Draft}
 use Rattle.sp_netlist.specs.Parts.{NoCell}
 use Rattle.sp_gates.specs.Grows.{is_gate}
@@ -25,11 +26,29 @@ dram_cells first (port ∷ ports) = dram_cell first port.name port.ty port.dims 
 abbrev pub front_cells : (args : List PlainPort) → (nets : List ℕ) → (drams : List PlainPort) → List PlainCell
 front_cells args nets drams = in_cells args nets ++ dram_cells 0 drams
 
--- what doesn't stand inside of a frame: a port, a memory outside, a unit of a channel, the end
-abbrev pub is_outside : PlainCell → Bool
-is_outside cell = not (is_gate cell || is_bank_part cell)
+-- a unit that loads, and one that stores
+abbrev pub is_load : PlainCell → Bool
+is_load (load_unit channel dram ready net request last addr) = true
+is_load cell = false
 
--- cells were added at the end, all of which are gates, banks and taps
+abbrev pub is_store : PlainCell → Bool
+is_store (store_unit channel dram ready request last addr word) = true
+is_store cell = false
+
+-- what doesn't stand inside of a frame: a port, a memory outside, a unit that stores, the end
+abbrev pub is_outside : PlainCell → Bool
+is_outside cell = not ((is_gate cell || is_bank_part cell) || is_load cell)
+
+abbrev pub is_no_load : PlainCell → Bool
+is_no_load cell = not (is_load cell)
+
+-- cells were added at the end, all of which are units that load
+pub record AddsLoads (old new : Draft) : Type 0 where
+  pub added : List PlainCell
+  pub stands : new.cells ≡ old.cells ++ added
+  pub all : NoCell is_no_load added
+
+-- cells were added at the end, all of which are gates, banks and taps, and units that load
 pub record AddsInside (old new : Draft) : Type 0 where
   pub added : List PlainCell
   pub stands : new.cells ≡ old.cells ++ added

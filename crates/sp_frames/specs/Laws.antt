@@ -18,7 +18,7 @@ use Rattle.sp_gates.specs.Runs.{RunsOn}
 use Rattle.sp_taps.specs.Stores.{AddsBanks}
 use Rattle.sp_core.specs.MemoryRules.{names_of, are_port_names, are_ports_of, is_dram_right}
 use Rattle.sp_core.specs.PlainCore.{PlainMem}
-use Rattle.sp_frames.specs.Framed.{in_cells, front_cells, out_cells, AddsInside, IsFramed}
+use Rattle.sp_frames.specs.Framed.{in_cells, front_cells, out_cells, AddsLoads, AddsInside, IsFramed}
 use Rattle.sp_frames.specs.Ports.{AreNamed, HaveNoDims, HaveSizes, HaveNets}
 
 -- the words that DRAMs are given, from a number on: of each as many as it has
@@ -40,9 +40,10 @@ pub record PortLaws : Type 0 where
   -- arguments alone are no DRAMs, and with DRAMs they are no banks
   pub no_drams : (begun : Draft) (ports : List PlainPort) (nets : List ℕ) → begun.cells ≡ in_cells ports nets → NoCell is_dram begun.cells
   pub no_banks : (begun : Draft) (ports : List PlainPort) (nets : List ℕ) (drams : List PlainPort) → begun.cells ≡ front_cells ports nets drams → (count_by is_bank begun.cells ≡ 0) × (filter is_bank begun.cells ≡ [])
-  -- gates stand inside, and so do banks with their taps, one behind the other
+  -- gates stand inside, and so do banks with their taps and units that load, one behind the other
   pub gates_inside : (old new : Draft) → AddsGates old new → AddsInside old new
   pub banks_inside : (old new : Draft) → AddsBanks old new → AddsInside old new
+  pub loads_inside : (old new : Draft) → AddsLoads old new → AddsInside old new
   pub inside_join : (old mid new : Draft) → AddsInside old mid → AddsInside mid new → AddsInside old new
   -- behind arguments, DRAMs and these there is no output and no end
   pub no_output : (begun d : Draft) (ports : List PlainPort) (nets : List ℕ) (drams : List PlainPort) → begun.cells ≡ front_cells ports nets drams → AddsInside begun d → filter_map out_name d.cells ≡ []

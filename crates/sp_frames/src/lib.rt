@@ -1,4 +1,4 @@
-//! The frame around the gates and the banks of a netlist without channels: the cells of its arguments and DRAMs before them, the
+//! The frame around the gates and the banks of a netlist that stores to no DRAM: the cells of its arguments and DRAMs before them, the
 //! cells of its outputs and its end behind them.
 #![tactic(auto)]
 

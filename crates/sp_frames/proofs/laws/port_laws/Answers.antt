@@ -1,4 +1,4 @@
-use Rattle.sp_frames.proofs.Framing.{no_banks, no_drams, gates_inside, banks_inside, inside_join, no_output, no_end, framed, runs_on, first_words}
+use Rattle.sp_frames.proofs.Framing.{no_banks, no_drams, gates_inside, banks_inside, loads_inside, inside_join, no_output, no_end, framed, runs_on, first_words}
 use Rattle.sp_frames.proofs.DramCells.{given_are}
 use Rattle.sp_frames.proofs.Naming.{are_named, no_dims, sizes, nets_stay, net_for_each, has_nets, each_net}
 use Rattle.sp_frames.proofs.laws.port_laws.Goals as goal
@@ -16,6 +16,7 @@ returns c = record {
   no_banks = no_banks;
   gates_inside = gates_inside;
   banks_inside = banks_inside;
+  loads_inside = loads_inside;
   inside_join = inside_join;
   no_output = no_output;
   no_end = no_end;
