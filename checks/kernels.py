@@ -162,7 +162,17 @@ def window(seed):
     return {'greatest': max(sums), 'last': sums[-1]}, turns
 
 
-KERNELS = [dot, matrix, transpose, histogram, prefix_sum, fir, convolution, pooling, power, gcd, biquad, sparse, sort, crc, sieve, window]
+def spread(seed):
+    words = [seed]
+    for _ in range(32 * 16):
+        words.append((words[-1] * 75 + 74) % 65537)
+    blocks = [words[1 + 16 * block:17 + 16 * block] for block in range(32)]
+    spreads = [max(block) - min(block) for block in blocks]
+    turns = 1 + 3 + 1 + loop(32, 3 + loop(16, 2) + loop(16, 3) + 1 + 3) + 2
+    return {'widest': max(spreads), 'number': spreads.index(max(spreads))}, turns
+
+
+KERNELS = [dot, matrix, transpose, histogram, prefix_sum, fir, convolution, pooling, power, gcd, biquad, sparse, sort, crc, sieve, window, spread]
 
 
 def text_of(name):
