@@ -1,10 +1,9 @@
 -- Which banks and DRAMs have a line among those so far.
-use Rattle.std.proofs.Common.{◌≡◌, ◌≢◌, ℕ, None, Bool, true, false, cond, List, [], ◌∷◌, ◌++◌, IsTrue, Contains, ◌⊎◌, inl, inr, Bor, length, take, get_or, ◌<◌, ◌+◌, lit<, arith, refl, sym, ◌∙◌, ap, subst}
+use Rattle.std.proofs.Common.{◌≡◌, ◌≢◌, ℕ, None, Bool, true, false, cond, List, [], ◌∷◌, ◌++◌, IsTrue, Contains, ◌⊎◌, inl, inr, get_or, lit<, arith, refl, sym, ◌∙◌, ap, subst}
 use Rattle.std.specs.Ordering.{nat_cmp}
 use Rattle.std.specs.BTreeMap.{is_at}
 use Rattle.std.specs.BTreeSet.{BTreeSet, UpdatesBy, contains}
 use Rattle.std.specs.Cmp.{Equal-is}
-use Rattle.std.proofs.lemmas.List.{take_more, map-append}
 use Rattle.std.proofs.lemmas.Map.Lookups.{exact_unsigned}
 use Rattle.std.proofs.lemmas.List.Elements.{Contains-append_left, Contains-append_right, Contains-append_cases}
 use Rattle.sp_words.specs.declared.types.Ty.{Ty}
@@ -15,8 +14,7 @@ use Rattle.sp_listing.specs.declared.kind.Kind.TheVariants as kind
 use Rattle.sp_listing.specs.declared.declared_lines.DeclaredLines.{DeclaredLines}
 use Rattle.sp_listing.specs.Text.{cell_text}
 use Rattle.sp_listing.specs.Reading.{IsFormed, HasBank, HasDram}
-use Rattle.sp_listing.specs.Readers.{kind_in, texts, ReadsLine}
-use Rattle.sp_listing.proofs.WordLemmas.{blank}
+use Rattle.sp_listing.specs.Readers.{kind_in, ReadsLine}
 use Rattle.sp_listing.specs.Standing.{AreDeclared}
 use Rattle.sp_listing.proofs.LineLemmas.{same_text}
 
@@ -163,10 +161,6 @@ declared_none cell x y lines d formed k =
     (λ q w l f e. other.0 (sym (ap kind_in (same_text (bank_cell q w l) (plain_cell cell) f formed e))))
     (λ q n t ds f e. other.1 (sym (ap kind_in (same_text (dram_cell q n t ds) (plain_cell cell) f formed e))))
     k
-
--- the lines so far, with the next
-pub texts_more : (lines : List (Bor (List ℕ))) (i : ℕ) → i < length lines → texts (take (i + 1) lines) ≡ texts (take i lines) ++ (get_or lines i blank).now ∷ []
-texts_more lines i within = ap texts (take_more lines i blank within) ∙ map-append (λ text. text.now) (take i lines) (get_or lines i blank ∷ [])
 
 pub declared_no_cell : (lines : List (List ℕ)) (line : List ℕ) (d : DeclaredLines) → ReadsLine line None → AreDeclared lines d → AreDeclared (lines ++ line ∷ []) d
 declared_no_cell lines line d none k =

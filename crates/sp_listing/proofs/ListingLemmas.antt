@@ -1,10 +1,10 @@
 -- The lines of a listing, and what lines that may stand say of their cells.
-use Rattle.std.proofs.Common.{◌≡◌, ℕ, ◌+◌, ◌<◌, ◌≤◌, Bool, true, cond, List, [], ◌∷◌, ◌++◌, length, map, flat_map, count_by, All, Contains, inl, inr, ◌==◌, refl, sym, ◌∙◌, ap, subst, arith, ◌^◌, Result, Ok, Err, MatchResult, Vec, Bor}
+use Rattle.std.proofs.Common.{◌≡◌, ℕ, ◌+◌, ◌<◌, ◌≤◌, Bool, true, cond, List, [], ◌∷◌, ◌++◌, length, map, flat_map, count_by, All, Contains, inl, inr, ◌==◌, refl, sym, ◌∙◌, ap, subst, arith, Result, Ok, Err, MatchResult, Vec}
 use Rattle.std.specs.List.{join_with_byte}
-use Rattle.std.proofs.lemmas.List.{append-nil, append_assoc, length-map}
+use Rattle.std.proofs.lemmas.List.{append-nil, append_assoc}
 use Rattle.std.proofs.lemmas.List.Elements.{All-nil, All-cons, All-head, All-tail, Contains-append_cases}
-use Rattle.std.proofs.lemmas.List.Splits.{slice_split_at, join_with_byte-slice_split, length-slice_split}
-use Rattle.std.proofs.lemmas.List.Sums.{sum_by-append, sum_by-cons, count_by-le-length}
+use Rattle.std.proofs.lemmas.List.Splits.{slice_split_at, join_with_byte-slice_split}
+use Rattle.std.proofs.lemmas.List.Sums.{sum_by-append, sum_by-cons}
 use Rattle.sp_netlist.specs.Cells.{PlainCell, plain_cells, in_cell, out_cell, done_cell, const_cell, op_cell, not_cell, shift_cell, cast_cell, mux_cell, reg_cell, bank_cell, read_tap, write_tap, dram_cell, load_unit, store_unit}
 use Rattle.sp_netlist.specs.Rules.{is_done, is_bank, is_dram, IsRight}
 use Rattle.sp_listing.specs.Text.{cell_text, cell_line, listing_text}
@@ -14,7 +14,6 @@ use Rattle.sp_listing.specs.declared.error.ListError.{ListError}
 use Rattle.sp_listing.specs.declared.error.ListError.TheVariants.{NoListing, Net, Memory}
 use Rattle.sp_listing.specs.declared.declared_lines.DeclaredLines.{DeclaredLines}
 use Rattle.sp_listing.specs.Refusal.{AreLinesOf, RefusesLines}
-use Rattle.sp_listing.specs.Readers.{texts}
 use Rattle.sp_listing.specs.Standing.{one_if, AreDeclared}
 use Rattle.sp_listing.specs.Lines.{ReadsBody, RefusesBody}
 use Rattle.sp_listing.proofs.LineLemmas.{same_text, text_lacks, lacks_tested}
@@ -137,36 +136,21 @@ listing_of_lines text cells k = record {
   same = text_of_lines text cells k.same;
 }
 
--- what is read of the lines after the heading is what is read of all lines
-pub lines_read : {Z : Type 0} (lines body : List (List ℕ)) (last : List ℕ) (declared : DeclaredLines) (r : Result (Vec Cell Z) ListError) → lines ≡ heading ∷ (body ++ last ∷ []) → AreDeclared lines declared
-    → MatchResult r (λ cells. ReadsBody declared body last (plain_cells cells.items)) (RefusesBody declared body last) → MatchResult r (λ cells. AreLinesOf lines (plain_cells cells.items)) (RefusesLines lines)
-lines_read lines body last declared (Ok cells) whole k (same, over, done, stand) = record {
-  same = whole ∙ ap (λ b. heading ∷ (b ++ last ∷ [])) same ∙ ap (λ l. heading ∷ (map cell_text (plain_cells cells.items) ++ l ∷ [])) over;
-  stand = stand lines k;
-  done = done;
-}
-lines_read lines body last declared (Err (NoListing number)) whole k (cells, rest, same, at, stops) =
-    let s = stops lines k in
-    subst (λ n. BreaksAt lines n) (sym at) (at_line cells rest (whole ∙ ap (λ ls. heading ∷ ls) same) s.0 s.1)
-lines_read lines body last declared (Err (Net fault)) whole k h = h
-lines_read lines body last declared (Err Memory) whole k h = tt
+-- what is read of the text after the heading is what is read of the whole
+pub text_read : {Z : Type 0} (text body first : List ℕ) (declared : DeclaredLines) (r : Result (Vec Cell Z) ListError) → pieces text ≡ first ∷ pieces body → first ≡ heading → AreDeclared (pieces text) declared
+    → MatchResult r (λ cells. ReadsBody declared (pieces body) (plain_cells cells.items)) (RefusesBody declared (pieces body)) → MatchResult r (λ cells. IsListing text (plain_cells cells.items)) (RefusesLines (pieces text))
+text_read text body first declared (Ok cells) cut headed k (same, done, stand) =
+    listing_of_lines text (plain_cells cells.items) (record {
+      same = cut ∙ ap (λ l. l ∷ pieces body) headed ∙ ap (λ ls. heading ∷ ls) same;
+      stand = stand (pieces text) k;
+      done = done;
+    })
+text_read text body first declared (Err (NoListing number)) cut headed k (cells, rest, same, at, stops) =
+    let s = stops (pieces text) k in
+    subst (λ n. BreaksAt (pieces text) n) (sym at) (at_line cells rest (cut ∙ ap (λ l. l ∷ pieces body) headed ∙ ap (λ ls. heading ∷ ls) same) s.0 s.1)
+text_read text body first declared (Err (Net fault)) cut headed k h = h
+text_read text body first declared (Err Memory) cut headed k h = tt
 
 -- a text that is only the heading breaks after it
 pub heading_alone : (lines : List (List ℕ)) → lines ≡ heading ∷ [] → BreaksAt lines 2
 heading_alone lines e = at_line [] [] e (stand_none lines [] refl) tt
-
--- the cells of the lines of a text are those of the text
-pub text_read : {Z : Type 0} (text : List ℕ) (lines : List (List ℕ)) (r : Result (Vec Cell Z) ListError) → lines ≡ pieces text → MatchResult r (λ cells. AreLinesOf lines (plain_cells cells.items)) (RefusesLines lines)
-    → MatchResult r (λ cells. IsListing text (plain_cells cells.items)) (RefusesLines (pieces text))
-text_read text lines (Ok cells) same h = listing_of_lines text (plain_cells cells.items) (subst (λ ls. AreLinesOf ls (plain_cells cells.items)) same h)
-text_read text lines (Err e) same h = subst (λ ls. RefusesLines ls e) same h
-
--- a text has few lines
-pub lines_few : (text : List ℕ) → length text ≤ 268435456 → length (pieces text) < 2 ^ 31
-lines_few text few = let n = length-slice_split (λ b. b == 10) text in let m = count_by-le-length (λ b. b == 10) text in omega arith
-
-pub lines_some : (text : List ℕ) → 1 ≤ length (pieces text)
-lines_some text = let n = length-slice_split (λ b. b == 10) text in omega arith
-
-pub lines_count : (text : List ℕ) (lines : List (Bor (List ℕ))) → texts lines ≡ pieces text → length lines ≡ length (pieces text)
-lines_count text lines e = sym (length-map lines (λ line. line.now)) ∙ ap length e

@@ -1,7 +1,7 @@
 -- The cells so far and the next one.
-use Rattle.std.proofs.Common.{◌≡◌, ◌≢◌, ℕ, ◌+◌, ◌<◌, ◌≤◌, Bool, true, false, cond, List, [], ◌∷◌, ◌++◌, length, take, drop, get_or, map, IsTrue, ◌↔◌, ◌⊎◌, inl, inr, Bor, count_by, suc, add-one, length-take, length-drop, ◌-◌, length-append, ◌==◌, take-append-drop, drop-cons, refl, sym, ◌∙◌, ap, subst, arith}
+use Rattle.std.proofs.Common.{◌≡◌, ◌≢◌, ℕ, ◌+◌, ◌<◌, ◌≤◌, Bool, true, false, cond, List, [], ◌∷◌, ◌++◌, length, map, IsTrue, ◌↔◌, ◌⊎◌, inl, inr, count_by, ◌^◌, length-append, ◌==◌, refl, sym, ◌∙◌, ap, subst, arith}
 use Rattle.std.proofs.lemmas.Bool.{false≢true}
-use Rattle.std.proofs.lemmas.List.{map-append, length-map, append-nil, append_assoc, take_all}
+use Rattle.std.proofs.lemmas.List.{map-append, length-map, append-nil, append_assoc}
 use Rattle.std.proofs.lemmas.List.Sums.{sum_by_push}
 use Rattle.sp_netlist.specs.declared.cell.Cell.{Cell}
 use Rattle.sp_netlist.specs.Cells.{PlainCell, plain_cell, plain_cells, in_cell, out_cell, done_cell, bank_cell, dram_cell, load_unit, store_unit}
@@ -9,14 +9,13 @@ use Rattle.sp_netlist.specs.Rules.{is_done, is_bank, is_dram, is_unit}
 use Rattle.sp_listing.specs.declared.counts.Counts.{Counts}
 use Rattle.sp_listing.specs.declared.reading.Reading.{Reading}
 use Rattle.sp_listing.specs.declared.declared_lines.DeclaredLines.{DeclaredLines}
+use Rattle.sp_listing.specs.declared.error.ListError.TheVariants.{NoListing}
 use Rattle.sp_listing.specs.Text.{cell_text}
-use Rattle.sp_listing.specs.Reading.{IsFormed, Follows, NamesLines, MayStand, AllStand, StopsAt}
+use Rattle.sp_listing.specs.Reading.{IsFormed, Follows, NamesLines, MayStand, AllStand, StopsAt, pieces}
 use Rattle.sp_listing.specs.Standing.{InOrder, IsNew, AreCounts, AreNames, AreDeclared, Counted, one_if}
-use Rattle.sp_listing.specs.Readers.{texts}
-use Rattle.sp_listing.proofs.WordLemmas.{blank, nothing}
-use Rattle.sp_listing.specs.Lines.{cells_of, IsSound, Gained, Takes, TakesAll, MayAllStand, EndsAt}
+use Rattle.sp_listing.specs.Lines.{cells_of, IsSound, Gained, Takes, TakesAll, Stops, MayAllStand, EndsAt, RefusesBody}
 use Rattle.sp_listing.proofs.LineLemmas.{same_text}
-use Rattle.sp_listing.proofs.DeclaredLemmas.{texts_more}
+use Rattle.sp_listing.proofs.FirstLine.{pieces_few, pieces_some}
 
 -- what a cell obeys after others is the part on numbers and the part on names
 pub both_parts : (before : List PlainCell) (cell : PlainCell) → InOrder before cell → IsNew before cell → Follows before cell
@@ -115,35 +114,34 @@ stand_push lines cells cell all stands = record {
 pub stand_none : (lines : List (List ℕ)) (cells : List PlainCell) → cells ≡ [] → AllStand lines cells
 stand_none lines cells e = record { each = λ before c after f. absurd (long before c after (sym e ∙ f)) }
 
--- how many cells were read of how many lines
-pub read_count : (reading : Reading) (body : List (Bor (List ℕ))) (i : ℕ) → i ≤ length body → texts (take i body) ≡ map cell_text (cells_of reading) → length reading.cells.items ≡ i
-read_count reading body i within same =
-    let a : length (texts (take i body)) ≡ i = length-map (take i body) (λ text. text.now) ∙ omega (arith, length-take i body) in
-    let b : length (map cell_text (cells_of reading)) ≡ length reading.cells.items = length-map (cells_of reading) cell_text ∙ length-map reading.cells.items plain_cell in
-    sym b ∙ sym (ap length same) ∙ a
+-- few cells were read of a text
+pub read_few : (text : List ℕ) (more : List (List ℕ)) (reading : Reading) → length text < 2 ^ 30 → pieces text ≡ map cell_text (cells_of reading) ++ more → length reading.cells.items ≤ 2 ^ 30
+read_few text more reading few same =
+    let a : length (pieces text) ≤ 2 ^ 30 = pieces_few text few in
+    let b : length (pieces text) ≡ length (map cell_text (cells_of reading)) + length more = ap length same ∙ length-append (map cell_text (cells_of reading)) more in
+    let c : length (map cell_text (cells_of reading)) ≡ length reading.cells.items = length-map (cells_of reading) cell_text ∙ length-map reading.cells.items plain_cell in
+    omega (arith, a, b, c)
 
--- lines, cut at one of them
-pub texts_cut : (body : List (Bor (List ℕ))) (i : ℕ) → i < length body → texts body ≡ texts (take i body) ++ (get_or body i blank).now ∷ texts (drop (i + 1) body)
-texts_cut body i within =
-    let whole : take i body ++ drop i body ≡ body = take-append-drop i body in
-    let step : drop i body ≡ get_or body i blank ∷ drop (suc i) body = drop-cons body i blank within in
-    let next : drop i body ≡ get_or body i blank ∷ drop (i + 1) body = rw add-one step in
-    sym (ap texts whole) ∙ map-append (λ text. text.now) (take i body) (drop i body) ∙ ap (λ d. texts (take i body) ++ texts d) next
+pub stopped_few : (text : List ℕ) (declared : DeclaredLines) (reading : Reading) → length text < 2 ^ 30 → Stops declared (pieces text) reading → length reading.cells.items ≤ 2 ^ 30
+stopped_few text declared reading few (line, rest, same, some, stand, none) = read_few text (line ∷ rest) reading few same
+
+pub taken_few : (text left : List ℕ) (declared : DeclaredLines) (reading : Reading) → length text < 2 ^ 30 → TakesAll declared (pieces text) left reading → length reading.cells.items ≤ 2 ^ 30
+taken_few text left declared reading few (same, stand) = read_few text (left ∷ []) reading few same
 
 -- the lines so far, with that of one more cell
-pub read_more : (body : List (Bor (List ℕ))) (i : ℕ) (old new : Reading) (cell : PlainCell) → i < length body → texts (take i body) ≡ map cell_text (cells_of old)
-    → (get_or body i blank).now ≡ cell_text cell → cells_of new ≡ cells_of old ++ cell ∷ [] → texts (take (i + 1) body) ≡ map cell_text (cells_of new)
-read_more body i old new cell within before same cells =
-    texts_more body i within ∙ ap (λ t. t ++ (get_or body i blank).now ∷ []) before ∙ ap (λ t. map cell_text (cells_of old) ++ t ∷ []) same
-    ∙ sym (map-append cell_text (cells_of old) (cell ∷ [])) ∙ ap (map cell_text) (sym cells)
+pub read_more : (lines : List (List ℕ)) (left rest line : List ℕ) (old new : Reading) (cell : PlainCell) → lines ≡ map cell_text (cells_of old) ++ pieces left → pieces left ≡ line ∷ pieces rest
+    → line ≡ cell_text cell → cells_of new ≡ cells_of old ++ cell ∷ [] → lines ≡ map cell_text (cells_of new) ++ pieces rest
+read_more lines left rest line old new cell before cut same cells =
+    before ∙ ap (λ t. map cell_text (cells_of old) ++ t) cut ∙ ap (λ l. map cell_text (cells_of old) ++ l ∷ pieces rest) same
+    ∙ sym (append_assoc (map cell_text (cells_of old)) (cell_text cell ∷ []) (pieces rest)) ∙ ap (λ t. t ++ pieces rest) (sym (map-append cell_text (cells_of old) (cell ∷ [])))
+    ∙ ap (λ cs. map cell_text cs ++ pieces rest) (sym cells)
 
 -- a reading that stops before a line
-pub stopped : (declared : DeclaredLines) (body : List (Bor (List ℕ))) (i : ℕ) (old new : Reading) → i < length body → texts (take i body) ≡ map cell_text (cells_of old) → MayAllStand declared old
-    → Takes old declared (get_or body i blank).now false new → TakesAll declared (texts body) false new
-stopped declared body i old new within before stand (same, none) =
-    let here : TakesAll declared (texts body) false old =
-    ((get_or body i blank).now, texts (drop (i + 1) body), texts_cut body i within ∙ ap (λ t. t ++ (get_or body i blank).now ∷ texts (drop (i + 1) body)) before, stand, none) in
-    subst (λ r. TakesAll declared (texts body) false r) (sym same) here
+pub stopped : (declared : DeclaredLines) (lines : List (List ℕ)) (left rest line : List ℕ) (old new : Reading) → lines ≡ map cell_text (cells_of old) ++ pieces left → pieces left ≡ line ∷ pieces rest → MayAllStand declared old
+    → Takes old declared line false new → Stops declared lines new
+stopped declared lines left rest line old new before cut stand (same, none) =
+    let here : Stops declared lines old = (line, pieces rest, before ∙ ap (λ t. map cell_text (cells_of old) ++ t) cut, pieces_some rest, stand, none) in
+    subst (λ r. Stops declared lines r) (sym same) here
 
 -- the next line is that of no cell that may stand, and isn't the empty rest of a text
 pub stops_line : (lines : List (List ℕ)) (cells : List PlainCell) (line : List ℕ) (rest : List (List ℕ)) → 1 ≤ length line + length rest → ((cell : PlainCell) → MayStand lines cells cell → line ≢ cell_text cell)
@@ -182,39 +180,14 @@ pub end_line : (declared : DeclaredLines) (old new : Reading) (last : List ℕ) 
 end_line declared old new last number true some takes at = end_taken declared old new last number takes at
 end_line declared old new last number false some takes at = end_refused declared old new last number (not_empty last some) takes at
 
--- what is refused of a body whose lines weren't all taken
-pub body_stopped : (declared : DeclaredLines) (body : List (List ℕ)) (last : List ℕ) (new : Reading) (number : ℕ) → TakesAll declared body false new → number ≡ length (cells_of new) + 2
-    → (cells : List PlainCell) × (rest : List (List ℕ)) × (body ++ last ∷ [] ≡ map cell_text cells ++ rest) × (number ≡ length cells + 2)
-    × ((lines : List (List ℕ)) → AreDeclared lines declared → AllStand lines cells × StopsAt lines cells rest)
-body_stopped declared body last new number (line, rest, same, stand, none) at =
-    let whole : body ++ last ∷ [] ≡ map cell_text (cells_of new) ++ (line ∷ (rest ++ last ∷ [])) = ap (λ t. t ++ last ∷ []) same ∙ append_assoc (map cell_text (cells_of new)) (line ∷ rest) (last ∷ []) in (
-      cells_of new,
-      line ∷ (rest ++ last ∷ []),
-      whole,
-      at,
-      λ lines k. (stand lines k, stops_line lines (cells_of new) line (rest ++ last ∷ []) (omega (arith, length-append rest (last ∷ []))) (none lines k)),
-    )
+-- what is refused of a text whose lines weren't all taken
+pub body_stopped : (declared : DeclaredLines) (lines : List (List ℕ)) (new : Reading) (number : ℕ) → Stops declared lines new → number ≡ length (cells_of new) + 2 → RefusesBody declared lines (NoListing number)
+body_stopped declared lines new number (line, rest, same, some, stand, none) at =
+    (cells_of new, line ∷ rest, same, at, λ all k. (stand all k, stops_line all (cells_of new) line rest (omega (arith, some)) (none all k)))
 
 -- and of one that ends where it may not
-pub body_ended : (declared : DeclaredLines) (body : List (List ℕ)) (last : List ℕ) (old : Reading) (number : ℕ) → TakesAll declared body true old → EndsAt declared (cells_of old) last number
-    → (cells : List PlainCell) × (rest : List (List ℕ)) × (body ++ last ∷ [] ≡ map cell_text cells ++ rest) × (number ≡ length cells + 2)
-    × ((lines : List (List ℕ)) → AreDeclared lines declared → AllStand lines cells × StopsAt lines cells rest)
-body_ended declared body last old number (same, stand) (more, rest, last_same, at, stops) =
-    let whole : body ++ last ∷ [] ≡ map cell_text (cells_of old ++ more) ++ rest =
-    ap (λ t. t ++ last ∷ []) same ∙ ap (λ t. map cell_text (cells_of old) ++ t) last_same ∙ sym (append_assoc (map cell_text (cells_of old)) (map cell_text more) rest) ∙ ap (λ t. t ++ rest) (sym (map-append cell_text (cells_of old) more)) in
-    (cells_of old ++ more, rest, whole, at, λ lines k. stops lines k (stand lines k))
-
--- the lines after the first, and the last of them
-pub rest_cut : (lines : List (Bor (List ℕ))) → 1 ≤ length lines → texts lines ≡ (get_or lines 0 blank).now ∷ texts (take (length lines - 1) (drop 1 lines))
-rest_cut lines some =
-    let first : texts lines ≡ (get_or lines 0 blank).now ∷ texts (drop 1 lines) = texts_cut lines 0 (omega arith) in
-    let whole : take (length lines - 1) (drop 1 lines) ≡ drop 1 lines = take_all (length lines - 1) (drop 1 lines) (omega (arith, length-drop 1 lines)) in
-    first ∙ ap (λ r. (get_or lines 0 blank).now ∷ texts r) (sym whole)
-
-pub last_cut : (rest : List (Bor (List ℕ))) → 1 ≤ length rest → texts rest ≡ texts (take (length rest - 1) rest) ++ (get_or rest (length rest - 1) blank).now ∷ []
-last_cut rest some =
-    let over : drop (length rest - 1 + 1) rest ≡ [] = nothing (drop (length rest - 1 + 1) rest) (omega (arith, length-drop (length rest - 1 + 1) rest)) in
-    texts_cut rest (length rest - 1) (omega arith) ∙ ap (λ d. texts (take (length rest - 1) rest) ++ (get_or rest (length rest - 1) blank).now ∷ texts d) over
-
-pub rest_empty : (rest : List (Bor (List ℕ))) → length rest < 1 → texts rest ≡ []
-rest_empty rest few = ap texts (nothing rest (omega arith))
+pub body_ended : (declared : DeclaredLines) (lines : List (List ℕ)) (last : List ℕ) (old : Reading) (number : ℕ) → TakesAll declared lines last old → EndsAt declared (cells_of old) last number → RefusesBody declared lines (NoListing number)
+body_ended declared lines last old number (same, stand) (more, rest, last_same, at, stops) =
+    let whole : lines ≡ map cell_text (cells_of old ++ more) ++ rest =
+    same ∙ ap (λ t. map cell_text (cells_of old) ++ t) last_same ∙ sym (append_assoc (map cell_text (cells_of old)) (map cell_text more) rest) ∙ ap (λ t. t ++ rest) (sym (map-append cell_text (cells_of old) more)) in
+    (cells_of old ++ more, rest, whole, at, λ all k. stops all k (stand all k))

@@ -35,12 +35,15 @@ Takes old declared line false new =
 abbrev pub MayAllStand : DeclaredLines → Reading → Type 0
 MayAllStand declared reading = (lines : List (List ℕ)) → AreDeclared lines declared → AllStand lines (cells_of reading)
 
--- what it does with lines, from none on: it takes them all, or those before one that it doesn't take
-abbrev pub TakesAll : DeclaredLines → List (List ℕ) → Bool → Reading → Type 0
-TakesAll declared body true new = (body ≡ map cell_text (cells_of new)) × MayAllStand declared new
-TakesAll declared body false new =
-    (line : List ℕ) × (rest : List (List ℕ)) × (body ≡ map cell_text (cells_of new) ++ line ∷ rest) × MayAllStand declared new
-    × ((lines : List (List ℕ)) → AreDeclared lines declared → (cell : PlainCell) → MayStand lines (cells_of new) cell → line ≢ cell_text cell)
+-- what it does with the pieces of a text, from no cells on: it takes all lines before what is left at the end,
+abbrev pub TakesAll : DeclaredLines → List (List ℕ) → List ℕ → Reading → Type 0
+TakesAll declared lines left new = (lines ≡ map cell_text (cells_of new) ++ left ∷ []) × MayAllStand declared new
+
+-- or those before a line that it doesn't take and that isn't the last piece
+abbrev pub Stops : DeclaredLines → List (List ℕ) → Reading → Type 0
+Stops declared lines new =
+    (line : List ℕ) × (rest : List (List ℕ)) × (lines ≡ map cell_text (cells_of new) ++ line ∷ rest) × (1 ≤ length rest) × MayAllStand declared new
+    × ((all : List (List ℕ)) → AreDeclared all declared → (cell : PlainCell) → MayStand all (cells_of new) cell → line ≢ cell_text cell)
 
 -- where a text breaks a rule whose lines were all taken but the last piece, which has no line end
 abbrev pub EndsAt : DeclaredLines → List PlainCell → List ℕ → ℕ → Type 0
@@ -49,13 +52,13 @@ EndsAt declared cells last number =
     × ((lines : List (List ℕ)) → AreDeclared lines declared → AllStand lines cells → AllStand lines (cells ++ more) × StopsAt lines (cells ++ more) rest)
 
 -- what is read of the pieces after the heading
-abbrev pub ReadsBody : DeclaredLines → List (List ℕ) → List ℕ → List PlainCell → Type 0
-ReadsBody declared body last cells =
-    (body ≡ map cell_text cells) × (last ≡ []) × (1 ≤ count_by is_done cells) × ((lines : List (List ℕ)) → AreDeclared lines declared → AllStand lines cells)
+abbrev pub ReadsBody : DeclaredLines → List (List ℕ) → List PlainCell → Type 0
+ReadsBody declared lines cells =
+    (lines ≡ map cell_text cells ++ [] ∷ []) × (1 ≤ count_by is_done cells) × ((all : List (List ℕ)) → AreDeclared all declared → AllStand all cells)
 
-abbrev pub RefusesBody : DeclaredLines → List (List ℕ) → List ℕ → ListError → Type 0
-RefusesBody declared body last (NoListing number) =
-    (cells : List PlainCell) × (rest : List (List ℕ)) × (body ++ last ∷ [] ≡ map cell_text cells ++ rest) × (number ≡ length cells + 2)
-    × ((lines : List (List ℕ)) → AreDeclared lines declared → AllStand lines cells × StopsAt lines cells rest)
-RefusesBody declared body last (Net e) = ⊥
-RefusesBody declared body last Memory = Unit {0}
+abbrev pub RefusesBody : DeclaredLines → List (List ℕ) → ListError → Type 0
+RefusesBody declared lines (NoListing number) =
+    (cells : List PlainCell) × (rest : List (List ℕ)) × (lines ≡ map cell_text cells ++ rest) × (number ≡ length cells + 2)
+    × ((all : List (List ℕ)) → AreDeclared all declared → AllStand all cells × StopsAt all cells rest)
+RefusesBody declared lines (Net e) = ⊥
+RefusesBody declared lines Memory = Unit {0}

@@ -1,6 +1,7 @@
 //! The banks and DRAMs that have a line.
 use crate::NoMemory;
 use crate::cells::cell_of_line;
+use crate::line_ends::split_line;
 use sp_netlist::Cell;
 use std::alloc::Global;
 use std::collections::BTreeSet;
@@ -15,8 +16,8 @@ pub struct DeclaredLines {
 impl DeclaredLines {
     ghost use Rattle.std.specs.Prelude.{◌≡◌, ◌↔◌, ℕ, List, [], ◌∷◌, ◌++◌, IsTrue, OnOk, IfOk};
     ghost use Rattle.sp_netlist.specs.Cells.{PlainCell, plain_cell};
-    ghost use Rattle.sp_listing.specs.Reading.{IsFormed, NamesLines};
-    ghost use Rattle.sp_listing.specs.Readers.{texts, ReadsLine};
+    ghost use Rattle.sp_listing.specs.Reading.{IsFormed, NamesLines, pieces};
+    ghost use Rattle.sp_listing.specs.Readers.{ReadsLine};
     ghost use Rattle.sp_listing.specs.Text.{cell_text};
     ghost use Rattle.sp_listing.specs.Standing.{AreDeclared};
 
@@ -55,14 +56,17 @@ impl DeclaredLines {
         self.add(&cell)
     }
 
-    /// Those of these lines.
-    pub fn of_lines(alloc: Global, lines: &[&[u8]]) -> Result<DeclaredLines, NoMemory>
-        ensures { IfOk result (AreDeclared (texts lines.now)) }
+    /// Those of the lines of a text.
+    pub fn of_text(alloc: Global, text: &[u8]) -> Result<DeclaredLines, NoMemory>
+        ensures { IfOk result (AreDeclared (pieces text.now)) }
     {
         let mut declared = DeclaredLines::new(alloc);
-        for line in lines {
+        let mut left = text;
+        while let Some((line, rest)) = split_line(left) {
             declared.add_line(alloc, line)?;
+            left = rest;
         }
+        declared.add_line(alloc, left)?;
         Ok(declared)
     }
 

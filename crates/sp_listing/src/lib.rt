@@ -7,6 +7,7 @@ mod declared_lines;
 mod error;
 mod kind;
 mod laws;
+mod line_ends;
 mod lines;
 mod names;
 mod parts;

@@ -1,23 +1,16 @@
 //! Reading a listing.
-ghost use Rattle.std.specs.Prelude.{◌≡◌, ◌≤◌, ◌<◌, ◌^◌, ◌↔◌, ◌∷◌, ◌==◌, ℕ, List, length, position, IsTrue, IfOk, IfErr, MatchResult};
+ghost use Rattle.std.specs.Prelude.{◌≡◌, ◌≤◌, ◌↔◌, [], ◌∷◌, length, IsTrue, IfOk, IfErr, MatchResult};
 ghost use Rattle.sp_netlist.specs.Cells.{plain_cells};
 ghost use Rattle.sp_netlist.specs.Refusals.{IsWithinLimits};
-ghost use Rattle.sp_listing.specs.Readers.{texts};
-ghost use Rattle.sp_listing.specs.Reading.{pieces, heading, IsListing};
-ghost use Rattle.sp_listing.specs.Refusal.{RefusesText, AreLinesOf, RefusesLines};
+ghost use Rattle.sp_listing.specs.Reading.{pieces, heading, BreaksAt, IsListing};
+ghost use Rattle.sp_listing.specs.Refusal.{RefusesText, RefusesLines};
 
-use crate::NoMemory;
 use crate::declared_lines::DeclaredLines;
 use crate::error::ListError;
+use crate::line_ends::split_line;
 use crate::reading::read_body;
 use sp_netlist::{Cell, Netlist};
 use std::alloc::Global;
-
-fn pieces(alloc: Global, bytes: &[u8]) -> Result<Vec<&[u8]>, NoMemory>
-    ensures { IfOk result (λ lines. texts lines.items ≡ pieces bytes.now) }
-{
-    bytes.split(|byte| *byte == b'\n').collect(alloc)
-}
 
 fn is_heading(line: &[u8]) -> bool
     ensures { IsTrue result ↔ (line.now ≡ heading) }
@@ -25,49 +18,29 @@ fn is_heading(line: &[u8]) -> bool
     line == b"netlist 1".as_slice()
 }
 
-fn line_end(bytes: &[u8]) -> Option<usize>
-    ensures { result ≡ position (λ byte. byte == 10) bytes.now }
+// The line that breaks a rule in a text that has no line end.
+fn broken_line(text: &[u8]) -> u32
+    requires { pieces text.now ≡ text.now ∷ [] }
+    ensures { BreaksAt (pieces text.now) result }
 {
-    bytes.iter().position(|byte| *byte == b'\n')
+    if is_heading(text) { 2 } else { 1 }
 }
 
-// The text before the first line end.
-fn first_line(bytes: &[u8]) -> &[u8]
-    ensures { (rest : List (List ℕ)) × (pieces bytes.now ≡ result.now ∷ rest) }
+// The cells of a text. It is read twice, a line at a time, and none of its lines is kept: first for the banks and the
+// DRAMs that have a line, then for the cells.
+fn read_cells(alloc: Global, text: &[u8]) -> Result<Vec<Cell>, ListError>
+    requires { length text.now ≤ 268435456 }
+    ensures { MatchResult result (λ cells. IsListing text.now (plain_cells cells.items)) (RefusesLines (pieces text.now)) }
 {
-    match line_end(bytes) {
-        Some(end) => &bytes[..end],
-        None => bytes,
-    }
-}
-
-// The cells of these lines, the first of which is the heading.
-fn read_lines(alloc: Global, lines: &[&[u8]]) -> Result<Vec<Cell>, ListError>
-    requires some { 1 ≤ length lines.now }
-    requires headed { (rest : List (List ℕ)) × (texts lines.now ≡ heading ∷ rest) }
-    requires few { length lines.now < 2 ^ 31 }
-    ensures { MatchResult result (λ cells. AreLinesOf (texts lines.now) (plain_cells cells.items)) (RefusesLines (texts lines.now)) }
-{
-    let [_, rest @ ..] = lines else {
-        unreachable!()
+    let Some((first, body)) = split_line(text) else {
+        let line = broken_line(text);
+        return Err(ListError::NoListing { line });
     };
-    let [body @ .., last] = rest else {
-        return Err(ListError::NoListing { line: 2 });
-    };
-    let declared = DeclaredLines::of_lines(alloc, lines)?;
-    read_body(alloc, &declared, body, last)
-}
-
-// The cells of a text. Its lines are kept only where the first one is the heading.
-fn read_cells(alloc: Global, bytes: &[u8]) -> Result<Vec<Cell>, ListError>
-    requires { length bytes.now ≤ 268435456 }
-    ensures { MatchResult result (λ cells. IsListing bytes.now (plain_cells cells.items)) (RefusesLines (pieces bytes.now)) }
-{
-    if !is_heading(first_line(bytes)) {
+    if !is_heading(first) {
         return Err(ListError::NoListing { line: 1 });
     }
-    let lines = pieces(alloc, bytes)?;
-    read_lines(alloc, &lines)
+    let declared = DeclaredLines::of_text(alloc, text)?;
+    read_body(alloc, &declared, body)
 }
 
 /// The netlist of a listing, within the limits of a list of cells. A text that isn't one is refused at its first

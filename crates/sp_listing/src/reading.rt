@@ -1,7 +1,7 @@
 //! The cells of a listing, line by line.
 ghost use Rattle.std.specs.Prelude.{◌<◌, ◌^◌, length, MatchResult};
 ghost use Rattle.sp_netlist.specs.Cells.{plain_cells};
-ghost use Rattle.sp_listing.specs.Readers.{texts};
+ghost use Rattle.sp_listing.specs.Reading.{pieces};
 ghost use Rattle.sp_listing.specs.Lines.{ReadsBody, RefusesBody};
 
 use crate::NoMemory;
@@ -9,6 +9,7 @@ use crate::cells::cell_of_line;
 use crate::counts::Counts;
 use crate::declared_lines::DeclaredLines;
 use crate::error::ListError;
+use crate::line_ends::split_line;
 use crate::names::Names;
 use sp_netlist::Cell;
 use std::alloc::Global;
@@ -22,12 +23,12 @@ pub struct Reading {
 }
 
 impl Reading {
-    ghost use Rattle.std.specs.Prelude.{◌≡◌, ◌≤◌, ◌+◌, ◌↔◌, ℕ, List, [], IsTrue, OnOk, IfOk, count_by, vec_len};
+    ghost use Rattle.std.specs.Prelude.{◌≡◌, ◌≤◌, ◌+◌, ◌↔◌, ℕ, List, [], IsTrue, OnOk, IfOk, MatchOption, count_by, vec_len};
     ghost use Rattle.sp_netlist.specs.Cells.{plain_cell};
     ghost use Rattle.sp_netlist.specs.Rules.{is_done};
-    ghost use Rattle.sp_listing.specs.Reading.{Follows, NamesLines};
+    ghost use Rattle.sp_listing.specs.Reading.{Follows, NamesLines, pieces};
     ghost use Rattle.sp_listing.specs.Standing.{AreDeclared};
-    ghost use Rattle.sp_listing.specs.Lines.{cells_of, IsSound, Gained, Takes, TakesAll, EndsAt};
+    ghost use Rattle.sp_listing.specs.Lines.{cells_of, IsSound, Gained, Takes, Stops, TakesAll, EndsAt};
 
     /// Of no lines.
     pub fn new(alloc: Global) -> Reading
@@ -87,25 +88,28 @@ impl Reading {
         Ok(true)
     }
 
-    /// Takes lines as long as they are those of cells that may come next; whether all are.
-    pub fn take_all(
+    /// Takes the lines of a text that have a line end, as long as they are those of cells that may come next. What is
+    /// left, if all were taken, is what follows the last line end.
+    pub fn take_all<'a>(
         &mut self,
         alloc: Global,
         declared: &DeclaredLines,
-        body: &[&[u8]],
-    ) -> Result<bool, NoMemory>
+        text: &'a [u8],
+    ) -> Result<Option<&'a [u8]>, NoMemory>
         requires none { cells_of self.old ≡ [] }
         requires sound { IsSound self.old }
-        requires few { length body.now < 2 ^ 31 }
+        requires few { length text.now < 2 ^ 30 }
         ensures sound { IfOk result (λ _. IsSound self.new) }
-        ensures taken { IfOk result (λ all. TakesAll declared.now (texts body.now) all self.new) }
+        ensures taken { IfOk result (λ r. MatchOption r (Stops declared.now (pieces text.now) self.new) (λ left. TakesAll declared.now (pieces text.now) left.now self.new)) }
     {
-        for line in body {
+        let mut left = text;
+        while let Some((line, rest)) = split_line(left) {
             if !self.take(alloc, declared, line)? {
-                return Ok(false);
+                return Ok(None);
             }
+            left = rest;
         }
-        Ok(true)
+        Ok(Some(left))
     }
 
     // The number of the line after those that were taken.
@@ -151,22 +155,21 @@ impl Reading {
     }
 }
 
-/// The cells of the lines after the heading: the body, and what follows the last line end.
+/// The cells of the lines after the heading, which are this text.
 pub fn read_body(
     alloc: Global,
     declared: &DeclaredLines,
-    body: &[&[u8]],
-    last: &[u8],
+    text: &[u8],
 ) -> Result<Vec<Cell>, ListError>
-    requires { length body.now < 2 ^ 31 }
-    ensures { MatchResult result (λ cells. ReadsBody declared.now (texts body.now) last.now (plain_cells cells.items)) (RefusesBody declared.now (texts body.now) last.now) }
+    requires { length text.now < 2 ^ 30 }
+    ensures { MatchResult result (λ cells. ReadsBody declared.now (pieces text.now) (plain_cells cells.items)) (RefusesBody declared.now (pieces text.now)) }
 {
     let mut reading = Reading::new(alloc);
-    if !reading.take_all(alloc, declared, body)? {
+    let Some(last) = reading.take_all(alloc, declared, text)? else {
         return Err(ListError::NoListing {
             line: reading.next_line(),
         });
-    }
+    };
     if reading.is_complete(last) {
         return Ok(reading.into_cells());
     }

@@ -1,11 +1,18 @@
-use Rattle.sp_listing.specs.Readers.{texts}
-use Rattle.sp_listing.proofs.ReadingLemmas.{body_stopped, body_ended}
+use Rattle.std.proofs.Common.{arith}
+use Rattle.sp_listing.specs.Reading.{pieces}
+use Rattle.sp_listing.proofs.ReadingLemmas.{stopped_few, taken_few, body_ended}
 use Rattle.sp_listing.proofs.reading.read_body.Goals as goal
 
-pub returns-then-not-branch : goal.returns-then-not-branch
-returns-then-not-branch c =
-    body_stopped c.args.declared.now (texts c.args.body.now) c.args.last.now c.take_all.new.self c.next_line.result (rw c.if-not-branch.true at c.in_ok-take_all.ensures.taken) c.next_line.ensures
+pub next_line-requires : goal.next_line-requires
+next_line-requires c =
+    let few = stopped_few c.args.text.now c.args.declared.now c.take_all.new.self c.requires (rw c.in_default.is at c.in_ok-last.ensures.taken) in
+    omega (arith, few)
+
+pub broken_end-requires-clause-few : goal.broken_end-requires-clause-few
+broken_end-requires-clause-few c =
+    let few = taken_few c.args.text.now c.in-Some.last.now c.args.declared.now c.take_all.new.self c.requires (rw c.in-Some.is at c.in_ok-last.ensures.taken) in
+    omega (arith, few)
 
 pub returns : goal.returns
 returns c =
-    body_ended c.args.declared.now (texts c.args.body.now) c.args.last.now c.take_all.new.self c.in_ok-line.line (rw c.if-not-branch.false at c.in_ok-take_all.ensures.taken) c.in_ok-line.ensures
+    body_ended c.args.declared.now (pieces c.args.text.now) c.in-Some.last.now c.take_all.new.self c.in_ok-line.line (rw c.in-Some.is at c.in_ok-last.ensures.taken) c.in_ok-line.ensures

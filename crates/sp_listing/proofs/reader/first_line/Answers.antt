@@ -1,9 +1,0 @@
-use Rattle.std.proofs.Common.{sym, ◌∙◌}
-use Rattle.sp_listing.proofs.FirstLine.{first_ended, first_alone}
-use Rattle.sp_listing.proofs.reader.first_line.Goals as goal
-
-pub returns-in-Some : goal.returns-in-Some
-returns-in-Some c = first_ended c.args.bytes.now c.in-Some.end (sym c.line_end.ensures ∙ c.in-Some.is)
-
-pub returns-in-None : goal.returns-in-None
-returns-in-None c = first_alone c.args.bytes.now (sym c.line_end.ensures ∙ c.in-None.is)
