@@ -162,6 +162,15 @@ declared_none cell x y lines d formed k =
     (λ q n t ds f e. other.1 (sym (ap kind_in (same_text (dram_cell q n t ds) (plain_cell cell) f formed e))))
     k
 
+-- a line that begins otherwise than that of a bank or a DRAM declares nothing
+pub declared_begun_otherwise : (lines : List (List ℕ)) (line : List ℕ) (d : DeclaredLines) → ((rest : List ℕ) → (line ≢ 98 ∷ rest) × (line ≢ 100 ∷ rest)) → AreDeclared lines d → AreDeclared (lines ++ line ∷ []) d
+declared_begun_otherwise lines line d other k =
+    declared_other lines line d (λ q w l f e. (other (tail (cell_text (bank_cell q w l)))).0 (sym e)) (λ q n t ds f e. (other (tail (cell_text (dram_cell q n t ds)))).1 (sym e)) k
+  where
+    tail : List ℕ → List ℕ
+    tail [] = []
+    tail (x ∷ xs) = xs
+
 pub declared_no_cell : (lines : List (List ℕ)) (line : List ℕ) (d : DeclaredLines) → ReadsLine line None → AreDeclared lines d → AreDeclared (lines ++ line ∷ []) d
 declared_no_cell lines line d none k =
     declared_other lines line d (λ q w l f e. none (bank_cell q w l) f (sym e)) (λ q n t ds f e. none (dram_cell q n t ds) f (sym e)) k

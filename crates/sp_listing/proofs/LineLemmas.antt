@@ -1,15 +1,15 @@
 -- A line and its words: a line is cut at its blanks in one way.
-use Rattle.std.proofs.Common.{◌≡◌, ◌≢◌, ℕ, ◌<◌, ◌≤◌, Bool, true, false, List, [], ◌∷◌, ◌++◌, length, All, refl, sym, ◌∙◌, ap, arith, ◌==◌, lit<, lit≤, Option, Some, None, Result, Ok, Err, IfOk}
+use Rattle.std.proofs.Common.{◌≡◌, ◌≢◌, ℕ, ◌<◌, ◌≤◌, Bool, true, false, List, [], ◌∷◌, ◌++◌, length, All, count_by, decimal, ◌+◌, refl, sym, ◌∙◌, ap, arith, ◌==◌, lit<, lit≤, Option, Some, None, Result, Ok, Err, IfOk}
 use Rattle.std.specs.List.{slice_split, onto_first}
 use Rattle.std.specs.Str.{IsUtf8}
 use Rattle.std.proofs.lemmas.Bool.{ne_eqb, eqb-true}
-use Rattle.std.proofs.lemmas.List.{append-nil}
+use Rattle.std.proofs.lemmas.List.{append-nil, length-map}
 use Rattle.std.proofs.lemmas.List.Elements.{All-nil, All-cons, All-head, All-tail, All-append, All-weaker}
 use Rattle.std.proofs.lemmas.List.Splits.{slice_split_at, slice_split_none, slice_split-cons_yes, slice_split-cons_no, length-slice_split}
 use Rattle.std.proofs.lemmas.Str.{IsUtf8-from_ascii}
 use Rattle.std.proofs.lemmas.Str.Ascii.{IsAscii-from_all}
 use Rattle.sp_netlist.specs.declared.cell.Cell.{Cell}
-use Rattle.sp_netlist.specs.Cells.{PlainCell}
+use Rattle.sp_netlist.specs.Cells.{PlainCell, in_cell, out_cell, done_cell, const_cell, op_cell, not_cell, shift_cell, cast_cell, mux_cell, reg_cell, bank_cell, read_tap, write_tap, dram_cell, load_unit, store_unit}
 use Rattle.sp_listing.specs.Text.{cell_words, cell_text, joined, spaced}
 use Rattle.sp_listing.specs.Reading.{IsFormed}
 use Rattle.sp_listing.specs.Readers.{Lacks, kind_text, kind_in, parts_of, ReadsWords, ReadsLine}
@@ -104,6 +104,33 @@ line_read line words (Some cell) cut (f, h) = (f, sym (joined-split line) ∙ ap
 pub words_read : {E : Type 0} (line text : List ℕ) (words : List (List ℕ)) (r : Result (Option Cell) E) → text ≡ line → words ≡ slice_split (λ b. b == 32) text → IfOk r (ReadsWords words) → IfOk r (ReadsLine line)
 words_read line text words (Ok r) same cut h = line_read line words r (cut ∙ ap (slice_split (λ b. b == 32)) same) h
 words_read line text words (Err e) same cut h = tt
+
+-- the line of a formed cell has few words
+few_words : (cell : PlainCell) → IsFormed cell → length (cell_words cell) ≤ 8
+few_words (in_cell name net ty) f = lit≤ tt
+few_words (out_cell name net ty) f = lit≤ tt
+few_words (done_cell net) f = lit≤ tt
+few_words (const_cell net width word) f = lit≤ tt
+few_words (op_cell net ty op a b) f = lit≤ tt
+few_words (not_cell net ty a) f = lit≤ tt
+few_words (shift_cell net ty side a places) f = lit≤ tt
+few_words (cast_cell net from to a) f = lit≤ tt
+few_words (mux_cell net width choice a b) f = lit≤ tt
+few_words (reg_cell net width first next enable) f = lit≤ tt
+few_words (bank_cell bank width len) f = lit≤ tt
+few_words (read_tap net bank enable addr) f = lit≤ tt
+few_words (write_tap bank enable addr word) f = lit≤ tt
+few_words (dram_cell dram name ty dims) f = let n = length-map dims decimal in let most = f.3 in omega (arith, n, most)
+few_words (load_unit channel dram ready net request last addr) f = lit≤ tt
+few_words (store_unit channel dram ready request last addr word) f = lit≤ tt
+
+-- so a line with many blanks is that of none
+pub many_blanks : (line : List ℕ) → 7 < count_by (λ b. b == 32) line → (cell : PlainCell) → IsFormed cell → line ≢ cell_text cell
+many_blanks line many cell f same =
+    let words : length (slice_split (λ b. b == 32) line) ≡ length (cell_words cell) = ap (λ l. length (slice_split (λ b. b == 32) l)) same ∙ ap length (words_of_text cell f) in
+    let pieces : length (slice_split (λ b. b == 32) line) ≡ count_by (λ b. b == 32) line + 1 = length-slice_split (λ b. b == 32) line in
+    let few : length (cell_words cell) ≤ 8 = few_words cell f in
+    absurd (omega (arith, words, pieces, few, many))
 
 -- a line has at most one formed cell
 pub same_text : (a b : PlainCell) → IsFormed a → IsFormed b → cell_text a ≡ cell_text b → a ≡ b

@@ -1,5 +1,5 @@
 //! The cell of a listing's line.
-ghost use Rattle.std.specs.Prelude.{◌≡◌, ◌==◌, IfOk};
+ghost use Rattle.std.specs.Prelude.{◌≡◌, ◌==◌, IfOk, count_by};
 ghost use Rattle.std.specs.List.{slice_split};
 ghost use Rattle.sp_listing.specs.Readers.{texts, ReadsParts, ReadsWords, ReadsLine};
 
@@ -56,10 +56,20 @@ fn words_of<'a>(alloc: Global, line: &'a str) -> Result<Vec<&'a str>, NoMemory>
     line.split(' ').collect(alloc)
 }
 
-/// The cell of a line without its line end, if one is formed so.
+fn count_blanks(line: &[u8]) -> usize
+    ensures { result ≡ count_by (λ b. b == 32) line.now }
+{
+    line.iter().filter(|byte| **byte == b' ').count()
+}
+
+/// The cell of a line without its line end, if one is formed so. No cell's line has more than eight words, so no longer
+/// list of words is made.
 pub fn cell_of_line(alloc: Global, line: &[u8]) -> Result<Option<Cell>, NoMemory>
     ensures { IfOk result (ReadsLine line.now) }
 {
+    if count_blanks(line) > 7 {
+        return Ok(None);
+    }
     let Ok(line) = str::from_utf8(line) else {
         return Ok(None);
     };

@@ -1,10 +1,22 @@
 //! The banks and DRAMs that have a line.
+ghost use Rattle.std.specs.Prelude.{◌≡◌, ◌≢◌, ◌∷◌, ℕ, List, false};
+
 use crate::NoMemory;
 use crate::cells::cell_of_line;
 use crate::line_ends::split_line;
 use sp_netlist::Cell;
 use std::alloc::Global;
 use std::collections::BTreeSet;
+
+// Whether a line begins as that of a bank or a DRAM does. Other lines needn't be read.
+fn may_declare(line: &[u8]) -> bool
+    ensures { result ≡ false → (rest : List ℕ) → (line.now ≢ 98 ∷ rest) × (line.now ≢ 100 ∷ rest) }
+{
+    if line.is_empty() {
+        return false;
+    }
+    line[0] == b'b' || line[0] == b'd'
+}
 
 /// The numbers of the banks and of the DRAMs of which some line of a text is.
 #[derive(Drop)]
@@ -50,6 +62,9 @@ impl DeclaredLines {
     fn add_line(&mut self, alloc: Global, line: &[u8]) -> Result<(), NoMemory>
         ensures { OnOk result ((lines : List (List ℕ)) → AreDeclared lines self.old → AreDeclared (lines ++ line.now ∷ []) self.new) }
     {
+        if !may_declare(line) {
+            return Ok(());
+        }
         let Some(cell) = cell_of_line(alloc, line)? else {
             return Ok(());
         };
