@@ -25,11 +25,12 @@ abbrev pub least_with : Option ℕ → List ℕ → ℕ
 least_with None slots = least slots
 least_with (Some met) slots = least (met ∷ slots)
 
+-- with no net of a copy yet: the tree knows of none
 abbrev pub renewal : (mem first : ℕ) → Renewal
-renewal m first = record { mem = m; first = first }
+renewal m first = record { mem = m; first = first; copy = None }
 
 abbrev pub keeping : (mem done word : ℕ) → Keeping
-keeping m done word = record { mem = m; done = done; word = word }
+keeping m done word = record { mem = m; done = done; word = word; copy = None }
 
 -- those of a loop, by the nets that are 1 where its slots get groups
 abbrev pub renewed_by : PlainCore → PlainNodePlan → PlainStages → (firsts owned : List ℕ) → List Renewal

@@ -1,19 +1,23 @@
 //! Nets of owners.
 use sp_netlist::NetId;
 
-/// A loop makes its memory fresh in each cycle in which `first` is 1.
+/// A loop makes its memory fresh in each cycle in which `first` is 1, in the copy whose number `copy` has then: copy 0 where there is no
+/// such net.
 #[derive(Clone, Copy, Debug, PartialEq, Eq)]
 pub struct Renewal {
     pub mem: u32,
     pub first: NetId,
+    pub copy: Option<NetId>,
 }
 
-/// An FSM keeps its state in each cycle in which `done` is 1: the word that `word` has then.
+/// An FSM keeps its state in each cycle in which `done` is 1: the word that `word` has then, in the copy whose number `copy` has, or copy
+/// 0.
 #[derive(Clone, Copy, Debug, PartialEq, Eq)]
 pub struct Keeping {
     pub mem: u32,
     pub done: NetId,
     pub word: NetId,
+    pub copy: Option<NetId>,
 }
 
 /// What the owners in a tree do to their memories, in the order of the tree.

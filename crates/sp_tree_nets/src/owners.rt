@@ -82,11 +82,13 @@ pub(crate) fn machine_owners(
         mem: state,
         done: first.child.done,
         word: first.word,
+        copy: None,
     })?;
     kept.push(Keeping {
         mem: state,
         done: next.child.done,
         word: next.word,
+        copy: None,
     })?;
     add_kept(&mut kept, inside)?;
     Ok(OwnerNets { renewed, kept })
@@ -110,7 +112,11 @@ pub(crate) fn renewals(
         let mem = owned[index];
         let slot = first_slot(core, mem, stages, plan) as usize;
         let first = firsts[slot];
-        renewed.push(Renewal { mem, first })?;
+        renewed.push(Renewal {
+            mem,
+            first,
+            copy: None,
+        })?;
     }
     Ok(renewed)
 }
