@@ -66,7 +66,7 @@ module _ (d : Draft) (issue : ℕ) (all : List PipeOp) where
   acts_first _ _ _ q (acts.passed f more) = absurd (true≢false (sym q ∙ f))
   acts_first _ _ _ q (acts.acted {op} {ops} {enable} {operands} {nets} f own more) = record { enable = enable; operands = operands; behind = nets; are = refl; own = own; more = more }
 
-module _ (copy : (mem : ℕ) → Option ℕ) (n : ℕ) where
+module _ (copy : (number : ℕ) → Option ℕ) (n : ℕ) where
   pub no_ops : (ops : List Op) (ps : List PipeOp) (nets : List ℕ) (before : List AccessNets) → length ops ≡ 0 → AddAccesses copy n (plain_ops ops) ps nets before before
   no_ops (op ∷ ops) ps nets before e = absurd (omega (arith, e))
   no_ops [] (p ∷ ps) nets before e = record { added = []; behind = sym (append-nil before); handed = λ d issue all l a. absurd l; nets_are = λ d issue all l a. absurd l }
@@ -135,7 +135,7 @@ module _ (copy : (mem : ℕ) → Option ℕ) (n : ℕ) where
             ∙ ap (λ x. a.enable ∷ a.operands.items ++ x) (sym (behind_is d issue all f) ∙ rest.nets_are d issue all l (subst (AreActs d issue all ps) (sym (behind_is d issue all f)) f.more))))
 
 -- the same of lists of which these are the first
-module _ (copy : (mem : ℕ) → Option ℕ) (n : ℕ) (ops : List Op) (ps : List PipeOp) (op : Op) (p : PipeOp) (ops_are : ops ≡ op ∷ others ops) (ps_are : ps ≡ p ∷ others ps) where
+module _ (copy : (number : ℕ) → Option ℕ) (n : ℕ) (ops : List Op) (ps : List PipeOp) (op : Op) (p : PipeOp) (ops_are : ops ≡ op ∷ others ops) (ps_are : ps ≡ p ∷ others ps) where
   back : (nets : List ℕ) (before after : List AccessNets) → AddAccesses copy n (plain_ops (op ∷ others ops)) (p ∷ others ps) nets before after → AddAccesses copy n (plain_ops ops) ps nets before after
   back nets before after a =
       subst (λ xs. AddAccesses copy n (plain_ops xs) ps nets before after) (sym ops_are)

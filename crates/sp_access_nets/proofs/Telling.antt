@@ -120,7 +120,7 @@ op_behind a b ops k at = record { within = (let w = at.within in omega (arith, w
 op_ahead : (a b : PlainOp) (ops : List PlainOp) (k : ℕ) → IsOpAt ops k b → IsOpAt (a ∷ ops) (suc k) b
 op_ahead a b ops k at = record { within = (let w = at.within in omega (arith, w)); is = at.is }
 
-module _ (copy : (mem : ℕ) → Option ℕ) (d : Draft) (issue : ℕ) (all : List PipeOp) where
+module _ (copy : (number : ℕ) → Option ℕ) (d : Draft) (issue : ℕ) (all : List PipeOp) where
   access_ahead : (n : ℕ) (p : PipeOp) (ps : List PipeOp) (k : ℕ) (op : PlainOp) (a : AccessNets) → IsAccessAt copy d issue all (suc n) ps k op a → IsAccessAt copy d issue all n (p ∷ ps) (suc k) op a
   access_ahead n p ps k op a h = record {
     placed = h.placed;

@@ -11,7 +11,7 @@ use Rattle.sp_access_nets.specs.Accesses.{answer_in, nets_of, AccessesNameMemori
 use Rattle.sp_access_nets.specs.Example.{three_ops, three_nets, three_copies, WorkedAccesses}
 use Rattle.sp_access_nets.proofs.Adding.{take_front, drop_front}
 
-module _ (copy : (mem : ℕ) → Option ℕ) (d : Draft) (issue : ℕ) (all : List PipeOp) where
+module _ (copy : (number : ℕ) → Option ℕ) (d : Draft) (issue : ℕ) (all : List PipeOp) where
   skipped : (n : ℕ) (op : PlainOp) (ops : List PlainOp) (p : PipeOp) (ps : List PipeOp) (accesses : List AccessNets) → is_access p.act ≡ false → AreAccesses copy d issue all n (op ∷ ops) (p ∷ ps) accesses → AreAccesses copy d issue all (suc n) ops ps accesses
   skipped _ _ _ _ _ _ q (passed e f more) = more
   skipped _ _ _ _ _ _ q (acted f own acts more) = absurd (true≢false (sym f ∙ q))
@@ -80,7 +80,7 @@ worked d issue all p q r accesses h acts handed nets =
         mem_is = read_mem;
         enable_is = split.e_is;
         operands_are = split.xs_are;
-        copy_is = read.own.copied ∙ ap three_copies read_mem;
+        copy_is = read.own.copied;
         answer_is = read.own.answered ∙ ap answer_in h.reads;
       };
       writes = record {
@@ -89,7 +89,7 @@ worked d issue all p q r accesses h acts handed nets =
         mem_is = write_mem;
         enable_is = split.f_is;
         operands_are = split.ys_are;
-        copy_is = write.own.copied ∙ ap three_copies write_mem;
+        copy_is = write.own.copied;
         answer_is = write.own.answered ∙ ap answer_in h.writes;
       };
     }

@@ -32,8 +32,8 @@ pub record AreThree (count read write : PipeOp) : Type 0 where
 abbrev pub three_nets : List ℕ
 three_nets = 5 ∷ 6 ∷ 7 ∷ 8 ∷ 10 ∷ []
 
--- the number of memory 3's copy is on net 20
-abbrev pub three_copies : (mem : ℕ) → Option ℕ
+-- the number of the copy on which operation 3 acts is on net 20
+abbrev pub three_copies : (number : ℕ) → Option ℕ
 three_copies = copy_in (None ∷ None ∷ None ∷ Some 20 ∷ [])
 
 pub record IsTold (a : AccessNets) (number : ℕ) (k : OpKind) (mem enable : ℕ) (operands : List ℕ) (copy : Option ℕ) (answer : Option WordNet) : Type 0 where
@@ -49,11 +49,11 @@ pub record AreBoth (accesses : List AccessNets) : Type 0 where
   pub read : AccessNets
   pub write : AccessNets
   pub both : accesses ≡ read ∷ write ∷ []
-  pub reads : IsTold read 41 kind.Read 2 5 (6 ∷ []) None (Some (record { net = 9; after = 2 }))
-  pub writes : IsTold write 42 kind.Write 3 7 (8 ∷ 10 ∷ []) (Some 20) None
+  pub reads : IsTold read 2 kind.Read 2 5 (6 ∷ []) None (Some (record { net = 9; after = 2 }))
+  pub writes : IsTold write 3 kind.Write 3 7 (8 ∷ 10 ∷ []) (Some 20) None
 
--- what is handed on for them, from number 40 on, is the read and the write
+-- what is handed on for them, from number 1 on, is the read and the write
 abbrev pub WorkedAccesses : Type 0
 WorkedAccesses =
     (d : Draft) (issue : ℕ) (all : List PipeOp) (p q r : PipeOp) (accesses : List AccessNets) → AreThree p q r → AreActs d issue all (p ∷ q ∷ r ∷ []) three_nets
-    → AreHandedOn three_copies 40 three_ops (p ∷ q ∷ r ∷ []) three_nets accesses → AreNetsHandedOn three_ops (p ∷ q ∷ r ∷ []) three_nets accesses → AreBoth accesses
+    → AreHandedOn three_copies 1 three_ops (p ∷ q ∷ r ∷ []) three_nets accesses → AreNetsHandedOn three_ops (p ∷ q ∷ r ∷ []) three_nets accesses → AreBoth accesses

@@ -31,11 +31,11 @@ answer_nets (a ∷ accesses) = net_in a.answer ++ answer_nets accesses
 -- these are the nets that the list reserved
 abbrev pub ReservedAreAnswers : Type 0
 ReservedAreAnswers =
-    (copy : (mem : ℕ) → Option ℕ) (d : Draft) (issue : ℕ) (all : List PipeOp) (n : ℕ) (ops : List PlainOp) (ps : List PipeOp) (accesses : List AccessNets) → AreAccesses copy d issue all n ops ps accesses
+    (copy : (number : ℕ) → Option ℕ) (d : Draft) (issue : ℕ) (all : List PipeOp) (n : ℕ) (ops : List PlainOp) (ps : List PipeOp) (accesses : List AccessNets) → AreAccesses copy d issue all n ops ps accesses
     → answers_of ps ≡ answer_nets accesses
 
 -- the access of the operation at a place, as its circuit has it
-pub record IsAccessAt (copy : (mem : ℕ) → Option ℕ) (d : Draft) (issue : ℕ) (all : List PipeOp) (n : ℕ) (ps : List PipeOp) (k : ℕ) (op : PlainOp) (a : AccessNets) : Type 0 where
+pub record IsAccessAt (copy : (number : ℕ) → Option ℕ) (d : Draft) (issue : ℕ) (all : List PipeOp) (n : ℕ) (ps : List PipeOp) (k : ℕ) (op : PlainOp) (a : AccessNets) : Type 0 where
   pub placed : PipeOp
   pub at : IsAt ps k placed
   pub of_op : IsAccessOf copy (n + k) op placed a
@@ -44,11 +44,11 @@ pub record IsAccessAt (copy : (mem : ℕ) → Option ℕ) (d : Draft) (issue : �
 -- each operation that names a memory has an access in the list
 abbrev pub EachHasAccess : Type 0
 EachHasAccess =
-    (copy : (mem : ℕ) → Option ℕ) (d : Draft) (issue : ℕ) (all : List PipeOp) (n : ℕ) (ops : List PlainOp) (ps : List PipeOp) (accesses : List AccessNets) → AreAccesses copy d issue all n ops ps accesses
+    (copy : (number : ℕ) → Option ℕ) (d : Draft) (issue : ℕ) (all : List PipeOp) (n : ℕ) (ops : List PlainOp) (ps : List PipeOp) (accesses : List AccessNets) → AreAccesses copy d issue all n ops ps accesses
     → (k : ℕ) (op : PlainOp) (m : ℕ) → IsOpAt ops k op → op.mem ≡ Some m → (a : AccessNets) × Contains accesses a × IsAccessAt copy d issue all n ps k op a
 
 -- and each access in the list is of such an operation
 abbrev pub EachIsOfOperation : Type 0
 EachIsOfOperation =
-    (copy : (mem : ℕ) → Option ℕ) (d : Draft) (issue : ℕ) (all : List PipeOp) (n : ℕ) (ops : List PlainOp) (ps : List PipeOp) (accesses : List AccessNets) → AreAccesses copy d issue all n ops ps accesses
+    (copy : (number : ℕ) → Option ℕ) (d : Draft) (issue : ℕ) (all : List PipeOp) (n : ℕ) (ops : List PlainOp) (ps : List PipeOp) (accesses : List AccessNets) → AreAccesses copy d issue all n ops ps accesses
     → (a : AccessNets) → Contains accesses a → (k : ℕ) × (op : PlainOp) × IsOpAt ops k op × IsAccessAt copy d issue all n ps k op a

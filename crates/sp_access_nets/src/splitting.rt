@@ -22,11 +22,11 @@ fn answer_net(act: Act) -> Option<WordNet>
     }
 }
 
-/// The net of the number of a memory's copy.
-fn copy_net(copies: &[Option<NetId>], mem: u32) -> Option<NetId>
-    ensures { result ≡ copy_in copies.now mem }
+/// The net of the number of the copy on which the operation of a number acts.
+fn copy_net(copies: &[Option<NetId>], number: u32) -> Option<NetId>
+    ensures { result ≡ copy_in copies.now number }
 {
-    match copies.get(mem as usize) {
+    match copies.get(number as usize) {
         Some(net) => *net,
         None => None,
     }
@@ -76,13 +76,14 @@ fn add_accesses(
         mem,
         enable: *enable,
         operands: Vec::from_slice(alloc, operands)?,
-        copy: copy_net(copies, mem),
+        copy: copy_net(copies, number),
         answer: answer_net(first.act),
     })?;
     add_accesses(alloc, accesses, number + 1, later, rest, left, copies)
 }
 
-/// The accesses of a list of operations as its circuit has them, by the nets that carry the numbers of copies around it.
+/// The accesses of a list of operations as its circuit has them. `copies` has by the number of each operation the net that carries the
+/// number of the copy on which it acts, if there is one.
 pub fn accesses_of(
     alloc: Global,
     ops: &[Op],

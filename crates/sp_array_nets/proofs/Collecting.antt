@@ -18,7 +18,7 @@ use Rattle.sp_tree_handed.specs.declared.owners.OwnerNets.{OwnerNets}
 use Rattle.sp_tree_handed.specs.Standing.{AccessStands}
 use Rattle.sp_scalar_nets.specs.Lists.{answers_to, answer_net}
 use Rattle.sp_scalar_nets.proofs.Answering.{AnswersOn, in_answers, answers_in, in_answers_to, answer_in_to, answers_reader, rise_to, one_access}
-use Rattle.sp_scalar_nets.proofs.Fitting.{owners_stay}
+use Rattle.sp_scalar_nets.proofs.Fitting.{owners_stay, owners_copies_stay}
 use Rattle.sp_array_nets.specs.declared.array.Array.{Array}
 use Rattle.sp_array_nets.specs.Banks.{bank_at, stores_at, wires_at, wires_in}
 use Rattle.sp_array_nets.specs.Fits.{MemoryFits, MemoriesFit}
@@ -116,6 +116,7 @@ module _ (a b : Draft) (core : PlainCore) (plan : PlainPlan) (accesses : List Ac
     ported = λ e. HasNet-stays a b port _ f.grows (subst (λ n. HasNet a n (width_of (mem core m).ty)) (sym (at ∙ get_or_default arguments m port 0 (let e = h.each in omega (arith, e, l)))) (h.ports m l e));
     accesses_fit = accesses_fit_stay a b core accesses f.grows h.accesses_fit;
     owners_stand = owners_stay a b core owners f.grows h.owners_stand;
+    owners_copied = owners_copies_stay a b owners f.grows h.owners_copied;
     banks = array_stays a b core plan f.grows m (bank_at arrays m) (stores_at arrays m) still (h.arrays_stand.stand m l);
     awaiting = λ n c.
         let x = in_answers_to m accesses n c in

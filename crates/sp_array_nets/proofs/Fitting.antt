@@ -18,7 +18,6 @@ use Rattle.sp_core.specs.PlainCore.{PlainCore}
 use Rattle.sp_plan.specs.PlainPlan.{PlainPlan, mem_plan}
 use Rattle.sp_mem.specs.declared.part.Touch.{Touch}
 use Rattle.sp_mem.specs.Fits.{CopyFits, words_of}
-use Rattle.sp_mem.proofs.Kept.{copy_kept}
 use Rattle.sp_places.specs.declared.layout.Layout.{Layout}
 use Rattle.sp_requests.specs.Requests.{TouchFits}
 use Rattle.sp_taps.specs.declared.store.Store.{Store}
@@ -37,7 +36,7 @@ use Rattle.sp_scalar_nets.specs.Fits.{ScalarFits}
 use Rattle.sp_scalar_nets.specs.Lists as scalar
 use Rattle.sp_scalar_nets.specs.Lists.{answer_net, is_reader, answers_to}
 use Rattle.sp_scalar_nets.proofs.Answering.{reader_answers, answer_in_to, apart}
-use Rattle.sp_scalar_nets.proofs.Fitting.{accesses_stay}
+use Rattle.sp_scalar_nets.proofs.Fitting.{accesses_stay, copies_stay}
 use Rattle.sp_fifo_nets.specs.Fits.{FifoFits}
 use Rattle.sp_array_nets.specs.Arrays.{HasShapeOf, IsArrayOf}
 use Rattle.sp_array_nets.specs.Banks.{array_banking, banks_of_kind, size_of_kind}
@@ -59,7 +58,7 @@ queued_stays a b core x g h = record {
 pub accesses_fit_stay : (a b : Draft) (core : PlainCore) (accesses : List AccessNets) → Grows a b → AccessesFit a core accesses → AccessesFit b core accesses
 accesses_fit_stay a b core accesses g h = record {
   stand = accesses_stay a b core accesses g h.stand;
-  copied = All-weaker (λ (x : AccessNets). CopyFits a x.copy) (λ (x : AccessNets). CopyFits b x.copy) (λ x s. copy_kept a b g x.copy s) accesses h.copied;
+  copied = copies_stay a b accesses g h.copied;
   queued = All-weaker (QueuedStands a core) (QueuedStands b core) (λ x s. queued_stays a b core x g s) accesses h.queued;
   reads = h.reads;
 }
@@ -82,8 +81,10 @@ fifo_fits d core plan accesses owners port bank stores start m fifo h = record {
   fifo = fifo;
   starts = h.starts;
   accesses_stand = h.accesses_fit.stand;
+  accesses_copied = h.accesses_fit.copied;
   queued = h.accesses_fit.queued;
   owners_stand = h.owners_stand;
+  owners_copied = h.owners_copied;
   each = h.banks.each ∙ ap (λ k. banks_of_kind k ((mem_plan plan m).duplicates * ((mem_plan plan m).depth * (array_banking core plan m).banks)) (mem_plan plan m).depth) fifo;
   rows = h.banks.rows;
   wires = h.banks.wires;
@@ -94,14 +95,18 @@ fifo_fits d core plan accesses owners port bank stores start m fifo h = record {
 
 -- a memory that is neither an SRAM nor a FIFO fits as one word
 pub scalar_fits : (d : Draft) (core : PlainCore) (plan : PlainPlan) (accesses : List AccessNets) (owners : OwnerNets) (port bank : ℕ) (stores : List Store) (start m : ℕ)
-    → kind_of core m ≢ Sram → kind_of core m ≢ Fifo → MemoryFits d core plan accesses owners port bank stores start m → ScalarFits d core accesses owners port start m
+    → kind_of core m ≢ Sram → kind_of core m ≢ Fifo → MemoryFits d core plan accesses owners port bank stores start m → ScalarFits d core plan accesses owners port start m
 scalar_fits d core plan accesses owners port bank stores start m other fifo h = record {
   within = h.within;
+  planned = h.planned.memories;
+  copies = h.planned.copies m h.within;
   scalar = scalar_of (kind_of core m) h.stored other fifo;
   starts = h.starts;
   ported = h.ported;
   accesses_stand = h.accesses_fit.stand;
+  accesses_copied = h.accesses_fit.copied;
   owners_stand = h.owners_stand;
+  owners_copied = h.owners_copied;
   awaiting = h.awaiting;
   rise = h.rise;
 }

@@ -39,7 +39,7 @@ pub word_fills : (a b d : Draft) (core : PlainCore) (plan : PlainPlan) (m bank :
 word_fills a b d core plan m bank stores nets other fifo h f = subst (λ (ss : List Store). Fills a b (flat_map wires_of ss ++ nets)) (sym (none_of stores (h.each ∙ no_banks (kind_of core m) _ _ other fifo))) f
 
 pub word_runs : (core : PlainCore) (plan : PlainPlan) (s : Signals) (accesses : List AccessNets) (owners : OwnerNets) (port m net : ℕ) → kind_of core m ≢ Sram → kind_of core m ≢ Fifo
-    → word.RunsScalar core s accesses owners port m net → RunsMemory core plan s accesses owners port m net
+    → word.RunsScalar core plan s accesses owners port m net → RunsMemory core plan s accesses owners port m net
 word_runs core plan s accesses owners port m net other fifo (word.an_argument is same followed) = an_argument is same followed
 word_runs core plan s accesses owners port m net other fifo (word.a_register is runs) = a_register is other fifo runs
 

@@ -1,4 +1,4 @@
--- A valid plan gives what SRAMs need.
+-- A valid plan gives what memories need.
 use Rattle.std.proofs.Common.{◌≡◌, ℕ, ◌<◌, true, if◌then◌else◌, length, sym, ap, ◌∙◌, arith, lt-ltb}
 use Rattle.sp_words.specs.declared.kind.Kind.TheVariants.{Sram, Dram}
 use Rattle.sp_core.specs.Declarations.{mem, kind_of}
@@ -16,6 +16,6 @@ pub valid_plans_have_arrays : (core : PlainCore) (plan : PlainPlan) → PlansHav
 valid_plans_have_arrays core plan lie have forms meets w space = record {
   memories = w.valid.memories;
   layouts = λ m l sram layout of. ((lie forms meets w m (space m) layout).0 sram of).layout;
-  copies = λ m l sram. (let some = (have forms meets w m l).copy in omega (arith, some));
+  copies = λ m l. (let some = (have forms meets w m l).copy in omega (arith, some));
   duplicates = λ m l sram. (let some = (have forms meets w m l).duplicate (has_own_banks core m l sram) in omega (arith, some));
 }

@@ -32,7 +32,7 @@ module _ (core : PlainCore) (plan : PlainPlan) (m : ℕ) (part : Banked) (sram :
   pub shape_is : HasArrayPlan core plan → m < length core.mems → bank_count part < 2 ^ 32 → part.bank + bank_count part < 2 ^ 64 → IsShape part
   shape_is planned within few numbers = record {
     layout = planned.layouts m within sram part.layout h.layout;
-    copies = subst (λ n. 1 ≤ n) (sym h.copies) (planned.copies m within sram);
+    copies = subst (λ n. 1 ≤ n) (sym h.copies) (planned.copies m within);
     duplicates = subst (λ n. 1 ≤ n) (sym h.duplicates) (planned.duplicates m within sram);
     few = few;
     numbers = numbers;

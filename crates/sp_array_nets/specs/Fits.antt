@@ -17,6 +17,7 @@ use Rattle.sp_access_nets.specs.Laws.{answer_nets}
 use Rattle.sp_tree_handed.specs.declared.owners.OwnerNets.{OwnerNets}
 use Rattle.sp_tree_handed.specs.Standing.{AccessStands, OwnersStand}
 use Rattle.sp_tree_accesses.specs.Queued.{QueuedStands}
+use Rattle.sp_scalar_nets.specs.Fits.{OwnersNameCopies}
 use Rattle.sp_scalar_nets.specs.Lists.{answers_to}
 use Rattle.sp_array_nets.specs.declared.array.Array.{Array}
 use Rattle.sp_array_nets.specs.Banks.{HasArrayPlan, ArrayStands, ArraysStand}
@@ -38,6 +39,7 @@ pub record MemoryFits (d : Draft) (core : PlainCore) (plan : PlainPlan) (accesse
   pub ported : kind_of core m ≡ ArgIn → HasNet d port (width_of (mem core m).ty)
   pub accesses_fit : AccessesFit d core accesses
   pub owners_stand : OwnersStand d core owners
+  pub owners_copied : OwnersNameCopies d owners
   pub banks : ArrayStands d core plan m bank stores
   -- its readers wait for their words, each on a net of its own
   pub awaiting : (net : ℕ) → Contains (answers_to m accesses) net → IsOpen d net
@@ -54,6 +56,7 @@ pub record MemoriesFit (d : Draft) (core : PlainCore) (plan : PlainPlan) (access
   pub accesses_fit : AccessesFit d core accesses
   pub within : All (λ (a : AccessNets). a.mem < length core.mems) accesses
   pub owners_stand : OwnersStand d core owners
+  pub owners_copied : OwnersNameCopies d owners
   pub arrays_stand : ArraysStand d core plan arrays
   -- accesses wait for their answers, each on a net of its own
   pub awaiting : (net : ℕ) → Contains (answer_nets accesses) net → IsOpen d net

@@ -13,11 +13,11 @@ use Rattle.sp_scalar_nets.specs.Runs.{IsFollowed, RunsWord}
 use Rattle.sp_fifo_nets.specs.Runs.{RunsFifo}
 use Rattle.sp_array_nets.specs.Arrays.{IsArrayOf}
 
--- The word of a memory is on a net: that of an argument on its port, that of a register or an output in a register. The words of an SRAM
+-- The word of a memory is on a net: that of an argument on its port, that of a register or an output in a register, in its copy 0. The words of an SRAM
 -- are in banks, and on no net; so are those of a FIFO.
 pub data RunsMemory (core : PlainCore) (plan : PlainPlan) (s : Signals) (accesses : List AccessNets) (owners : OwnerNets) (port m net : ℕ) : Type 0 where
   an_argument : kind_of core m ≡ ArgIn → net ≡ port → IsFollowed s accesses m port → RunsMemory core plan s accesses owners port m net
-  a_register : kind_of core m ≢ ArgIn → kind_of core m ≢ Sram → kind_of core m ≢ Fifo → RunsWord core s accesses owners m net → RunsMemory core plan s accesses owners port m net
+  a_register : kind_of core m ≢ ArgIn → kind_of core m ≢ Sram → kind_of core m ≢ Fifo → RunsWord core plan s accesses owners m net → RunsMemory core plan s accesses owners port m net
   an_array : kind_of core m ≡ Sram → (part : Banked) → IsArrayOf core plan accesses m part → RunsBanked s part → RunsMemory core plan s accesses owners port m net
   a_fifo : kind_of core m ≡ Fifo → (bank : ℕ) → RunsFifo core plan s accesses owners m bank → RunsMemory core plan s accesses owners port m net
 

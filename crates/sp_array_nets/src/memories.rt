@@ -30,13 +30,13 @@ use sp_tree_handed::OwnerNets;
 use sp_words::Kind;
 use std::alloc::Global;
 
-/// The nets of the words of a core's memories, by the memory's number; of an SRAM or a FIFO any net.
+/// The nets of the words of a core's memories in their copies 0, by the memory's number; of an SRAM or a FIFO any net.
 #[derive(Debug, Drop)]
 pub struct MemoryNets {
     pub words: Vec<NetId>,
 }
 
-/// Emits a memory. The net has its word; that of an argument is its port, and for an SRAM or a FIFO any net stands.
+/// Emits a memory. The net has the word of its copy 0; that of an argument is its port, and for an SRAM or a FIFO any net stands.
 fn emit_memory(
     alloc: Global,
     builder: &mut Builder,
@@ -75,15 +75,15 @@ fn emit_memory(
             Ok(start)
         }
         _ => {
-            let net = emit_scalar(alloc, builder, core, accesses, owners, port, start, m)?;
+            let net = emit_scalar(alloc, builder, core, plan, accesses, owners, port, start, m)?;
             Ok(net)
         }
     }
 }
 
-/// Emits the memories of a core of which each is a register, an argument, an output, an SRAM or a FIFO: a register in one copy, an
-/// SRAM and a FIFO in banks that were added before. Each access that is to be answered is so a cycle later, and two cycles later by an
-/// SRAM or a FIFO.
+/// Emits the memories of a core of which each is a register, an argument, an output, an SRAM or a FIFO, each in as many copies as a plan
+/// has: an SRAM and a FIFO in banks that were added before. Each access that is to be answered is so a cycle later, and two cycles later
+/// by an SRAM or a FIFO.
 /// `arguments` has the nets of the arguments' ports by the memory's number, and anything else at other numbers; `start` is 1 in
 /// the cycle in which a run begins.
 pub fn emit_memories(

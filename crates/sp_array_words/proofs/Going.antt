@@ -1,5 +1,5 @@
 -- The accesses of an SRAM are those of its circuit, and each read is answered.
-use Rattle.std.proofs.Common.{◌≡◌, ◌≢◌, ℕ, suc, ◌<◌, ◌^◌, inl, inr, List, [], ◌∷◌, ◌++◌, length, map, All, Option, Some, refl, sym, ap, subst, ◌∙◌, arith}
+use Rattle.std.proofs.Common.{◌≡◌, ◌≢◌, ℕ, suc, ◌<◌, ◌^◌, inl, inr, List, [], ◌∷◌, ◌++◌, map, All, Option, Some, refl, sym, ap, subst, ◌∙◌, arith}
 use Rattle.std.specs.List.{AllZip, Contains, filter}
 use Rattle.std.proofs.lemmas.List.Elements.{All-contains}
 use Rattle.sp_words.specs.declared.kind.Kind.{Kind}
@@ -9,13 +9,11 @@ use Rattle.sp_netlist.specs.Signals.{Signals}
 use Rattle.sp_core.specs.declared.operation.OpKind.{OpKind}
 use Rattle.sp_core.specs.declared.operation.OpKind.TheVariants.{Read, Write}
 use Rattle.sp_core.specs.Declarations.{kind_of}
-use Rattle.sp_core.specs.Events.{Event, touches}
 use Rattle.sp_core.specs.Latency.{read_latency}
 use Rattle.sp_core.specs.PlainCore.{PlainCore}
-use Rattle.sp_plan.specs.PlainPlan.{PlainPlan, mem_plan}
+use Rattle.sp_plan.specs.PlainPlan.{PlainPlan}
 use Rattle.sp_time.specs.Places.{Place}
 use Rattle.sp_machine.specs.Stamps.{Stamped}
-use Rattle.sp_core_ports.specs.CopiesLaws.{HasCopy}
 use Rattle.sp_core_ports.specs.UsedReaders.{duplicate_at}
 use Rattle.sp_mem.specs.declared.part.Touch.{Touch}
 use Rattle.sp_mem.specs.Copies.{copy_at}
@@ -30,7 +28,6 @@ use Rattle.sp_bank_words.specs.Accesses.{reads_in, writes_in, IsMemoryOf}
 use Rattle.sp_bank_words.specs.Acting.{StandsInTime, WriteGoes, ReadGoes, MemoryGoes}
 use Rattle.sp_bank_words.specs.Acting as acting
 use Rattle.sp_bank_words.specs.Laws.{OperationsGo}
-use Rattle.sp_bank_words.proofs.Events.{each_at}
 use Rattle.sp_bank_words.proofs.Filtered.{filter_has, filter_from}
 use Rattle.sp_access_nets.specs.declared.access.AccessNets.{AccessNets}
 use Rattle.sp_access_nets.specs.Picking.{is_to, PicksAccessesTo}
@@ -57,7 +54,7 @@ writing m accesses = map (λ (a : AccessNets). a.number) (filter (is_to m Write)
 no_argument : (k : Kind) → k ≡ Sram → k ≢ ArgIn
 no_argument k e h = absurd (cc (e, h))
 
-module _ (core : PlainCore) (plan : PlainPlan) (s : Signals) (events : List Stamped) (last : ℕ) (accesses : List AccessNets) (owners : OwnerNets) (h : MemoriesInTime core plan s events last accesses owners) (first : Place → Option Contents) (well : HappensWell core plan events first)
+module _ (core : PlainCore) (plan : PlainPlan) (s : Signals) (events : List Stamped) (last : ℕ) (accesses : List AccessNets) (owners : OwnerNets) (h : MemoriesInTime core s events last accesses owners) (first : Place → Option Contents) (well : HappensWell core plan events first)
     (stays : OperationsStay core plan) (m : ℕ) (sram : kind_of core m ≡ Sram) where
   -- an access of a kind to the memory
   record IsOne (a : AccessNets) (kind : OpKind) : Type 0 where
@@ -71,20 +68,12 @@ module _ (core : PlainCore) (plan : PlainPlan) (s : Signals) (events : List Stam
   acts : (a : AccessNets) (kind : OpKind) → IsOne a kind → ActsInTime s events last a.number kind a.enable a.operands.items
   acts a kind o = subst (λ q. ActsInTime s events last a.number q a.enable a.operands.items) o.kind_is (h.in_banks a o.there (subst IsInBanks (sym (ap (kind_of core) o.mem ∙ sram)) tt))
 
-  -- it names copy 0, at which its events are, and its indices have no sign
+  -- it names the copies of its events, and its indices have no sign
   stands : (a : AccessNets) (kind : OpKind) → IsOne a kind → (touch : Touch) → touch.copy ≡ a.copy → touch.index.items ≡ index_words kind a.operands.items → StandsInTime s events last a.number touch
   stands a kind o touch copied indexed = record {
-    copy = λ t c e l there n. ap (copy_at s t) (copied ∙ h.uncopied a o.there) ∙ sym (zero_copy t c e there n);
+    copy = λ t c e l there n. ap (copy_at s t) copied ∙ h.named a o.there t e (record { copy = c; there = there; numbered = n }) l;
     index = λ t e l happens. subst (All (λ net. s.net t net < 2 ^ 31)) (sym indexed) ((acts a kind o).index t e l happens);
   }
-    where
-      zero_copy : (t c : ℕ) (e : Event) → Contains events (record { cycle = t; copy = c; moment = touches e }) → e.number ≡ a.number → c ≡ 0
-      zero_copy t c e there n =
-          let of_m = (stays events first well m a.number kind (operation a kind o) t e (record { copy = c; there = there; numbered = n })).0 in
-          let within : m < length core.mems = subst (λ j. j < length core.mems) o.mem (All-contains (λ (x : AccessNets). x.mem < length core.mems) accesses a h.within o.there) in
-          let below : c < (mem_plan plan m).depth = subst (λ j. j < length core.mems → c < (mem_plan plan j).depth) of_m (each_at (λ x. HasCopy core plan x.copy x.moment) events well.copied _ there) within in
-          let one = h.one_copy m within in
-          omega (arith, below, one)
 
   module _ (go : (u n : ℕ) (touch : Touch) → OperationsGo core plan s events m u n touch) where
     read_goes : (a : AccessNets) (touch : Touch) → IsOne a Read → IsReadBy core plan a touch → ReadGoes core plan s m (reads_in m events) last a.number touch

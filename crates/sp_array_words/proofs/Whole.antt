@@ -84,5 +84,5 @@ module _ (core : PlainCore) (plan : PlainPlan) (delays : Delays) where
       inside : a.mem < length core.mems
       inside = All-contains (λ (x : AccessNets). x.mem < length core.mems) accesses a in_time.within c
 
-      by_scalar : a.kind ≡ Read → IsScalar (kind_of core a.mem) → scalar.RunsScalar core s accesses owners (slice_index arguments a.mem) a.mem (slice_index words a.mem) → IsAnswered s (core_timed core plan delays h).events (suc last) a.number Read w.after w.net
+      by_scalar : a.kind ≡ Read → IsScalar (kind_of core a.mem) → scalar.RunsScalar core plan s accesses owners (slice_index arguments a.mem) a.mem (slice_index words a.mem) → IsAnswered s (core_timed core plan delays h).events (suc last) a.number Read w.after w.net
       by_scalar read is r = scalars s (core_timed core plan delays h).events last accesses owners input in_time well later a w c read e is (slice_index arguments a.mem) (slice_index words a.mem) r (given a.mem inside)

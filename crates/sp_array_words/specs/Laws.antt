@@ -37,7 +37,7 @@ module _ (core : PlainCore) (plan : PlainPlan) where
   -- up to the cycle after, the net of a register or an output has the word that stands there
   abbrev pub MemoriesHold : Type 0
   MemoriesHold =
-      (s : Signals) (events : List Stamped) (last : ℕ) (accesses : List AccessNets) (owners : OwnerNets) (input : PlainInput) → MemoriesInTime core plan s events last accesses owners → HappensWell core plan events (first_contents core input)
+      (s : Signals) (events : List Stamped) (last : ℕ) (accesses : List AccessNets) (owners : OwnerNets) (input : PlainInput) → MemoriesInTime core s events last accesses owners → HappensWell core plan events (first_contents core input)
       → (arguments words : List ℕ) → RunMemories core plan s accesses owners arguments words → (m : ℕ) → m < length core.mems → IsRegister (kind_of core m)
       → (t : ℕ) → t ≤ suc last → HasWord core (standing core events (first_contents core input) t (copy_place m 0)) (s.net t (slice_index words m))
 
@@ -47,7 +47,7 @@ module _ (core : PlainCore) (plan : PlainPlan) (delays : Delays) where
   abbrev pub ArraysAnswer : Type 0
   ArraysAnswer =
       (input : PlainInput) (h : History) (end : Store) → GoesWell core plan delays input h end → HappensWell core plan (core_timed core plan delays h).events (first_contents core input) → HasNoTransfer core.root
-      → (s : Signals) (last : ℕ) (accesses : List AccessNets) (owners : OwnerNets) → MemoriesInTime core plan s (core_timed core plan delays h).events last accesses owners
+      → (s : Signals) (last : ℕ) (accesses : List AccessNets) (owners : OwnerNets) → MemoriesInTime core s (core_timed core plan delays h).events last accesses owners
       → (m : ℕ) (part : Banked) → kind_of core m ≡ Sram → IsArrayOf core plan accesses m part → RunsBanked s part
       → (a : AccessNets) (w : WordNet) → Contains accesses a → a.mem ≡ m → a.kind ≡ Read → a.answer ≡ Some w → IsAnswered s (core_timed core plan delays h).events (suc last) a.number Read w.after w.net
 
@@ -55,6 +55,6 @@ module _ (core : PlainCore) (plan : PlainPlan) (delays : Delays) where
   abbrev pub MemoriesAnswer : Type 0
   MemoriesAnswer =
       (input : PlainInput) (h : History) (end : Store) → GoesWell core plan delays input h end → HappensWell core plan (core_timed core plan delays h).events (first_contents core input) → HasNoTransfer core.root → IsTimed core.root
-      → (s : Signals) (last : ℕ) (accesses : List AccessNets) (owners : OwnerNets) → MemoriesInTime core plan s (core_timed core plan delays h).events last accesses owners → (d : Draft) → All (QueuedStands d core) accesses
+      → (s : Signals) (last : ℕ) (accesses : List AccessNets) (owners : OwnerNets) → MemoriesInTime core s (core_timed core plan delays h).events last accesses owners → (d : Draft) → All (QueuedStands d core) accesses
       → AreEmitted core → (arguments words : List ℕ) → RunMemories core plan s accesses owners arguments words → ArgumentsGiven core input s arguments → ArgumentsAreLater core (core_timed core plan delays h).events accesses
       → (a : AccessNets) (w : WordNet) → Contains accesses a → a.answer ≡ Some w → IsAnswered s (core_timed core plan delays h).events (suc last) a.number a.kind w.after w.net

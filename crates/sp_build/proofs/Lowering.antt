@@ -225,6 +225,7 @@ can_lower p plan valid is by arrays planned short h =
             (record { is_core = is; is_timed = timed core core.root b.tree; by_lane = by; valid = valid core (forms_of p) planned.meets plan is planned.is_planned })
             (in_space core (forms_of p) plan planned.is_planned.schemes);
         bounds = reads_arguments core b.tree;
+        single = single core plan planned.is_planned.memories b.singles;
       };
       stored = record {
         right = is;
@@ -233,7 +234,6 @@ can_lower p plan valid is by arrays planned short h =
         uncounted = uncounted core.root b.root;
         stored = stored core b.are_stored;
         arguments = reads_arguments core b.tree;
-        single = single core plan planned.is_planned.memories b.singles;
       };
     }
 

@@ -29,15 +29,15 @@ use Rattle.sp_fifo_nets.specs.Runs.{IsFifoOf}
 
 module _ (d : Draft) (core : PlainCore) (plan : PlainPlan) (accesses : List AccessNets) (owners : OwnerNets) (bank : ℕ) (stores : List Store) (start m : ℕ) (fits : FifoFits d core plan accesses owners bank stores start m) where
   puts_give : PicksAccessesTo → All (IsGiving d (width_at core m)) (puts_to m accesses)
-  puts_give picks = each_of put_of (IsGiving d (width_at core m)) (is_to m Enq) (λ a. AccessStands d core a × QueuedStands d core a) accesses (λ k e l. (fits.accesses_stand k e l, fits.queued k e l)) (λ a t s.
+  puts_give picks = each_of put_of (IsGiving d (width_at core m)) (is_to m Enq) (λ a. AccessStands d core a × CopyFits d a.copy × QueuedStands d core a) accesses (λ k e l. (fits.accesses_stand k e l, fits.accesses_copied k e l, fits.queued k e l)) (λ a t s.
       let is = (picks m Enq a refl).0 t in
-      record { copy = refl; enable = s.0.enable; word = wide_at d core m _ a.mem is.0 (subst (λ k. HasNet d (word_that_changes k a.operands.items) (width_at core a.mem)) is.1 (s.1.word is.1)) })
+      record { copy = s.1; enable = s.0.enable; word = wide_at d core m _ a.mem is.0 (subst (λ k. HasNet d (word_that_changes k a.operands.items) (width_at core a.mem)) is.1 (s.2.word is.1)) })
 
   takes_fit : (part : Queue) → IsFifoOf core plan accesses owners m part → TakesFit d part
   takes_fit part is =
-      let wait = answers_wait d core accesses m fits.accesses_stand fits.awaiting part.takes.items is.takes in
+      let wait = answers_wait d core accesses m fits.accesses_stand fits.accesses_copied fits.awaiting part.takes.items is.takes in
       record {
-        takes = λ k t l. let it = wait k t l in record { enable = it.enable; copy = subst (CopyFits d) (sym it.copy) tt };
+        takes = λ k t l. let it = wait k t l in record { enable = it.enable; copy = it.copy };
         found = subst (λ (ty : Ty). All (λ (r : Touch). Awaits d r.word (width_of ty)) part.takes.items) (sym is.ty) (λ k t l. (wait k t l).word);
         apart = reads_apart m accesses fits.rise part.takes.items is.takes;
       }
@@ -46,7 +46,7 @@ module _ (d : Draft) (core : PlainCore) (plan : PlainPlan) (accesses : List Acce
   queue_fits picks part at len is = record {
     start = subst (λ n. HasNet d n 1) (sym at) fits.starts;
     depth = len;
-    fresh = subst (All (FreshFits d)) (sym is.fresh) (fresh_fits d core accesses owners m fits.accesses_stand fits.owners_stand);
+    fresh = subst (All (FreshFits d)) (sym is.fresh) (fresh_fits d core accesses owners m fits.accesses_stand fits.accesses_copied fits.owners_stand fits.owners_copied);
     puts = subst (λ (ty : Ty). All (WriteFits d (width_of ty)) part.puts.items) (sym is.ty) (gives_fit d (width_at core m) (puts_to m accesses) part.puts.items is.puts (puts_give picks));
     takes = takes_fit part is;
   }

@@ -8,6 +8,7 @@ use Rattle.sp_gates.specs.Nets.{HasNet, IsOpen}
 use Rattle.sp_core.specs.Declarations.{mem, kind_of, depth}
 use Rattle.sp_core.specs.PlainCore.{PlainCore}
 use Rattle.sp_plan.specs.PlainPlan.{PlainPlan, mem_plan}
+use Rattle.sp_mem.specs.Fits.{CopyFits}
 use Rattle.sp_taps.specs.declared.store.Store.{Store}
 use Rattle.sp_taps.specs.Wires.{AreInRows, AreWires}
 use Rattle.sp_taps.specs.Stores.{AreStores}
@@ -16,6 +17,7 @@ use Rattle.sp_access_nets.specs.declared.access.AccessNets.{AccessNets}
 use Rattle.sp_tree_handed.specs.declared.owners.OwnerNets.{OwnerNets}
 use Rattle.sp_tree_handed.specs.Standing.{AccessStands, OwnersStand}
 use Rattle.sp_tree_accesses.specs.Queued.{QueuedStands}
+use Rattle.sp_scalar_nets.specs.Fits.{OwnersNameCopies}
 use Rattle.sp_scalar_nets.specs.Lists.{answers_to}
 
 -- its banks were added before, one for each copy by the plan, as long as the FIFO is deep
@@ -25,8 +27,10 @@ pub record FifoFits (d : Draft) (core : PlainCore) (plan : PlainPlan) (accesses 
   pub fifo : kind_of core m ≡ Fifo
   pub starts : HasNet d start 1
   pub accesses_stand : All (AccessStands d core) accesses
+  pub accesses_copied : All (λ (a : AccessNets). CopyFits d a.copy) accesses
   pub queued : All (QueuedStands d core) accesses
   pub owners_stand : OwnersStand d core owners
+  pub owners_copied : OwnersNameCopies d owners
   pub each : length stores ≡ (mem_plan plan m).depth
   pub rows : (first : ℕ) × AreInRows first stores
   pub wires : All (AreWires d (width_of (mem core m).ty)) stores

@@ -11,11 +11,11 @@ ghost use Rattle.sp_plan.specs.PlainPlan.{mem_plan};
 ghost use Rattle.sp_taps.specs.Wires.{Promises, AreInRows, AreWires, wires_of};
 ghost use Rattle.sp_taps.specs.Stores.{AreStores, AddsBanks, bank_cells};
 
-use crate::shape::{copies_of, depth_of};
+use crate::shape::depth_of;
 use sp_core::Core;
 use sp_netlist::{Builder, NoMemory};
 use sp_plan::Plan;
-use sp_scalar_nets::memory;
+use sp_scalar_nets::{copies_of, memory};
 use sp_taps::{Store, add_stores};
 use std::alloc::Global;
 

@@ -14,13 +14,13 @@ ghost use Rattle.sp_fifo_nets.specs.Fits.{FifoFits};
 ghost use Rattle.sp_fifo_nets.specs.Runs.{IsFifoOf, RunsFifo};
 
 use crate::puts::puts_to;
-use crate::shape::{copies_of, depth_of};
+use crate::shape::depth_of;
 use sp_access_nets::{AccessNets, picks_accesses_to};
 use sp_core::Core;
 use sp_netlist::{Builder, NetId, NoMemory};
 use sp_plan::Plan;
 use sp_queue::{Queue, emit_queue};
-use sp_scalar_nets::{fresh_to, has_reset, memory, reads_to};
+use sp_scalar_nets::{copies_of, fresh_to, has_reset, memory, reads_to};
 use sp_taps::Store;
 use sp_tree_handed::OwnerNets;
 use std::alloc::Global;

@@ -34,7 +34,8 @@ fn add_puts(
         return Ok(());
     };
     if is_to(access, mem, OpKind::Enq) {
-        puts.push(touch(alloc, access.enable, put_net(&access.operands)))?;
+        let word = put_net(&access.operands);
+        puts.push(touch(alloc, access.enable, access.copy, word))?;
     }
     add_puts(alloc, puts, mem, rest)
 }

@@ -1,14 +1,11 @@
-//! The sizes of a FIFO.
+//! The size of a FIFO.
 ghost use Rattle.std.specs.Prelude.{◌≡◌, ◌<◌, length};
 ghost use Rattle.sp_words.specs.declared.kind.Kind.TheVariants.{Fifo};
 ghost use Rattle.sp_netlist.specs.Rules.{IsLength};
 ghost use Rattle.sp_core.specs.CoreParts.{plain_core};
 ghost use Rattle.sp_core.specs.Declarations.{kind_of, depth};
-ghost use Rattle.sp_plan.specs.Plain.{plain_plan};
-ghost use Rattle.sp_plan.specs.PlainPlan.{mem_plan};
 
 use sp_core::Core;
-use sp_plan::Plan;
 use sp_scalar_nets::memory;
 
 /// How many words a FIFO holds: its one dimension.
@@ -19,12 +16,4 @@ pub(crate) fn depth_of(core: &Core, m: u32) -> u32
     ensures length { IsLength result }
 {
     memory(core, m).dims[0]
-}
-
-/// How many copies a memory has by a plan.
-pub(crate) fn copies_of(plan: &Plan, m: u32) -> u32
-    requires { m < length (plain_plan plan.now).mems }
-    ensures { result ≡ (mem_plan (plain_plan plan.now) m).depth }
-{
-    plan.mems[m as usize].depth
 }

@@ -1,22 +1,18 @@
 -- The circuit of a FIFO is asked all puts and takes of the FIFO's operations.
-use Rattle.std.proofs.Common.{◌≡◌, ◌≢◌, ℕ, ◌<◌, List, length, map, Contains, Option, Some, None, true, refl, sym, ap, subst}
+use Rattle.std.proofs.Common.{◌≡◌, ◌≢◌, ℕ, List, map, Contains, Some, true, refl, sym, ap, subst}
 use Rattle.std.specs.List.{filter}
 use Rattle.std.proofs.lemmas.List.Elements.{All-contains}
 use Rattle.std.specs.Prelude.{All}
-use Rattle.sp_words.specs.Memory.{Contents}
 use Rattle.sp_netlist.specs.Draft.{Draft}
 use Rattle.sp_netlist.specs.Signals.{Signals}
 use Rattle.sp_core.specs.declared.operation.OpKind.{OpKind}
 use Rattle.sp_core.specs.declared.operation.OpKind.TheVariants.{Read, Enq, Deq}
 use Rattle.sp_core.specs.Declarations.{kind_of}
 use Rattle.sp_core.specs.PlainCore.{PlainCore}
-use Rattle.sp_plan.specs.PlainPlan.{PlainPlan}
-use Rattle.sp_time.specs.Places.{Place}
 use Rattle.sp_machine.specs.Stamps.{Stamped}
 use Rattle.sp_mem.specs.declared.part.Touch.{Touch}
 use Rattle.sp_circuit_ops.specs.declared.ops.WordNet.{WordNet}
-use Rattle.sp_memory_words.specs.Accesses.{IsOperation, IsAccess, GivesWord, HasAllPuts, HasAllTakes, OperationsStay}
-use Rattle.sp_memory_words.specs.Moments.{HappensWell}
+use Rattle.sp_memory_words.specs.Accesses.{IsOperation, IsAccess, GivesWord, HasAllPuts, HasAllTakes}
 use Rattle.sp_access_nets.specs.declared.access.AccessNets.{AccessNets}
 use Rattle.sp_access_nets.specs.Picking.{is_to, PicksAccessesTo}
 use Rattle.sp_tree_handed.specs.declared.owners.OwnerNets.{OwnerNets}
@@ -34,8 +30,7 @@ put_no_read k e h = absurd (cc (e, h))
 take_no_read : (k : OpKind) → k ≡ Deq → k ≢ Read
 take_no_read k e h = absurd (cc (e, h))
 
-module _ (core : PlainCore) (plan : PlainPlan) (s : Signals) (events : List Stamped) (last : ℕ) (accesses : List AccessNets) (owners : OwnerNets) (h : MemoriesInTime core plan s events last accesses owners) (first : Place → Option Contents) (well : HappensWell core plan events first) (m : ℕ) (within : m < length core.mems)
-    (picks : PicksAccessesTo) (stays : OperationsStay core plan) where
+module _ (core : PlainCore) (s : Signals) (events : List Stamped) (last : ℕ) (accesses : List AccessNets) (owners : OwnerNets) (h : MemoriesInTime core s events last accesses owners) (m : ℕ) (picks : PicksAccessesTo) where
   module _ (d : Draft) (queued : All (QueuedStands d core) accesses) (list : List Touch) (is : map plain_touch list ≡ puts_to m accesses) where
     from_put : (w : Touch) → (a : AccessNets) × Contains accesses a × (is_to m Enq a ≡ true) × (put_of a ≡ plain_touch w) → GivesWord core s events last m Enq w
     from_put w (a, c, t, e) =
@@ -43,7 +38,7 @@ module _ (core : PlainCore) (plan : PlainPlan) (s : Signals) (events : List Stam
         record {
           number = a.number;
           operands = a.operands.items;
-          access = access core plan s events last accesses owners h first well m within picks stays Enq a w.enable w.copy c p.0 p.1 (put_no_read Enq refl) (ap (λ (x : PlainTouch). x.enable) e) (sym (ap (λ (x : PlainTouch). x.copy) e));
+          access = access core s events last accesses owners h m picks Enq a w.enable w.copy c p.0 p.1 (put_no_read Enq refl) (ap (λ (x : PlainTouch). x.enable) e) (ap (λ (x : PlainTouch). x.copy) e);
           some = (All-contains (QueuedStands d core) accesses a queued c).some p.1;
           word = sym (ap (λ (x : PlainTouch). x.word) e);
         }
@@ -59,7 +54,7 @@ module _ (core : PlainCore) (plan : PlainPlan) (s : Signals) (events : List Stam
           a.0.operands.items,
           w.1,
           subst (λ j. IsAccess core s events last m Enq j w.0.enable a.0.operands.items w.0.copy) a.2
-              (access core plan s events last accesses owners h first well m within picks stays Enq a.0 w.0.enable w.0.copy a.1 a.3 a.4 (put_no_read Enq refl) (sym (ap (λ (x : PlainTouch). x.enable) w.2)) (ap (λ (x : PlainTouch). x.copy) w.2)),
+              (access core s events last accesses owners h m picks Enq a.0 w.0.enable w.0.copy a.1 a.3 a.4 (put_no_read Enq refl) (sym (ap (λ (x : PlainTouch). x.enable) w.2)) (sym (ap (λ (x : PlainTouch). x.copy) w.2))),
         )
 
     pub all_puts : HasAllPuts core s events last m list
@@ -73,7 +68,7 @@ module _ (core : PlainCore) (plan : PlainPlan) (s : Signals) (events : List Stam
         let r = reader_answers m a t in (
           a.number,
           a.operands.items,
-          access core plan s events last accesses owners h first well m within picks stays Deq a w.enable w.copy c r.0 (takes a r.1 c r.0 r.2) (take_no_read Deq refl) (ap (λ (x : PlainTouch). x.enable) e) (sym (ap (λ (x : PlainTouch). x.copy) e)),
+          access core s events last accesses owners h m picks Deq a w.enable w.copy c r.0 (takes a r.1 c r.0 r.2) (take_no_read Deq refl) (ap (λ (x : PlainTouch). x.enable) e) (ap (λ (x : PlainTouch). x.copy) e),
         )
 
     has_take : (n : ℕ) → IsOperation core m Deq n → (w : Touch) × (operands : List ℕ) × Contains list w × IsAccess core s events last m Deq n w.enable operands w.copy
@@ -85,7 +80,7 @@ module _ (core : PlainCore) (plan : PlainPlan) (s : Signals) (events : List Stam
           a.0.operands.items,
           w.1,
           subst (λ j. IsAccess core s events last m Deq j w.0.enable a.0.operands.items w.0.copy) a.2
-              (access core plan s events last accesses owners h first well m within picks stays Deq a.0 w.0.enable w.0.copy a.1 a.3 a.4 (take_no_read Deq refl) (sym (ap (λ (x : PlainTouch). x.enable) w.2)) (ap (λ (x : PlainTouch). x.copy) w.2)),
+              (access core s events last accesses owners h m picks Deq a.0 w.0.enable w.0.copy a.1 a.3 a.4 (take_no_read Deq refl) (sym (ap (λ (x : PlainTouch). x.enable) w.2)) (sym (ap (λ (x : PlainTouch). x.copy) w.2))),
         )
 
     pub all_takes : HasAllTakes core s events last m list

@@ -1,5 +1,5 @@
 -- Each take from a FIFO is answered with its word.
-use Rattle.std.proofs.Common.{◌≡◌, ◌≢◌, ℕ, suc, ◌+◌, ◌<◌, ◌≤◌, inl, inr, Bool, true, false, if◌then◌else◌, List, [], ◌∷◌, ◌++◌, length, map, max, Contains, Option, Some, None, refl, sym, ap, subst, ◌∙◌, arith}
+use Rattle.std.proofs.Common.{◌≡◌, ◌≢◌, ℕ, suc, ◌+◌, ◌<◌, ◌≤◌, inl, inr, Bool, true, false, if◌then◌else◌, List, [], ◌∷◌, ◌++◌, length, map, max, Contains, Option, Some, refl, sym, ap, subst, ◌∙◌, arith}
 use Rattle.std.proofs.lemmas.List.Elements.{All-contains}
 use Rattle.std.specs.Prelude.{All}
 use Rattle.sp_words.specs.declared.kind.Kind.{Kind}
@@ -20,7 +20,7 @@ use Rattle.sp_mem.specs.declared.part.Touch.{Touch}
 use Rattle.sp_circuit_ops.specs.declared.ops.WordNet.{WordNet}
 use Rattle.sp_queue.specs.Takes.{RunsTakes}
 use Rattle.sp_memory_words.specs.Accesses.{IsOperation, IsStill, AccessesAsk, OperationsStay}
-use Rattle.sp_memory_words.specs.Answers.{IsAnswered}
+use Rattle.sp_memory_words.specs.Answers.{IsAnswered, NamesCopies}
 use Rattle.sp_memory_words.specs.Moments.{HappensWell}
 use Rattle.sp_memory_words.specs.Queues.{IsQueueOf, QueueGoes, QueuesGo}
 use Rattle.sp_memory_words.specs.Registers.{copy_place}
@@ -31,7 +31,7 @@ use Rattle.sp_tree_accesses.specs.Queued.{QueuedStands}
 use Rattle.sp_scalar_nets.specs.Lists.{PlainTouch, plain_touch, answer_net, read_of}
 use Rattle.sp_scalar_nets.proofs.Answering.{read_in}
 use Rattle.sp_scalar_words.specs.InTime.{MemoriesInTime}
-use Rattle.sp_scalar_words.proofs.Asked.{from_mapped, names, all_fresh}
+use Rattle.sp_scalar_words.proofs.Asked.{from_mapped, all_fresh}
 use Rattle.sp_fifo_nets.specs.Runs.{RunsFifo}
 use Rattle.sp_fifo_words.specs.Laws.{FifosAnswer}
 use Rattle.sp_fifo_words.proofs.Asking.{all_puts, all_takes}
@@ -59,7 +59,7 @@ none_yet : (core : PlainCore) (k : Kind) (ds : List ℕ) (c : Option Contents) (
 none_yet core k ds c i e = ap (λ j. queue_of (contents_at core j ds c i)) e
 
 module _ (core : PlainCore) (plan : PlainPlan) (picks : PicksAccessesTo) (asks : AccessesAsk core plan) (stays : OperationsStay core plan) (go : QueuesGo core plan) where
-  module _ (timed : IsTimed core.root) (s : Signals) (events : List Stamped) (last : ℕ) (accesses : List AccessNets) (owners : OwnerNets) (input : PlainInput) (h : MemoriesInTime core plan s events last accesses owners) (well : HappensWell core plan events (first_contents core input))
+  module _ (timed : IsTimed core.root) (s : Signals) (events : List Stamped) (last : ℕ) (accesses : List AccessNets) (owners : OwnerNets) (input : PlainInput) (h : MemoriesInTime core s events last accesses owners) (well : HappensWell core plan events (first_contents core input))
       (d : Draft) (queued : All (QueuedStands d core) accesses) (m bank : ℕ) (within : m < length core.mems) (fifo : kind_of core m ≡ Fifo) (r : RunsFifo core plan s accesses owners m bank) where
     of_queue : (a : AccessNets) → Contains accesses a → QueuedStands d core a
     of_queue a c = All-contains (QueuedStands d core) accesses a queued c
@@ -80,10 +80,10 @@ module _ (core : PlainCore) (plan : PlainPlan) (picks : PicksAccessesTo) (asks :
           deep = (let same = room_is core m timed in let own = r.is.depth in omega (arith, same, own));
           empty = λ c. none_yet core (kind_of core m) _ _ _ fifo;
           runs = r.runs;
-          are_puts = asked.puts s last r.part.puts.items (all_puts core plan s events last accesses owners h (first_contents core input) well m within picks stays d queued r.part.puts.items r.is.puts);
+          are_puts = asked.puts s last r.part.puts.items (all_puts core s events last accesses owners h m picks d queued r.part.puts.items r.is.puts);
           are_takes = asked.takes s last r.part.takes.items
-              (all_takes core plan s events last accesses owners h (first_contents core input) well m within picks stays takes (λ a c e k. (of_queue a c).answered k) r.part.takes.items r.is.takes);
-          are_fresh = asked.fresh s last r.part.fresh.items (all_fresh core plan s events last accesses owners h (first_contents core input) well m within picks stays r.part.fresh.items r.is.fresh);
+              (all_takes core s events last accesses owners h m picks takes (λ a c e k. (of_queue a c).answered k) r.part.takes.items r.is.takes);
+          are_fresh = asked.fresh s last r.part.fresh.items (all_fresh core s events last accesses owners h m picks r.part.fresh.items r.is.fresh);
         }
 
     goes : QueueGoes core m s events (first_contents core input) last r.part.depth r.stores r.part.fresh.items r.part.puts.items r.part.takes.items
@@ -94,10 +94,9 @@ module _ (core : PlainCore) (plan : PlainPlan) (picks : PicksAccessesTo) (asks :
         let operation : IsOperation core m Deq a.number = subst (λ j. IsOperation core j Deq a.number) e (subst (λ q. IsOperation core a.mem q a.number) k (h.is_operation a c)) in
         let take = from_mapped plain_touch r.part.takes.items (read_of a) (subst (λ xs. Contains xs (read_of a)) (sym r.is.takes) (read_in m accesses a w c e answer)) in
         let on : take.0.word ≡ w.net = ap (λ (p : PlainTouch). p.word) take.2 ∙ ap answer_net answer in
-        let none : take.0.copy ≡ None = ap (λ (p : PlainTouch). p.copy) take.2 in
         let runs : RunsTakes s (length r.stores) r.stores take.0 = subst (λ n. RunsTakes s n r.stores take.0) (sym r.each) (All-contains (RunsTakes s r.part.copies r.stores) r.part.takes.items take.0 r.takes take.1) in
         let now = goes.answers a.number take.0 runs (stays events (first_contents core input) well m a.number Deq operation)
-        (names core plan s events last accesses owners h (first_contents core input) well m within stays a.number Deq take.0.copy none operation last) in
+        (subst (λ (n : Option ℕ). NamesCopies s events last a.number n) (sym (ap (λ (p : PlainTouch). p.copy) take.2)) (h.named a c)) in
         subst (λ n. IsAnswered s events (suc last) a.number Deq n w.net) (sym ((of_queue a c).later w k answer)) (subst (λ n. IsAnswered s events (suc last) a.number Deq 2 n) on now)
 
   pub fifos_answer : FifosAnswer core plan

@@ -26,6 +26,6 @@ module _ (core : PlainCore) (plan : PlainPlan) where
   -- and owners do what the timeline has.
   abbrev pub FifosAnswer : Type 0
   FifosAnswer =
-      IsTimed core.root → (s : Signals) (events : List Stamped) (last : ℕ) (accesses : List AccessNets) (owners : OwnerNets) (input : PlainInput) → MemoriesInTime core plan s events last accesses owners
+      IsTimed core.root → (s : Signals) (events : List Stamped) (last : ℕ) (accesses : List AccessNets) (owners : OwnerNets) (input : PlainInput) → MemoriesInTime core s events last accesses owners
       → HappensWell core plan events (first_contents core input) → (d : Draft) → All (QueuedStands d core) accesses → (m bank : ℕ) → m < length core.mems → kind_of core m ≡ Fifo → RunsFifo core plan s accesses owners m bank
       → (a : AccessNets) (w : WordNet) → Contains accesses a → a.mem ≡ m → a.kind ≡ Deq → a.answer ≡ Some w → IsAnswered s events (suc last) a.number Deq w.after w.net

@@ -19,7 +19,7 @@ use Rattle.sp_stored_trees.specs.Fits.{CanEmitStored}
 -- transfer names
 pub record CanLower (core : PlainCore) (plan : PlainPlan) : Type 0 where
   pub can : CanEmitStored core plan
-  pub stored : IsStoredCore core plan
+  pub stored : IsStoredCore core
 
 -- Its ports are the core's. For every run of the core from an input that fits, by such a plan, every delays of channels and every number of cycles
 -- that is not less than the timeline takes, it is done in the cycle after the timeline's last one, with the words that the run leaves on

@@ -1,4 +1,4 @@
 pub mod Picked
 pub mod Answering
 pub mod Fitting
-pub mod Single
+pub mod First

@@ -1,4 +1,4 @@
--- What is done to a memory of one word, in one copy, by accesses and by owners, each in the order in which they are handed on.
+-- What is done to a memory of one word by accesses and by owners, each in the order in which they are handed on.
 use Rattle.std.specs.Prelude.{ℕ, ◌==◌, Bool, true, false, ◌&&◌, List, [], ◌++◌, map, Option, Some, None}
 use Rattle.std.specs.List.{filter}
 use Rattle.sp_core.specs.declared.operation.OpKind.TheVariants.{Write, Reset}
@@ -24,32 +24,31 @@ pub record PlainTouch : Type 0 where
 abbrev pub plain_touch : Touch → PlainTouch
 plain_touch t = record { enable = t.enable; copy = t.copy; word = t.word }
 
--- at copy 0
-abbrev pub touch_by : (enable word : ℕ) → PlainTouch
-touch_by enable word = record { enable = enable; copy = None; word = word }
+abbrev pub touch_by : (enable : ℕ) (copy : Option ℕ) (word : ℕ) → PlainTouch
+touch_by enable copy word = record { enable = enable; copy = copy; word = word }
 
-abbrev pub fresh_by : (enable : ℕ) → Fresh
-fresh_by enable = record { enable = enable; copy = None }
+abbrev pub fresh_by : (enable : ℕ) (copy : Option ℕ) → Fresh
+fresh_by enable copy = record { enable = enable; copy = copy }
 
--- what an access or an owner does
+-- what an access or an owner does, at the copy whose number stands on its net
 abbrev pub write_of : AccessNets → PlainTouch
-write_of a = touch_by a.enable (word_that_changes Write a.operands.items)
+write_of a = touch_by a.enable a.copy (word_that_changes Write a.operands.items)
 
 abbrev pub state_of : Keeping → PlainTouch
-state_of k = touch_by k.done k.word
+state_of k = touch_by k.done k.copy k.word
 
 abbrev pub reset_of : AccessNets → Fresh
-reset_of a = fresh_by a.enable
+reset_of a = fresh_by a.enable a.copy
 
 abbrev pub renewal_of : Renewal → Fresh
-renewal_of r = fresh_by r.first
+renewal_of r = fresh_by r.first r.copy
 
 abbrev pub answer_net : Option WordNet → ℕ
 answer_net (Some word) = word.net
 answer_net None = 0
 
 abbrev pub read_of : AccessNets → PlainTouch
-read_of a = touch_by a.enable (answer_net a.answer)
+read_of a = touch_by a.enable a.copy (answer_net a.answer)
 
 -- which of them are about a memory
 abbrev pub is_kept : (mem : ℕ) → Keeping → Bool

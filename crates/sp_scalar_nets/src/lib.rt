@@ -6,4 +6,4 @@ mod lists;
 mod scalars;
 
 pub use lists::{fresh_to, has_reset, reads_to, touch};
-pub use scalars::{emit_scalar, memory};
+pub use scalars::{copies_of, emit_scalar, memory};

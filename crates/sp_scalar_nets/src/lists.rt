@@ -27,14 +27,14 @@ pub fn has_reset(kind: Kind, start: Option<u64>) -> bool
     }
 }
 
-/// An access at copy 0.
-pub fn touch(alloc: Global, enable: NetId, word: NetId) -> Touch
-    ensures { plain_touch result ≡ touch_by enable word }
+/// An access of a memory of one word.
+pub fn touch(alloc: Global, enable: NetId, copy: Option<NetId>, word: NetId) -> Touch
+    ensures { plain_touch result ≡ touch_by enable copy word }
 {
     Touch {
         enable,
         index: Vec::new(alloc),
-        copy: None,
+        copy,
         duplicate: 0,
         tap: 0,
         word,
@@ -63,7 +63,8 @@ fn add_writes(
         return Ok(());
     };
     if is_to(access, mem, OpKind::Write) {
-        writes.push(touch(alloc, access.enable, written_net(&access.operands)))?;
+        let word = written_net(&access.operands);
+        writes.push(touch(alloc, access.enable, access.copy, word))?;
     }
     add_writes(alloc, writes, mem, rest)
 }
@@ -80,7 +81,7 @@ fn add_states(
         return Ok(());
     };
     if keeping.mem == mem {
-        writes.push(touch(alloc, keeping.done, keeping.word))?;
+        writes.push(touch(alloc, keeping.done, keeping.copy, keeping.word))?;
     }
     add_states(alloc, writes, mem, rest)
 }
@@ -109,7 +110,7 @@ fn add_resets(fresh: &mut Vec<Fresh>, mem: u32, accesses: &[AccessNets]) -> Resu
     if is_to(access, mem, OpKind::Reset) {
         fresh.push(Fresh {
             enable: access.enable,
-            copy: None,
+            copy: access.copy,
         })?;
     }
     add_resets(fresh, mem, rest)
@@ -124,7 +125,7 @@ fn add_renewals(fresh: &mut Vec<Fresh>, mem: u32, renewed: &[Renewal]) -> Result
     if renewal.mem == mem {
         fresh.push(Fresh {
             enable: renewal.first,
-            copy: None,
+            copy: renewal.copy,
         })?;
     }
     add_renewals(fresh, mem, rest)
@@ -161,7 +162,7 @@ fn add_reads(
     };
     if access.mem == mem {
         if let Some(word) = access.answer {
-            reads.push(touch(alloc, access.enable, word.net))?;
+            reads.push(touch(alloc, access.enable, access.copy, word.net))?;
         }
     }
     add_reads(alloc, reads, mem, rest)

@@ -30,9 +30,9 @@ use Rattle.sp_mem.specs.Copies.{first_word}
 use Rattle.sp_circuit_ops.specs.declared.ops.WordNet.{WordNet}
 use Rattle.sp_node_runs.specs.BodiesTold.{Happens}
 use Rattle.sp_memory_words.specs.Accesses.{IsOperation, AccessesAsk, OperationsStay}
-use Rattle.sp_memory_words.specs.Answers.{IsAnswered}
+use Rattle.sp_memory_words.specs.Answers.{IsAnswered, NamesCopies}
 use Rattle.sp_memory_words.specs.Moments.{HappensWell}
-use Rattle.sp_memory_words.specs.Registers.{IsRegister, copy_place, HasWord, RegistersHold, RegistersAnswer, ArgumentsAnswer, ContentsBegin}
+use Rattle.sp_memory_words.specs.Registers.{IsRegister, copy_place, standing, HasWord, RegistersHold, RegistersAnswer, ArgumentsAnswer, ContentsBegin}
 use Rattle.sp_access_nets.specs.declared.access.AccessNets.{AccessNets}
 use Rattle.sp_access_nets.specs.Picking.{PicksAccessesTo}
 use Rattle.sp_tree_handed.specs.declared.owners.OwnerNets.{OwnerNets}
@@ -42,7 +42,7 @@ use Rattle.sp_scalar_nets.specs.Lists.{PlainTouch, plain_touch, answer_net, read
 use Rattle.sp_scalar_nets.specs.Runs.{IsFollowed, RunsWord, an_argument, a_register}
 use Rattle.sp_scalar_nets.proofs.Answering.{read_in}
 use Rattle.sp_scalar_words.specs.InTime.{MemoriesInTime, RegistersAreAsked, ScalarsHold, OutputsAreLeft, ScalarsAnswer}
-use Rattle.sp_scalar_words.proofs.Asked.{from_mapped, not_argument, still, names, all_writes, all_fresh}
+use Rattle.sp_scalar_words.proofs.Asked.{from_mapped, not_argument, still, all_writes, all_fresh}
 
 right_at : (ms : List PlainMem) (m : ℕ) → list_all is_mem_right ms ≡ true → m < length ms → is_mem_right (slice_index_or ms m no_mem) ≡ true
 right_at [] m h l = absurd (omega (arith, l))
@@ -93,42 +93,42 @@ one_later LineBuf h = absurd h
 one_later Dram h = absurd h
 
 module _ (core : PlainCore) (plan : PlainPlan) where
-  pub asked : PicksAccessesTo → AccessesAsk core plan → ((input : PlainInput) → ContentsBegin core input) → OperationsStay core plan → RegistersAreAsked core plan
-  asked picks asks from stays s events last accesses owners input h well m net l scalar not w =
+  pub asked : PicksAccessesTo → AccessesAsk core plan → ((input : PlainInput) → ContentsBegin core input) → RegistersAreAsked core plan
+  asked picks asks from s events last accesses owners input h well m net l scalar not w =
       let first = first_contents core input in
       let kind = not_argument (kind_of core m) scalar not in
       let answers = asks h.right events first well m (still (kind_of core m) scalar) in
       record {
         kind = kind;
-        copies = w.is.copies ∙ sym (h.one_copy m l);
+        copies = w.is.copies;
         start = w.is.first;
         begins = λ c below. begins core input m c (kind_of core m) (first_word w.part.first) (from input) refl kind (λ out. ap first_word w.is.first ∙ output_start core m h.right l out);
         runs = w.runs;
-        writes = answers.writes s last w.part.writes.items (all_writes core plan s events last accesses owners h first well m l picks stays w.part w.is);
-        fresh = answers.fresh s last w.part.fresh.items (all_fresh core plan s events last accesses owners h first well m l picks stays w.part.fresh.items w.is.fresh);
+        writes = answers.writes s last w.part.writes.items (all_writes core s events last accesses owners h m picks plan w.part w.is);
+        fresh = answers.fresh s last w.part.fresh.items (all_fresh core s events last accesses owners h m picks w.part.fresh.items w.is.fresh);
       }
 
   pub holds : RegistersAreAsked core plan → RegistersHold core plan → ScalarsHold core plan
   holds are_asked hold s events last accesses owners input h well m net l scalar not w t until =
-      hold events (first_contents core input) well m s last w.part (net ∷ []) (are_asked s events last accesses owners input h well m net l scalar not w) t 0 until (let one = w.is.copies in omega (arith, one))
+      subst (λ n. HasWord core (standing core events (first_contents core input) t (copy_place m 0)) (s.net t n)) (sym w.first)
+      (hold events (first_contents core input) well m s last w.part w.nets (are_asked s events last accesses owners input h well m net l scalar not w) t 0 until w.some)
 
-  module _ (s : Signals) (events : List Stamped) (last : ℕ) (accesses : List AccessNets) (owners : OwnerNets) (input : PlainInput) (h : MemoriesInTime core plan s events last accesses owners) (well : HappensWell core plan events (first_contents core input)) (stays : OperationsStay core plan) (a : AccessNets) (w : WordNet) (c : Contains accesses a) (k : a.kind ≡ Read) (e : a.answer ≡ Some w) where
+  module _ (s : Signals) (events : List Stamped) (last : ℕ) (accesses : List AccessNets) (owners : OwnerNets) (input : PlainInput) (h : MemoriesInTime core s events last accesses owners) (well : HappensWell core plan events (first_contents core input)) (stays : OperationsStay core plan) (a : AccessNets) (w : WordNet) (c : Contains accesses a) (k : a.kind ≡ Read) (e : a.answer ≡ Some w) where
     operation : IsOperation core a.mem Read a.number
     operation = subst (λ q. IsOperation core a.mem q a.number) k (h.is_operation a c)
 
     inside : a.mem < length core.mems
     inside = All-contains (λ (x : AccessNets). x.mem < length core.mems) accesses a h.within c
 
-    by_register : RegistersAreAsked core plan → RegistersAnswer core plan → (net : ℕ) → IsScalar (kind_of core a.mem) → kind_of core a.mem ≢ ArgIn → RunsWord core s accesses owners a.mem net → IsAnswered s events (suc last) a.number Read w.after w.net
+    by_register : RegistersAreAsked core plan → RegistersAnswer core plan → (net : ℕ) → IsScalar (kind_of core a.mem) → kind_of core a.mem ≢ ArgIn → RunsWord core plan s accesses owners a.mem net → IsAnswered s events (suc last) a.number Read w.after w.net
     by_register are_asked answer net scalar not r =
         let first = first_contents core input in
         let after : w.after ≡ 1 = (All-contains (AccessStands h.draft core) accesses a h.stand c).later w k e not ∙ one_later (kind_of core a.mem) (not_argument (kind_of core a.mem) scalar not) in
         let read = from_mapped plain_touch r.part.reads.items (read_of a) (subst (λ xs. Contains xs (read_of a)) (sym r.is.reads) (read_in a.mem accesses a w c refl e)) in
         let on : read.0.word ≡ w.net = ap (λ (p : PlainTouch). p.word) read.2 ∙ ap answer_net e in
-        let none : read.0.copy ≡ None = ap (λ (p : PlainTouch). p.copy) read.2 in
         let now =
-        (answer events first well a.mem s last r.part (net ∷ []) (are_asked s events last accesses owners input h well a.mem net inside scalar not r)).later a.number read.0 read.1 (stays events first well a.mem a.number Read operation)
-        (names core plan s events last accesses owners h first well a.mem inside stays a.number Read read.0.copy none operation last) in
+        (answer events first well a.mem s last r.part r.nets (are_asked s events last accesses owners input h well a.mem net inside scalar not r)).later a.number read.0 read.1 (stays events first well a.mem a.number Read operation)
+        (subst (λ (n : Option ℕ). NamesCopies s events last a.number n) (sym (ap (λ (p : PlainTouch). p.copy) read.2)) (h.named a c)) in
         subst (λ n. IsAnswered s events (suc last) a.number Read n w.net) (sym after) (subst (λ n. IsAnswered s events (suc last) a.number Read 1 n) on now)
 
     by_port : ArgumentsAnswer core plan → ContentsBegin core input → (port : ℕ) → kind_of core a.mem ≡ ArgIn → ((t : ℕ) → s.net t port ≡ slice_index_or (words_of (first_store core input a.mem)) 0 0) → IsFollowed s accesses a.mem port

@@ -18,7 +18,6 @@ pub fn registers_are_asked()
     picks_accesses_to();
     accesses_ask();
     contents_begin();
-    operations_stay();
 }
 
 /// So the net of a register or an output has, up to the cycle after, the word that stands there.

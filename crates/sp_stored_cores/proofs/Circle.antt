@@ -1,6 +1,7 @@
 -- The circle from what is read to what is written is closed cycle by cycle, and the end is that of the timeline.
-use Rattle.std.proofs.Common.{◌≡◌, ◌≢◌, ℕ, zero, suc, ◌+◌, ◌<◌, ◌≤◌, Bool, true, false, List, [], ◌∷◌, length, slice_index, slice_index_or, refl, sym, ap, subst, ◌∙◌, arith}
+use Rattle.std.proofs.Common.{◌≡◌, ◌≢◌, ℕ, zero, suc, ◌+◌, ◌<◌, ◌≤◌, Bool, true, false, List, [], ◌∷◌, length, slice_index, slice_index_or, Option, refl, sym, ap, subst, ◌∙◌, arith}
 use Rattle.std.proofs.lemmas.Bool.{lt-ltb}
+use Rattle.std.specs.List.{Contains}
 use Rattle.sp_words.specs.declared.kind.Kind.TheVariants.{ArgIn, ArgOut}
 use Rattle.sp_words.specs.Ports.{PlainInput}
 use Rattle.sp_netlist.specs.declared.parts.Child.{Child}
@@ -40,13 +41,14 @@ use Rattle.sp_tree_circuits.specs.Acts.{PartGoes, Acts}
 use Rattle.sp_tree_circuits.specs.Answers.{Answered}
 use Rattle.sp_tree_circuits.specs.Circuits.{Circuit}
 use Rattle.sp_tree_circuits.specs.Laws.{core_run, core_events, CirclesClose}
-use Rattle.sp_memory_words.specs.Answers.{IsAnswered}
+use Rattle.sp_memory_words.specs.Answers.{IsAnswered, NamesCopies}
 use Rattle.sp_memory_words.specs.Moments.{HappensWell}
 use Rattle.sp_memory_words.specs.Registers.{IsRegister, copy_place}
 use Rattle.sp_patterns.specs.Patterns.{patterns_of}
 use Rattle.sp_memory_words.specs.Runs.{RunsHappenWell}
-use Rattle.sp_tree_accesses.specs.Laws.{AccessesAct, OperationsHaveAccesses, TreesAreAnswered}
-use Rattle.sp_owner_runs.specs.Acting.{CoresOwn}
+use Rattle.sp_access_nets.specs.declared.access.AccessNets.{AccessNets}
+use Rattle.sp_access_nets.specs.Accesses.{copy_in}
+use Rattle.sp_tree_accesses.specs.Laws.{IsInTime, AccessesAct, OperationsHaveAccesses, TreesAreAnswered}
 use Rattle.sp_bank_runs.specs.Laws.{GoesWell, ValidPlansGoWell}
 use Rattle.sp_scalar_words.specs.InTime.{MemoriesInTime, ArgumentsGiven}
 use Rattle.sp_array_words.specs.Laws.{MemoriesAnswer, MemoriesHold}
@@ -58,7 +60,6 @@ use Rattle.sp_stored_cores.proofs.Elements.{each_in}
 -- the laws by which it is
 pub record ClosingLaws (core : PlainCore) (plan : PlainPlan) (delays : Delays) : Type 0 where
   pub act : AccessesAct core plan delays
-  pub own : CoresOwn core plan delays
   pub have : OperationsHaveAccesses core
   pub answer : MemoriesAnswer core plan delays
   pub hold : MemoriesHold core plan
@@ -98,7 +99,7 @@ sooner : (n m : ℕ) (xs : List Stamped) → n ≤ m → Each (λ (x : Stamped).
 sooner n m [] le h = tt
 sooner n m (x ∷ xs) le h = ((let l = h.0 in omega (arith, l, le)), sooner n m xs le h.1)
 
-module _ (core : PlainCore) (plan : PlainPlan) (delays : Delays) (laws : ClosingLaws core plan delays) (s : Signals) (c : Child) (arguments words : List ℕ) (is : IsStoredCore core plan) (x : StoredCircuit core plan s c arguments words) (starts : StartsOnce s c.start)
+module _ (core : PlainCore) (plan : PlainPlan) (delays : Delays) (laws : ClosingLaws core plan delays) (s : Signals) (c : Child) (arguments words : List ℕ) (is : IsStoredCore core) (x : StoredCircuit core plan s c arguments words) (starts : StartsOnce s c.start)
     (input : PlainInput) (h : History) (left : Store) (r : RunsByPlan core plan delays input h left) (given : ArgumentsGiven core input s arguments) where
   events : List Stamped
   events = core_events core plan delays h
@@ -139,31 +140,30 @@ module _ (core : PlainCore) (plan : PlainPlan) (delays : Delays) (laws : Closing
   abbrev Going : (t : ℕ) → Type 0
   Going t = Acts core plan delays s (core_events core plan delays h) t core.root [] (nets_at []) 0 0 (core_run core plan delays h ∷ []) c x.circuit
 
-  told : (t : ℕ) → Going t → MemoriesInTime core plan s (core_events core plan delays h) t x.accesses x.owners
+  of_time : (t : ℕ) → Going t → (b : AccessNets) → Contains x.accesses b → IsInTime core (copy_in x.copies) s (core_events core plan delays h) t b
+  of_time t a b there = laws.act s (core_events core plan delays h) t (core_run core plan delays h ∷ []) (nets_at []) c x.circuit (copy_in x.copies) x.acted x.accesses x.accesses_are x.handed a b there
+
+  told : (t : ℕ) → Going t → MemoriesInTime core s (core_events core plan delays h) t x.accesses x.owners
   told t a =
-      let own = laws.own s (nets_at []) h c is.right is.timed all_done fits is.single x.circuit x.owners.renewed.items x.owners.kept.items x.owners_are t a in
+      let own = x.named delays h all_done fits r.meets r.planned input well t a in
       record {
         right = is.right;
-        one_copy = is.single;
-        is_operation = λ b there. (laws.act s (core_events core plan delays h) t (core_run core plan delays h ∷ []) (nets_at []) c x.circuit _ x.acted x.accesses x.accesses_are x.handed a b there).of_core.is;
+        is_operation = λ b there. (of_time t a b there).of_core.is;
         all_operations = λ m n kind accesses_it op. (let has = laws.have _ x.acted x.accesses x.accesses_are m n kind op in (has.access, has.there, has.numbered, has.mem_is, has.kind_is));
-        act = λ b there other. (laws.act s (core_events core plan delays h) t (core_run core plan delays h ∷ []) (nets_at []) c x.circuit _ x.acted x.accesses x.accesses_are x.handed a b there).acts other;
-        in_banks = λ b there banks. (laws.act s (core_events core plan delays h) t (core_run core plan delays h ∷ []) (nets_at []) c x.circuit _ x.acted x.accesses x.accesses_are x.handed a b there).in_banks banks;
-        uncopied = λ b there. (laws.act s (core_events core plan delays h) t (core_run core plan delays h ∷ []) (nets_at []) c x.circuit _ x.acted x.accesses x.accesses_are x.handed a b there).of_core.copied;
+        act = λ b there other. (of_time t a b there).acts other;
+        in_banks = λ b there banks. (of_time t a b there).in_banks banks;
+        named = λ b there.
+            let of = (of_time t a b there).of_core in
+            subst (λ (n : Option ℕ). NamesCopies s (core_events core plan delays h) t b.number n) (sym of.copied) (own.named b.mem b.number b.kind of.on_chip of.is);
         asked = x.asked;
-        owners_act = record {
-          renewal = λ q there u le on. own.renews q u there le on;
-          keeping = λ q there u le on. own.keeps q u there le on;
-          all_renewals = λ u k m le there done. (own.all_renewals u k m le done there).1;
-          all_keepings = λ u k m word le there. (let it = (own.all_keepings u k m word le there).1 in (it.0, it.1, it.2, it.3));
-        };
+        owners_act = own.owners_act;
         within = x.within;
         draft = x.draft;
         stand = x.stand;
       }
 
-  in_time : (t : ℕ) → Going t → MemoriesInTime core plan s (core_timed core plan delays h).events t x.accesses x.owners
-  in_time t a = subst (λ es. MemoriesInTime core plan s es t x.accesses x.owners) (laws.timed h) (told t a)
+  in_time : (t : ℕ) → Going t → MemoriesInTime core s (core_timed core plan delays h).events t x.accesses x.owners
+  in_time t a = subst (λ es. MemoriesInTime core s es t x.accesses x.owners) (laws.timed h) (told t a)
 
   answered : (t : ℕ) → Going t → Answered core plan s (core_events core plan delays h) (suc t) core.root [] (nets_at []) 0 0 c x.circuit
   answered t a =

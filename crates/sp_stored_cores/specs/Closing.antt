@@ -44,5 +44,5 @@ module _ (core : PlainCore) (plan : PlainPlan) (delays : Delays) where
   -- so does the circuit of such a core, with the words of its arguments on their nets
   abbrev pub StoredCoresGo : Type 0
   StoredCoresGo =
-      (s : Signals) (c : Child) (arguments words : List ℕ) → IsStoredCore core plan → StoredCircuit core plan s c arguments words → StartsOnce s c.start
+      (s : Signals) (c : Child) (arguments words : List ℕ) → IsStoredCore core → StoredCircuit core plan s c arguments words → StartsOnce s c.start
       → (input : PlainInput) (h : History) (left : Store) → RunsByPlan input h left → ArgumentsGiven core input s arguments → GoesAlong s c words h left

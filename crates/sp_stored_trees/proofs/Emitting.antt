@@ -1,5 +1,5 @@
 -- The memories of a tree that was emitted can be emitted behind it, and then the whole is a circuit of the core.
-use Rattle.std.proofs.Common.{◌≡◌, ◌≢◌, ℕ, suc, ◌<◌, ◌≤◌, ◌⊎◌, inl, inr, true, slice_index_or, List, [], ◌∷◌, ◌++◌, length, slice_index, Some, None, refl, sym, ap, subst, ◌∙◌, arith}
+use Rattle.std.proofs.Common.{◌≡◌, ◌≢◌, ℕ, suc, ◌<◌, ◌≤◌, ◌⊎◌, inl, inr, true, slice_index_or, List, [], ◌∷◌, ◌++◌, length, slice_index, Option, Some, refl, sym, ap, subst, ◌∙◌, arith}
 use Rattle.std.proofs.lemmas.Bool.{false≢true}
 use Rattle.std.specs.Prelude.{All}
 use Rattle.std.specs.List.{Contains}
@@ -22,16 +22,18 @@ use Rattle.sp_op_nets.specs.declared.acted.ActedList.{ActedList}
 use Rattle.sp_op_nets.specs.Acted.{answers_in}
 use Rattle.sp_op_nets.specs.Laws.{ReservedAreDriven}
 use Rattle.sp_op_nets.specs.Reserved.{Rise, Reserves}
+use Rattle.sp_op_nets.specs.Table.{nets_at}
 use Rattle.sp_access_nets.specs.declared.access.AccessNets.{AccessNets}
 use Rattle.sp_access_nets.specs.Accesses.{copy_in}
 use Rattle.sp_access_nets.specs.Laws.{answer_nets}
 use Rattle.sp_circuit_ops.specs.declared.ops.WordNet.{WordNet}
 use Rattle.sp_core.specs.declared.operation.OpKind.TheVariants.{Read, Deq}
 use Rattle.sp_mem.specs.Fits.{CopyFits}
+use Rattle.sp_tree_circuits.specs.Circuits.{Circuit}
 use Rattle.sp_tree_handed.specs.declared.owners.OwnerNets.{OwnerNets}
 use Rattle.sp_tree_handed.specs.Lists.{lists_in}
 use Rattle.sp_tree_handed.specs.Standing.{AreListsStanding, AccessStands, BoundsReadArguments, OwnersStand}
-use Rattle.sp_tree_nets.specs.Whole.{IsWhole}
+use Rattle.sp_tree_nets.specs.Handed.{AreHanded}
 use Rattle.sp_tree_accesses.specs.Accesses.{AreAllAccesses}
 use Rattle.sp_tree_accesses.specs.Laws.{AreTreeAccesses, IsOfCore, AnswersAreOfReads}
 use Rattle.sp_tree_accesses.specs.Queued.{QueuedStands}
@@ -40,7 +42,8 @@ use Rattle.sp_array_nets.specs.Banks.{ArraysStand, wires_in}
 use Rattle.sp_array_nets.specs.Fits.{MemoriesFit}
 use Rattle.sp_array_nets.specs.Laws.{ArraysAreOpen, ArraysStay}
 use Rattle.sp_array_nets.specs.Runs.{RunMemories}
-use Rattle.sp_stored_cores.specs.Circuits.{StoredCircuit}
+use Rattle.sp_scalar_nets.specs.Fits.{OwnersNameCopies}
+use Rattle.sp_stored_cores.specs.Circuits.{CopiesGoAlong, StoredCircuit}
 use Rattle.sp_stored_trees.specs.Fits.{ArgumentsStand, CanEmitStored}
 
 lower : (from to : ℕ) (ns : List ℕ) → from ≤ to → Rise to ns → Rise from ns
@@ -57,39 +60,42 @@ fifo_of Dram e = absurd (false≢true e)
 fifo_of ArgIn e = absurd (false≢true e)
 fifo_of ArgOut e = absurd (false≢true e)
 
--- no access names a copy
-uncopied : (d : Draft) (accesses : List AccessNets) → All (λ (a : AccessNets). a.copy ≡ None) accesses → All (λ (a : AccessNets). CopyFits d a.copy) accesses
-uncopied d accesses none k e l = subst (CopyFits d) (sym (none k e l)) tt
+-- the circuit of the tree in a run, with nets of copies
+pub record TreeRuns (core : PlainCore) (plan : PlainPlan) (s : Signals) (c : Child) (acted : List ActedList) (copies : List (Option ℕ)) (owners : OwnerNets) : Type 0 where
+  pub circuit : Circuit core plan s core.root [] (nets_at []) 0 c
+  pub handed : AreHanded core plan s core.root [] (nets_at []) 0 0 c circuit acted
+  pub named : CopiesGoAlong core plan s c circuit copies owners
 
-module _ (core : PlainCore) (plan : PlainPlan) (old mid : Draft) (acted : List ActedList) (owners : OwnerNets) (accesses : List AccessNets) (arguments : List ℕ) (arrays : List Array) (start : ℕ) (able : CanEmitStored core plan)
-    (r : Reserves old mid (answers_in acted)) (same : answer_nets accesses ≡ answers_in acted) (stand : BoundsReadArguments core core.root → All (AccessStands mid core) accesses) (of_core : All (IsOfCore core (copy_in [])) accesses)
-    (queued : All (QueuedStands mid core) accesses) (right : IsCore core) (read : AnswersAreOfReads core) (lists : AreListsStanding mid core (lists_in core.root 0) acted) (all : AreAllAccesses (copy_in []) (lists_in core.root 0) acted accesses) where
-  are : AreTreeAccesses core (copy_in []) acted accesses
+module _ (core : PlainCore) (plan : PlainPlan) (old mid : Draft) (acted : List ActedList) (copies : List (Option ℕ)) (owners : OwnerNets) (accesses : List AccessNets) (arguments : List ℕ) (arrays : List Array) (start : ℕ) (able : CanEmitStored core plan)
+    (r : Reserves old mid (answers_in acted)) (same : answer_nets accesses ≡ answers_in acted) (stand : BoundsReadArguments core core.root → All (AccessStands mid core) accesses) (of_core : All (IsOfCore core (copy_in copies)) accesses)
+    (queued : All (QueuedStands mid core) accesses) (right : IsCore core) (read : AnswersAreOfReads core) (lists : AreListsStanding mid core (lists_in core.root 0) acted) (all : AreAllAccesses (copy_in copies) (lists_in core.root 0) acted accesses) where
+  are : AreTreeAccesses core (copy_in copies) acted accesses
   are = record { right = right; draft = mid; stand = lists; all = all }
 
   takes : (a : AccessNets) → Contains accesses a → a.kind ≡ Deq → kind_of core a.mem ≡ Fifo
   takes a (k, l, e) take = subst (λ (b : AccessNets). b.kind ≡ Deq → kind_of core b.mem ≡ Fifo) e (taken (slice_index_or accesses k a) (of_core k a l)) take
     where
-      taken : (b : AccessNets) → IsOfCore core (copy_in []) b → b.kind ≡ Deq → kind_of core b.mem ≡ Fifo
+      taken : (b : AccessNets) → IsOfCore core (copy_in copies) b → b.kind ≡ Deq → kind_of core b.mem ≡ Fifo
       taken b of_b take = fifo_of (kind_of core b.mem) (subst (λ k. can k (kind_of core b.mem) (mem core b.mem).start ≡ true) take of_b.allowed)
 
   asked : (a : AccessNets) (w : WordNet) → Contains accesses a → a.answer ≡ Some w → (a.kind ≡ Read) ⊎ ((a.kind ≡ Deq) × (kind_of core a.mem ≡ Fifo))
-  asked a w there answer = elim (read (copy_in []) acted accesses are a w there answer) [
+  asked a w there answer = elim (read (copy_in copies) acted accesses are a w there answer) [
     | inl reads ↦ inl reads
     | inr take ↦ inr (take, takes a there take)
   ]
 
-  pub fits : ArraysAreOpen → ArraysStay → ArgumentsStand old core arguments → ArraysStand old core plan arrays → HasNet old start 1 → OwnersStand mid core owners → All (λ (a : AccessNets). a.copy ≡ None) accesses
+  pub fits : ArraysAreOpen → ArraysStay → ArgumentsStand old core arguments → ArraysStand old core plan arrays → HasNet old start 1 → OwnersStand mid core owners → OwnersNameCopies mid owners → All (λ (a : AccessNets). CopyFits mid a.copy) accesses
       → MemoriesFit mid core plan accesses owners arguments arrays start
-  fits are_open stay args banks begin own none = record {
+  fits are_open stay args banks begin own owned copied = record {
     stored = able.stored;
     planned = able.arrays;
     starts = HasNet-stays old mid start 1 r.grows begin;
     each = args.each;
     ports = λ m l arg. HasNet-stays old mid _ _ r.grows (args.nets m l arg);
-    accesses_fit = record { stand = stand able.bounds; copied = uncopied mid accesses none; queued = queued; reads = asked };
+    accesses_fit = record { stand = stand able.bounds; copied = copied; queued = queued; reads = asked };
     within = λ k d l. (of_core k d l).on_chip;
     owners_stand = own;
+    owners_copied = owned;
     arrays_stand = stay old mid core plan arrays r.grows (λ net there. r.still_open net (are_open old core plan arrays banks net there)) banks;
     awaiting = λ net there. r.are_open net (subst (λ ns. Contains ns net) same there);
     rise = subst (Rise 0) (sym same) (lower 0 (length old.promised) (answers_in acted) (omega arith) r.rise);
@@ -99,16 +105,18 @@ module _ (core : PlainCore) (plan : PlainPlan) (old mid : Draft) (acted : List A
     pub filled : ReservedAreDriven → Fills old new (wires_in arrays)
     filled law = law old mid new (answers_in acted) (wires_in arrays) r (subst (λ ns. Fills mid new (ns ++ wires_in arrays)) same f)
 
-    pub circuit : (child : Child) (words : List ℕ) → IsWhole mid core plan child acted owners.renewed.items owners.kept.items → ((s : Signals) → RunsOn s new.cells → RunMemories core plan s accesses owners arguments words) → (s : Signals) → RunsOn s new.cells → StoredCircuit core plan s child arguments words
-    circuit child words whole memories s run =
-        let t = whole s (runs_earlier mid new s f.grows run) in
+    pub circuit : (child : Child) (words : List ℕ) → ((s : Signals) → RunsOn s mid.cells → TreeRuns core plan s child acted copies owners) → ((s : Signals) → RunsOn s new.cells → RunMemories core plan s accesses owners arguments words)
+        → (s : Signals) → RunsOn s new.cells → StoredCircuit core plan s child arguments words
+    circuit child words tree memories s run =
+        let t = tree s (runs_earlier mid new s f.grows run) in
         record {
           circuit = t.circuit;
           acted = acted;
+          copies = copies;
           owners = owners;
           accesses = accesses;
           handed = t.handed;
-          owners_are = t.owners;
+          named = t.named;
           accesses_are = are;
           draft = mid;
           stand = stand able.bounds;

@@ -1,1 +1,2 @@
 mod Emitting
+mod First

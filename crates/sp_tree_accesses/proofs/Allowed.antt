@@ -1,5 +1,5 @@
 -- What the rules of a core say of an operation that names a memory.
-use Rattle.std.proofs.Common.{◌≡◌, ℕ, zero, suc, ◌-◌, inl, inr, true, ◌&&◌, ◌||◌, nat_lt, if◌then◌else◌, List, [], ◌∷◌, ◌++◌, length, Option, Some, None, refl, sym, ◌∙◌, ap, subst, arith}
+use Rattle.std.proofs.Common.{◌≡◌, ℕ, zero, suc, ◌-◌, inl, inr, true, ◌&&◌, ◌||◌, nat_lt, if◌then◌else◌, List, [], ◌∷◌, ◌++◌, length, All, Option, Some, None, sym, ◌∙◌, ap, subst, arith}
 use Rattle.std.proofs.lemmas.Bool.{and_parts, ltb-true}
 use Rattle.std.proofs.lemmas.List.Elements.{Contains-append_cases}
 use Rattle.std.specs.List.{Contains}
@@ -12,6 +12,7 @@ use Rattle.sp_core.specs.Declarations.{mem, dram, kind_of, dims, is_among}
 use Rattle.sp_core.specs.OperationRules.{can, is_access, is_in_range, names_rightly, indices_of, is_mask, is_operation_right, are_operations_right_after}
 use Rattle.sp_core.specs.PlainCore.{PlainOp, PlainCore}
 use Rattle.sp_core.specs.Typed.{Given, is_type, given_type, index_count, taken_types, give_all}
+use Rattle.sp_mem.specs.Fits.{CopyFits}
 use Rattle.sp_part_runs.specs.ActsEntries.{IsOpAt}
 use Rattle.sp_circuit_ops.proofs.Typing.{give_each}
 use Rattle.sp_time.specs.Lists.{Each}
@@ -73,16 +74,16 @@ module _ (core : PlainCore) where
   own_dims m h = ap (λ b. if b then (mem core m).dims else (dram core (m - length core.mems)).dims) h
 
   -- an access is of an operation that stands in some list
-  record IsOwn (copy : (mem : ℕ) → Option ℕ) (lists : List NumberedOps) (x : AccessNets) : Type 0 where
+  record IsOwn (copy : (number : ℕ) → Option ℕ) (lists : List NumberedOps) (x : AccessNets) : Type 0 where
     op : PlainOp
     has : HasIn lists x.number op
     mem_is : op.mem ≡ Some x.mem
     kind_is : op.kind ≡ x.kind
     on_chip : nat_lt x.mem (length core.mems) ≡ true
     allowed : can x.kind (kind_of core x.mem) (mem core x.mem).start ≡ true
-    copied : x.copy ≡ copy x.mem
+    copied : x.copy ≡ copy x.number
 
-  module _ (copy : (mem : ℕ) → Option ℕ) (names : RulesNameMemories) (d : Draft) (of_op : EachIsOfOperation) where
+  module _ (copy : (number : ℕ) → Option ℕ) (names : RulesNameMemories) (d : Draft) (of_op : EachIsOfOperation) where
     own_here : (list : NumberedOps) (lists : List NumberedOps) (a : ActedList) (added : List AccessNets) → IsListRight core list → IsListStanding d core list a → AreHandedOn copy list.number list.ops a.ops.items a.nets.items added → (x : AccessNets) → Contains added x
         → IsOwn copy (list ∷ lists) x
     own_here list lists a added right stand handed x there =
@@ -95,7 +96,7 @@ module _ (core : PlainCore) where
           kind_is = sym w.3.of_op.kind;
           on_chip = rule.on_chip;
           allowed = ap (λ k. can k (kind_of core x.mem) (mem core x.mem).start) w.3.of_op.kind ∙ (ap (λ k. can w.1.kind k (mem core x.mem).start) (own_kind x.mem rule.on_chip) ∙ rule.allowed);
-          copied = w.3.of_op.copied;
+          copied = w.3.of_op.copied ∙ ap copy (sym w.3.of_op.first);
         }
 
     own_each : (lists : List NumberedOps) (acted : List ActedList) (accesses : List AccessNets) → AreAllAccesses copy lists acted accesses → Each (IsListRight core) lists → AreListsStanding d core lists acted → (x : AccessNets) → Contains accesses x → IsOwn copy lists x
@@ -105,7 +106,7 @@ module _ (core : PlainCore) where
       | inr w ↦ (let r = own_each lists acted accesses more rights.1 stand.1 x w in record { op = r.op; has = inr r.has; mem_is = r.mem_is; kind_is = r.kind_is; on_chip = r.on_chip; allowed = r.allowed; copied = r.copied })
     ]
 
-pub of_core : (core : PlainCore) (copy : (mem : ℕ) → Option ℕ) → RulesNameMemories → EachIsOfOperation → (acted : List ActedList) (accesses : List AccessNets) → AreTreeAccesses core copy acted accesses → (a : AccessNets) → Contains accesses a → IsOfCore core copy a
+pub of_core : (core : PlainCore) (copy : (number : ℕ) → Option ℕ) → RulesNameMemories → EachIsOfOperation → (acted : List ActedList) (accesses : List AccessNets) → AreTreeAccesses core copy acted accesses → (a : AccessNets) → Contains accesses a → IsOfCore core copy a
 of_core core copy names of_op acted accesses tree a there =
     let r = own_each core copy names tree.draft of_op (lists_in core.root 0) acted accesses tree.all (lists_right core core.root nothing [] 0 tree.right.nodes) tree.stand a there in
     record {
@@ -115,7 +116,9 @@ of_core core copy names of_op acted accesses tree a there =
       copied = r.copied;
     }
 
--- where none are around, each access is to copy 0
-pub no_copy : (m : ℕ) → copy_in [] m ≡ None
-no_copy zero = refl
-no_copy (suc m) = refl
+-- each net of a copy is as wide as those of the list
+pub copy_fits : (d : Draft) (copies : List (Option ℕ)) → All (CopyFits d) copies → (n : ℕ) → CopyFits d (copy_in copies n)
+copy_fits d [] wide zero = tt
+copy_fits d [] wide (suc n) = tt
+copy_fits d (x ∷ copies) wide zero = wide 0 None (omega arith)
+copy_fits d (x ∷ copies) wide (suc n) = copy_fits d copies (λ k e l. wide (suc k) e (omega (arith, l))) n

@@ -59,7 +59,7 @@ taken_from_fifo Dram start e = absurd (false≢true e)
 taken_from_fifo ArgIn start e = absurd (false≢true e)
 taken_from_fifo ArgOut start e = absurd (false≢true e)
 
-module _ (core : PlainCore) (copy : (mem : ℕ) → Option ℕ) (names : RulesNameMemories) (d : Draft) (of_op : EachIsOfOperation) where
+module _ (core : PlainCore) (copy : (number : ℕ) → Option ℕ) (names : RulesNameMemories) (d : Draft) (of_op : EachIsOfOperation) where
   reads_here : (list : NumberedOps) (a : ActedList) (added : List AccessNets) → IsListRight core list → IsListStanding d core list a → AreHandedOn copy list.number list.ops a.ops.items a.nets.items added
       → (x : AccessNets) (word : WordNet) → Contains added x → x.answer ≡ Some word → TakesWord x.kind
   reads_here list a added right stand handed x word there e =

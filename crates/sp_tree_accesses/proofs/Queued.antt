@@ -85,7 +85,7 @@ no_read k m start read fifo allowed = false≢true (subst (λ j. can kind.Read j
 take_waits : (core : PlainCore) (around : Around) (k : OpKind) (o : Option ℕ) (m : ℕ) → k ≡ kind.Deq → o ≡ Some m → is_early_at core around k o ≡ true → ⊥
 take_waits core around k o m take named e = false≢true (subst (λ j. is_early_at core around j (Some m) ≡ true) take (subst (λ v. is_early_at core around k v ≡ true) named e))
 
-module _ (core : PlainCore) (copy : (mem : ℕ) → Option ℕ) (names : RulesNameMemories) (d : Draft) where
+module _ (core : PlainCore) (copy : (number : ℕ) → Option ℕ) (names : RulesNameMemories) (d : Draft) where
   queued_here : (of_op : EachIsOfOperation) (list : NumberedOps) (a : ActedList) (added : List AccessNets) → IsListRight core list → IsListStanding d core list a → AreHandedOn copy list.number list.ops a.ops.items a.nets.items added
       → (x : AccessNets) → Contains added x → QueuedStands d core x
   queued_here of_op list a added right stand handed x there =

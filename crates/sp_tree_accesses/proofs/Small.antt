@@ -1,5 +1,5 @@
 -- The numbers of a core's lists have 32 bits, so a walk goes over all of them.
-use Rattle.std.proofs.Common.{◌≡◌, ℕ, ◌+◌, ◌<◌, ◌≤◌, ◌^◌, List, [], ◌∷◌, ◌++◌, length, sym, ◌∙◌, ap, subst, arith}
+use Rattle.std.proofs.Common.{◌≡◌, ℕ, ◌+◌, ◌<◌, ◌≤◌, ◌^◌, List, [], ◌∷◌, ◌++◌, length, Option, sym, ◌∙◌, ap, subst, arith}
 use Rattle.std.proofs.lemmas.Bool.{ltb-true}
 use Rattle.std.proofs.lemmas.List.{append-nil}
 use Rattle.std.specs.List.{AllZip}
@@ -106,8 +106,8 @@ all_numbered d core bound lt (list ∷ lists) [] below stand = absurd stand
 all_numbered d core bound lt (list ∷ lists) (a ∷ acted) below stand = (record { first = stand.0.first; small = (let b = below.0 in omega (arith, b, lt)) }, all_numbered d core bound lt lists acted below.1 stand.1)
 
 -- so a walk from the first list on has added the accesses of all of them
-pub walked : (core : PlainCore) → IsCore core → (acted : List ActedList) (before after : Walk) → before.at ≡ 0 → before.accesses.items ≡ [] → ((n : ℕ) → AddsLists (lists_in core.root n) acted before after)
-    → (d : Draft) → AreListsStanding d core (lists_in core.root 0) acted → AreAllAccesses (copy_in []) (lists_in core.root 0) acted after.accesses.items
-walked core is acted before after at none adds d stand =
+pub walked : (core : PlainCore) → IsCore core → (copies : List (Option ℕ)) (acted : List ActedList) (before after : Walk) → before.at ≡ 0 → before.accesses.items ≡ [] → ((n : ℕ) → AddsLists (lists_in core.root n) copies acted before after)
+    → (d : Draft) → AreListsStanding d core (lists_in core.root 0) acted → AreAllAccesses (copy_in copies) (lists_in core.root 0) acted after.accesses.items
+walked core is copies acted before after at none adds d stand =
     let w = adds 0 [] acted [] (sym (append-nil acted)) at (all_numbered d core (0 + number_count core.root) (numbers_small core is) (lists_in core.root 0) acted (lists_below core.root 0) stand) in
-    subst (AreAllAccesses (copy_in []) (lists_in core.root 0) acted) (sym (w.behind ∙ ap (λ l. l ++ w.added) none)) w.are
+    subst (AreAllAccesses (copy_in copies) (lists_in core.root 0) acted) (sym (w.behind ∙ ap (λ l. l ++ w.added) none)) w.are

@@ -107,7 +107,7 @@ module _ (core : PlainCore) where
           sym told ∙ (after ∙ (ap (λ b. if b then 0 else latency core op) e
           ∙ (ap (λ k. latency_by k (read_of core op.mem)) read ∙ (ap (λ o. latency_by kind.Read (read_of core o)) named ∙ ap read_latency (sym own)))))
 
-  module _ (copy : (mem : ℕ) → Option ℕ) (names : RulesNameMemories) (d : Draft) where
+  module _ (copy : (number : ℕ) → Option ℕ) (names : RulesNameMemories) (d : Draft) where
     stands_here : (of_op : EachIsOfOperation) (list : NumberedOps) (a : ActedList) (added : List AccessNets) → IsListRight core list → IsListStanding d core list a → AreHandedOn copy list.number list.ops a.ops.items a.nets.items added
         → (list.at_once ≡ true → (op : PlainOp) (m : ℕ) → Contains list.ops op → op.kind ≡ kind.Read → op.mem ≡ Some m → kind_of core m ≡ ArgIn) → (x : AccessNets) → Contains added x → AccessStands d core x
     stands_here of_op list a added right stand handed early x there =

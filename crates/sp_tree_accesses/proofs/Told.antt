@@ -170,7 +170,7 @@ banks_wait core around (kind.Cast to) m b t e = false≢true t
 abbrev pub IsLate : PlainCore → AccessNets → Type 0
 IsLate core x = (around : Around) → touches_memory x.kind ≡ true → is_early_kind core around x.kind (mem core x.mem).kind ≡ true → ⊥
 
-module _ (core : PlainCore) (copy : (mem : ℕ) → Option ℕ) (names : RulesNameMemories) (d : Draft) where
+module _ (core : PlainCore) (copy : (number : ℕ) → Option ℕ) (names : RulesNameMemories) (d : Draft) where
   -- the accesses of a list, as its circuit has them
   pub name_memories : (list : NumberedOps) (a : ActedList) → IsListRight core list → IsListStanding d core list a → AccessesNameMemories list.ops a.ops.items
   name_memories list a right stand = names core right.around list.ops a.ops.items right.right stand.ops_of

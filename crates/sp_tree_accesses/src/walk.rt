@@ -6,7 +6,7 @@ ghost use Rattle.sp_tree_accesses.specs.Walks.{AddsLists};
 
 use sp_access_nets::{AccessNets, accesses_of};
 use sp_core::{CoreCounter, CoreSpan, Node, Op};
-use sp_netlist::NoMemory;
+use sp_netlist::{NetId, NoMemory};
 use sp_op_nets::ActedList;
 use std::alloc::Global;
 
@@ -35,8 +35,14 @@ fn is_small(ops: &[Op], list: &ActedList) -> bool
 }
 
 /// Adds the accesses of a list by the next one that is handed on.
-fn add_list(alloc: Global, walk: &mut Walk, ops: &[Op], acted: &[ActedList]) -> Result<(), NoMemory>
-    ensures { OnOk result ((n : ℕ) (at_once : Bool) → AddsLists (record { number = n; ops = plain_ops ops.now; at_once = at_once } ∷ []) acted.now walk.old walk.new) }
+fn add_list(
+    alloc: Global,
+    walk: &mut Walk,
+    ops: &[Op],
+    acted: &[ActedList],
+    copies: &[Option<NetId>],
+) -> Result<(), NoMemory>
+    ensures { OnOk result ((n : ℕ) (at_once : Bool) → AddsLists (record { number = n; ops = plain_ops ops.now; at_once = at_once } ∷ []) copies.now acted.now walk.old walk.new) }
 {
     let Some(list) = acted.get(walk.at) else {
         return Ok(());
@@ -44,7 +50,7 @@ fn add_list(alloc: Global, walk: &mut Walk, ops: &[Op], acted: &[ActedList]) -> 
     if !is_small(ops, list) {
         return Ok(());
     }
-    let added = accesses_of(alloc, ops, list, &[])?;
+    let added = accesses_of(alloc, ops, list, copies)?;
     append(&mut walk.accesses, added)?;
     walk.at += 1;
     Ok(())
@@ -56,12 +62,13 @@ fn add_bounds(
     walk: &mut Walk,
     counters: &[CoreCounter],
     acted: &[ActedList],
+    copies: &[Option<NetId>],
 ) -> Result<(), NoMemory>
-    ensures { OnOk result ((n : ℕ) → AddsLists (bounds_in (map plain_counter counters.now) n) acted.now walk.old walk.new) }
+    ensures { OnOk result ((n : ℕ) → AddsLists (bounds_in (map plain_counter counters.now) n) copies.now acted.now walk.old walk.new) }
 {
     for counter in counters {
-        add_list(alloc, walk, &counter.from, acted)?;
-        add_list(alloc, walk, &counter.until, acted)?;
+        add_list(alloc, walk, &counter.from, acted, copies)?;
+        add_list(alloc, walk, &counter.until, acted, copies)?;
     }
     Ok(())
 }
@@ -72,14 +79,15 @@ fn add_span(
     walk: &mut Walk,
     span: &CoreSpan,
     acted: &[ActedList],
+    copies: &[Option<NetId>],
 ) -> Result<(), NoMemory>
-    ensures { OnOk result ((n : ℕ) → AddsLists (spans_in (plain_span span.now ∷ []) n) acted.now walk.old walk.new) }
+    ensures { OnOk result ((n : ℕ) → AddsLists (spans_in (plain_span span.now ∷ []) n) copies.now acted.now walk.old walk.new) }
 {
     match span {
-        CoreSpan::One(ops) => add_list(alloc, walk, ops, acted),
+        CoreSpan::One(ops) => add_list(alloc, walk, ops, acted, copies),
         CoreSpan::Range(from, until) => {
-            add_list(alloc, walk, from, acted)?;
-            add_list(alloc, walk, until, acted)
+            add_list(alloc, walk, from, acted, copies)?;
+            add_list(alloc, walk, until, acted, copies)
         }
     }
 }
@@ -90,11 +98,12 @@ fn add_spans(
     walk: &mut Walk,
     spans: &[CoreSpan],
     acted: &[ActedList],
+    copies: &[Option<NetId>],
 ) -> Result<(), NoMemory>
-    ensures { OnOk result ((n : ℕ) → AddsLists (spans_in (map plain_span spans.now) n) acted.now walk.old walk.new) }
+    ensures { OnOk result ((n : ℕ) → AddsLists (spans_in (map plain_span spans.now) n) copies.now acted.now walk.old walk.new) }
 {
     for span in spans {
-        add_span(alloc, walk, span, acted)?;
+        add_span(alloc, walk, span, acted, copies)?;
     }
     Ok(())
 }
@@ -105,22 +114,23 @@ pub(crate) fn add_node(
     walk: &mut Walk,
     node: &Node,
     acted: &[ActedList],
+    copies: &[Option<NetId>],
 ) -> Result<(), NoMemory>
-    ensures { OnOk result ((n : ℕ) → AddsLists (lists_in (plain_node node.now) n) acted.now walk.old walk.new) }
+    ensures { OnOk result ((n : ℕ) → AddsLists (lists_in (plain_node node.now) n) copies.now acted.now walk.old walk.new) }
 {
     match node {
         Node::Inner { counters, ops, .. } => {
-            add_bounds(alloc, walk, counters, acted)?;
-            add_list(alloc, walk, ops, acted)
+            add_bounds(alloc, walk, counters, acted, copies)?;
+            add_list(alloc, walk, ops, acted, copies)
         }
         Node::Outer {
             counters,
             stages,
             ..
         } => {
-            add_bounds(alloc, walk, counters, acted)?;
+            add_bounds(alloc, walk, counters, acted, copies)?;
             for stage in stages {
-                add_node(alloc, walk, &stage.node, acted)?;
+                add_node(alloc, walk, &stage.node, acted, copies)?;
             }
             Ok(())
         }
@@ -131,21 +141,21 @@ pub(crate) fn add_node(
             next,
             ..
         } => {
-            add_list(alloc, walk, start, acted)?;
-            add_list(alloc, walk, test, acted)?;
-            add_node(alloc, walk, body, acted)?;
-            add_list(alloc, walk, next, acted)
+            add_list(alloc, walk, start, acted, copies)?;
+            add_list(alloc, walk, test, acted, copies)?;
+            add_node(alloc, walk, body, acted, copies)?;
+            add_list(alloc, walk, next, acted, copies)
         }
         Node::Branch { test, yes, no } => {
-            add_list(alloc, walk, test, acted)?;
-            add_node(alloc, walk, yes, acted)?;
-            add_node(alloc, walk, no, acted)
+            add_list(alloc, walk, test, acted, copies)?;
+            add_node(alloc, walk, yes, acted, copies)?;
+            add_node(alloc, walk, no, acted, copies)
         }
-        Node::Load { span, .. } => add_spans(alloc, walk, span, acted),
-        Node::Store { span, .. } => add_spans(alloc, walk, span, acted),
+        Node::Load { span, .. } => add_spans(alloc, walk, span, acted, copies),
+        Node::Store { span, .. } => add_spans(alloc, walk, span, acted, copies),
         Node::Sparse { span, count, .. } => {
-            add_spans(alloc, walk, span, acted)?;
-            add_list(alloc, walk, count, acted)
+            add_spans(alloc, walk, span, acted, copies)?;
+            add_list(alloc, walk, count, acted, copies)
         }
     }
 }

@@ -10,13 +10,13 @@ use Rattle.sp_scalar_nets.proofs.scalars.emit_argument.Goals as goal
 
 pub emit_followers-requires-clause-reads : goal.emit_followers-requires-clause-reads
 emit_followers-requires-clause-reads c =
-    let fits = c.requires.fits.2 in
+    let fits = c.requires.fits.3 in
     rw (c.deref.ensures.value, c.width.ensures.value, ap (λ (m : PlainMem). m.ty) c.memory.ensures.memory)
-    (reads_kept _ _ _ _ c.in_ok-one.ensures.fills (reads_fit _ _ _ _ fits.accesses_stand fits.awaiting c.in_ok-reads.reads.items c.in_ok-reads.ensures))
+    (reads_kept _ _ _ _ c.in_ok-one.ensures.fills (reads_fit _ _ _ _ fits.accesses_stand fits.accesses_copied fits.awaiting c.in_ok-reads.reads.items c.in_ok-reads.ensures))
 
 pub emit_followers-requires-clause-apart : goal.emit_followers-requires-clause-apart
 emit_followers-requires-clause-apart c =
-    subst AreApart (sym c.deref.ensures.value) (reads_apart c.args.m c.args.accesses.now c.requires.fits.2.rise c.in_ok-reads.reads.items c.in_ok-reads.ensures)
+    subst AreApart (sym c.deref.ensures.value) (reads_apart c.args.m c.args.accesses.now c.requires.fits.3.rise c.in_ok-reads.reads.items c.in_ok-reads.ensures)
 
 pub returns-clause-fills : goal.returns-clause-fills
 returns-clause-fills c =

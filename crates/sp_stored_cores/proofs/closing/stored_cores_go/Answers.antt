@@ -6,7 +6,6 @@ returns c core plan delays s child arguments words is x starts input h left r gi
     along core plan delays
     (record {
       act = c.accesses_act.ensures core plan delays;
-      own = c.cores_own.ensures core plan delays;
       have = c.operations_have_accesses.ensures core;
       answer = c.memories_answer.ensures core plan delays;
       hold = c.memories_hold.ensures core plan;

@@ -7,4 +7,4 @@ abbrev pub decreases-add_node : goal.decreases-add_node
 decreases-add_node l = goal.size-add_node l
 
 abbrev pub invariant-loop-stage : goal.invariant-loop-stage
-invariant-loop-stage l = StagesSoFar l.acted (plain_node l.fn.node) (drop l.stage-index l.stage-items) l.fn.walk l.walk
+invariant-loop-stage l = StagesSoFar l.copies l.acted (plain_node l.fn.node) (drop l.stage-index l.stage-items) l.fn.walk l.walk

@@ -5,4 +5,4 @@ use Rattle.sp_tree_accesses.specs.Walks.{AddsLists}
 use Rattle.sp_tree_accesses.proofs.walk.add_bounds.Given as goal
 
 abbrev pub invariant-loop-counter : goal.invariant-loop-counter
-invariant-loop-counter l = (n : ℕ) → AddsLists (bounds_in (map plain_counter (take l.counter-index l.counters)) n) l.acted l.fn.walk l.walk
+invariant-loop-counter l = (n : ℕ) → AddsLists (bounds_in (map plain_counter (take l.counter-index l.counters)) n) l.copies l.acted l.fn.walk l.walk

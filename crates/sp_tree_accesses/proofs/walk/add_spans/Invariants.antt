@@ -5,4 +5,4 @@ use Rattle.sp_tree_accesses.specs.Walks.{AddsLists}
 use Rattle.sp_tree_accesses.proofs.walk.add_spans.Given as goal
 
 abbrev pub invariant-loop-span : goal.invariant-loop-span
-invariant-loop-span l = (n : ℕ) → AddsLists (spans_in (map plain_span (take l.span-index l.spans)) n) l.acted l.fn.walk l.walk
+invariant-loop-span l = (n : ℕ) → AddsLists (spans_in (map plain_span (take l.span-index l.spans)) n) l.copies l.acted l.fn.walk l.walk
