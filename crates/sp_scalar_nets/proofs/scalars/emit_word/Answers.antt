@@ -1,4 +1,4 @@
-use Rattle.std.proofs.Common.{◌<◌, ◌≤◌, length, sym, subst, ◌∙◌}
+use Rattle.std.proofs.Common.{◌<◌, ◌≤◌, sym, subst, ◌∙◌}
 use Rattle.sp_words.specs.Types.{width_of}
 use Rattle.sp_gates.specs.Grows.{Fills}
 use Rattle.sp_gates.specs.Nets.{HasNet}

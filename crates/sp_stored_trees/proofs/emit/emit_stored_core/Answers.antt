@@ -1,8 +1,6 @@
-use Rattle.std.proofs.Common.{[], ◌++◌, List, Option, ℕ, All, sym, subst}
+use Rattle.std.proofs.Common.{[], ◌++◌, sym, subst}
 use Rattle.std.proofs.lemmas.List.Elements.{All-nil}
-use Rattle.sp_netlist.specs.Signals.{Signals}
 use Rattle.sp_gates.specs.Grows.{Fills}
-use Rattle.sp_gates.specs.Runs.{RunsOn}
 use Rattle.sp_gates.proofs.Growing.{HasNet-stays}
 use Rattle.sp_core.specs.CoreParts.{plain_core}
 use Rattle.sp_plan.specs.Plain.{plain_plan}
@@ -16,7 +14,7 @@ use Rattle.sp_tree_nets.specs.Whole.{IsWhole}
 use Rattle.sp_array_nets.specs.Banks.{wires_in}
 use Rattle.sp_array_nets.specs.Fits.{MemoriesFit}
 use Rattle.sp_array_nets.specs.Runs.{RunMemories}
-use Rattle.sp_stored_trees.proofs.Emitting.{TreeRuns, fits, filled, circuit}
+use Rattle.sp_stored_trees.proofs.Emitting.{fits, filled, circuit}
 use Rattle.sp_stored_trees.proofs.First.{owners_stand, owners_name_none}
 use Rattle.sp_stored_trees.proofs.emit.emit_stored_core.Goals as goal
 
