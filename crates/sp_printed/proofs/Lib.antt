@@ -1,0 +1,17 @@
+pub mod Takings
+pub mod Values
+pub mod Literals
+pub mod Operators
+pub mod Leads
+pub mod Calls
+pub mod Signs
+pub mod Exprs
+pub mod Loops
+pub mod Heads
+pub mod Declarations
+pub mod Memories
+pub mod Bodies
+pub mod Simple
+pub mod Controllers
+pub mod Statements
+pub mod Programs

@@ -1,0 +1,4 @@
+pub mod Trees
+pub mod LoopTrees
+pub mod StatementTrees
+pub mod Laws
