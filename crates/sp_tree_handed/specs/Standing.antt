@@ -18,8 +18,10 @@ use Rattle.sp_op_nets.specs.declared.acted.ActedList.{ActedList}
 use Rattle.sp_op_nets.specs.Acted.{AnswersStand, AreAnsweredAfter}
 use Rattle.sp_access_nets.specs.declared.access.AccessNets.{AccessNets}
 use Rattle.sp_tree_handed.specs.declared.owners.Keeping.{Keeping}
+use Rattle.sp_tree_handed.specs.declared.owners.LoopTurns.{LoopTurns}
 use Rattle.sp_tree_handed.specs.declared.owners.OwnerNets.{OwnerNets}
 use Rattle.sp_tree_handed.specs.declared.owners.Renewal.{Renewal}
+use Rattle.sp_tree_handed.specs.declared.owners.TreeOwners.{TreeOwners}
 use Rattle.sp_tree_handed.specs.Lists.{NumberedOps, lists_in}
 use Rattle.sp_tree_handed.specs.Scalars.{IsInBanks}
 
@@ -62,6 +64,18 @@ pub record AccessStands (d : Draft) (core : PlainCore) (a : AccessNets) : Type 0
 pub record KeepingStands (d : Draft) (core : PlainCore) (k : Keeping) : Type 0 where
   pub done : HasNet d k.done 1
   pub word : HasNet d k.word (width_of (mem core k.mem).ty)
+
+-- and those of loops and FSMs as the tree hands them on
+pub record TurnsStand (d : Draft) (turns : LoopTurns) : Type 0 where
+  pub start : HasNet d turns.start 1
+  pub firsts : All (λ net. HasNet d net 1) turns.firsts.items
+
+pub record AreTurnsStanding (d : Draft) (core : PlainCore) (turns : List LoopTurns) (keepings : List Keeping) : Type 0 where
+  pub turn : All (TurnsStand d) turns
+  pub kept : All (KeepingStands d core) keepings
+
+abbrev pub HandedStand : Draft → PlainCore → TreeOwners → Type 0
+HandedStand d core owners = AreTurnsStanding d core owners.turns.items owners.kept.items
 
 pub record AreOwnersStanding (d : Draft) (core : PlainCore) (renewals : List Renewal) (keepings : List Keeping) : Type 0 where
   pub renewed : All (λ (r : Renewal). HasNet d r.first 1) renewals

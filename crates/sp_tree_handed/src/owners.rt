@@ -1,6 +1,15 @@
 //! Nets of owners.
 use sp_netlist::NetId;
 
+/// How a loop with stages turns: the net by which it is started, and for each of its slots the net that is 1 where the slot gets a
+/// group. `owned` are the memories that the loop owns.
+#[derive(Debug, Drop)]
+pub struct LoopTurns {
+    pub start: NetId,
+    pub owned: Vec<u32>,
+    pub firsts: Vec<NetId>,
+}
+
 /// A loop makes its memory fresh in each cycle in which `first` is 1, in the copy whose number `copy` has then: copy 0 where there is no
 /// such net.
 #[derive(Clone, Copy, Debug, PartialEq, Eq)]
@@ -18,6 +27,13 @@ pub struct Keeping {
     pub done: NetId,
     pub word: NetId,
     pub copy: Option<NetId>,
+}
+
+/// What a tree hands on of its owners, in its order: how its loops turn, and where its FSMs keep their states, with no nets of copies.
+#[derive(Debug, Drop)]
+pub struct TreeOwners {
+    pub turns: Vec<LoopTurns>,
+    pub kept: Vec<Keeping>,
 }
 
 /// What the owners in a tree do to their memories, in the order of the tree.

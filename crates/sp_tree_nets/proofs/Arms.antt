@@ -1,5 +1,5 @@
 -- What a branch and an FSM are, by the parts of a node as its function takes them.
-use Rattle.std.proofs.Common.{◌≡◌, ℕ, ◌+◌, List, [], ◌∷◌, ◌++◌, length, sym, ◌∙◌, ap, subst}
+use Rattle.std.proofs.Common.{◌≡◌, ℕ, ◌+◌, List, [], ◌∷◌, ◌++◌, length, sym, ◌∙◌, ap, subst, None}
 use Rattle.sp_words.specs.declared.types.Ty.{Ty}
 use Rattle.sp_words.specs.declared.types.Ty.TheVariants.{Bit}
 use Rattle.sp_netlist.specs.declared.parts.Child.{Child}
@@ -18,7 +18,7 @@ use Rattle.sp_op_nets.specs.Acted.{answers_of, answers_in}
 use Rattle.sp_op_nets.specs.Reserved.{Reserves}
 use Rattle.sp_list_circuits.specs.Turns.{IsInTurns, IsWordRight}
 use Rattle.sp_tree_handed.specs.declared.owners.Keeping.{Keeping}
-use Rattle.sp_tree_handed.specs.declared.owners.Renewal.{Renewal}
+use Rattle.sp_tree_handed.specs.declared.owners.LoopTurns.{LoopTurns}
 use Rattle.sp_tree_handed.specs.Owners.{keeping}
 use Rattle.sp_tree_nets.specs.Emitted.{CanEmit, IsTree}
 use Rattle.sp_tree_nets.proofs.Sides.{answers_append, branch_one, branch_other, branch_is}
@@ -46,15 +46,15 @@ module _ (core : PlainCore) (plan : PlainPlan) (table : List AroundNets) (node :
       (subst (λ m. CanEmit e core plan table second (k + 1 + node_count first) (n + length ops + m)) (sym numbers_is) (branch_other d core plan table ops first second k n (subst (λ y. CanEmit d core plan table y k n) is can) e g))))
 
   pub arm_is : (a b c d e : Draft) (begin : ℕ) (child : Child) (taken : List PlainOp) (test : Child) (tested : ℕ) (one other : Child) (list : ActedList) (xs ys acted : List ActedList)
-      (rs ss renewed : List Renewal) (ps qs kept : List Keeping) (x y : PlainNode) → renewed ≡ rs ++ ss → kept ≡ ps ++ qs → taken ≡ ops → x ≡ first → y ≡ second → child.start ≡ begin
+      (rs ss turns : List LoopTurns) (ps qs kept : List Keeping) (x y : PlainNode) → turns ≡ rs ++ ss → kept ≡ ps ++ qs → taken ≡ ops → x ≡ first → y ≡ second → child.start ≡ begin
       → acted ≡ list ∷ (xs ++ ys) → Grows a b → Grows b c → Grows c d → Grows d e → IsInTurns a b core table n taken test tested list → IsTree b c core plan table x (k + 1) (n + len) one xs rs ps
-      → IsTree c d core plan table y (k + 1 + nodes) (n + len + numbers) other ys ss qs → ((s : Signals) → RunsOn s e.cells → RunsBranch s begin test tested one other child.done) → IsTree a e core plan table node k n child acted renewed kept
-  arm_is a b c d e begin child taken test tested one other list xs ys acted rs ss renewed ps qs kept x y renewed_is kept_is taken_is x_is y_is start_is acted_is g h i j turns left right runs =
-      subst (λ v. IsTree a e core plan table v k n child acted renewed kept) (sym is)
-      (subst (λ v. IsTree a e core plan table (branch ops first second) k n child v renewed kept) (sym acted_is)
-      (subst (λ v. IsTree a e core plan table (branch ops first second) k n child (list ∷ (xs ++ ys)) v kept) (sym renewed_is)
+      → IsTree c d core plan table y (k + 1 + nodes) (n + len + numbers) other ys ss qs → ((s : Signals) → RunsOn s e.cells → RunsBranch s begin test tested one other child.done) → IsTree a e core plan table node k n child acted turns kept
+  arm_is a b c d e begin child taken test tested one other list xs ys acted rs ss turns ps qs kept x y turns_is kept_is taken_is x_is y_is start_is acted_is g h i j tests left right runs =
+      subst (λ v. IsTree a e core plan table v k n child acted turns kept) (sym is)
+      (subst (λ v. IsTree a e core plan table (branch ops first second) k n child v turns kept) (sym acted_is)
+      (subst (λ v. IsTree a e core plan table (branch ops first second) k n child (list ∷ (xs ++ ys)) v kept) (sym turns_is)
       (subst (λ v. IsTree a e core plan table (branch ops first second) k n child (list ∷ (xs ++ ys)) (rs ++ ss) v) (sym kept_is)
-      (branch_is a b c d e core plan table ops first second k n child.start child.done test tested one other list xs ys rs ss ps qs g h i j (subst (λ v. IsInTurns a b core table n v test tested list) taken_is turns)
+      (branch_is a b c d e core plan table ops first second k n child.start child.done test tested one other list xs ys rs ss ps qs g h i j (subst (λ v. IsInTurns a b core table n v test tested list) taken_is tests)
       (subst (λ l. IsTree b c core plan table first (k + 1) (n + l) one xs rs ps) len_is (subst (λ v. IsTree b c core plan table v (k + 1) (n + len) one xs rs ps) x_is left))
       (subst (λ l. IsTree c d core plan table second (k + 1 + node_count first) (n + l + number_count first) other ys ss qs) len_is
       (subst (λ j. IsTree c d core plan table second (k + 1 + j) (n + len + number_count first) other ys ss qs) nodes_is
@@ -77,13 +77,13 @@ module _ (core : PlainCore) (plan : PlainPlan) (table : List AroundNets) (node :
         (subst (λ l. CanEmit e core plan table body (k + 1) (n + (length start + l))) (sym more_is) (machine_body d core plan table start state test body next k n (subst (λ y. CanEmit d core plan table y k n) is can) e g)))
 
     pub round_is : (a b c d e : Draft) (begin : ℕ) (child first : Child) (begun : ℕ) (check : Child) (tested : ℕ) (work step : Child) (stepped : ℕ) (x y : ActedList) (xs : List ActedList) (z : ActedList) (acted : List ActedList)
-        (rs renewed : List Renewal) (ps kept : List Keeping) (start' test' next' : List PlainOp) (body' : PlainNode) (count : ℕ) → renewed ≡ rs → kept ≡ (keeping state first.done begun ∷ keeping state step.done stepped ∷ []) ++ ps → start' ≡ start → test' ≡ test → next' ≡ next → body' ≡ body → count ≡ length start → child.start ≡ begin → acted ≡ x ∷ y ∷ (xs ++ z ∷ [])
+        (rs turns : List LoopTurns) (ps kept : List Keeping) (start' test' next' : List PlainOp) (body' : PlainNode) (count : ℕ) → turns ≡ rs → kept ≡ (keeping state first.done begun None ∷ keeping state step.done stepped None ∷ []) ++ ps → start' ≡ start → test' ≡ test → next' ≡ next → body' ≡ body → count ≡ length start → child.start ≡ begin → acted ≡ x ∷ y ∷ (xs ++ z ∷ [])
         → Grows a b → Grows b c → Grows c d → Grows d e → IsInTurns a b core table n start' first begun x → IsInTurns a b core table (n + count) test' check tested y → IsTree b c core plan table body' (k + 1) (n + (len + more)) work xs rs ps
-        → IsInTurns c d core table (n + (len + more) + numbers) next' step stepped z → ((s : Signals) → RunsOn s e.cells → RunsFsm s begin first check tested work step child.done) → IsTree a e core plan table node k n child acted renewed kept
-    round_is a b c d e begin child first begun check tested work step stepped x y xs z acted rs renewed ps kept start' test' next' body' count renewed_is kept_is start_is test_is next_is body_is count_is begin_is acted_is g h i j firsts tests tree nexts runs =
-        subst (λ v. IsTree a e core plan table v k n child acted renewed kept) (sym is)
-        (subst (λ v. IsTree a e core plan table (fsm start state test body next) k n child v renewed kept) (sym acted_is)
-        (subst (λ v. IsTree a e core plan table (fsm start state test body next) k n child (x ∷ y ∷ (xs ++ z ∷ [])) v kept) (sym renewed_is)
+        → IsInTurns c d core table (n + (len + more) + numbers) next' step stepped z → ((s : Signals) → RunsOn s e.cells → RunsFsm s begin first check tested work step child.done) → IsTree a e core plan table node k n child acted turns kept
+    round_is a b c d e begin child first begun check tested work step stepped x y xs z acted rs turns ps kept start' test' next' body' count turns_is kept_is start_is test_is next_is body_is count_is begin_is acted_is g h i j firsts tests tree nexts runs =
+        subst (λ v. IsTree a e core plan table v k n child acted turns kept) (sym is)
+        (subst (λ v. IsTree a e core plan table (fsm start state test body next) k n child v turns kept) (sym acted_is)
+        (subst (λ v. IsTree a e core plan table (fsm start state test body next) k n child (x ∷ y ∷ (xs ++ z ∷ [])) v kept) (sym turns_is)
         (subst (λ v. IsTree a e core plan table (fsm start state test body next) k n child (x ∷ y ∷ (xs ++ z ∷ [])) rs v) (sym kept_is)
         (machine_is a b c d e core plan table start state test body next k n child.start child.done first begun check tested work step stepped x y xs z rs ps g h i j (subst (λ v. IsInTurns a b core table n v first begun x) start_is firsts)
         (subst (λ l. IsInTurns a b core table (n + l) test check tested y) count_is (subst (λ v. IsInTurns a b core table (n + count) v check tested y) test_is tests))

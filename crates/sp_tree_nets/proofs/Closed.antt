@@ -49,8 +49,7 @@ use Rattle.sp_stage_members.specs.Members.{part_at, starts_in}
 use Rattle.sp_loop_circuits.specs.Laws.{ArePartsOf}
 use Rattle.sp_loop_circuits.specs.Loops.{IsClosed}
 use Rattle.sp_tree_handed.specs.declared.owners.Keeping.{Keeping}
-use Rattle.sp_tree_handed.specs.declared.owners.Renewal.{Renewal}
-use Rattle.sp_tree_handed.specs.Owners.{renewed_by}
+use Rattle.sp_tree_handed.specs.declared.owners.LoopTurns.{LoopTurns}
 use Rattle.sp_tree_nets.specs.Emitted.{CanEmit, IsTree}
 use Rattle.sp_tree_nets.specs.Stages.{AreStages, CanEmitStages, StagesIn, AreDivided, to_one}
 use Rattle.sp_tree_nets.proofs.Dividing.{ones_behind, others_behind, is_other, one_there, each_there, none_in_both}
@@ -124,7 +123,7 @@ own_masks : (counters : List PlainCounter) (begun : OpenLoop) → AreMasksOf cou
 own_masks [] begun = tt
 own_masks (c ∷ counters) begun = refl
 
-module _ (a b c : Draft) (core : PlainCore) (plan : PlainPlan) (table : List AroundNets) (begun : OpenLoop) (counters : List PlainCounter) (stages : PlainStages) (slots : List ℕ) (k n : ℕ) (bs : List ActedList) (parts : List StagePart) (xs : List ActedList) (rs : List Renewal) (ks : List Keeping)
+module _ (a b c : Draft) (core : PlainCore) (plan : PlainPlan) (table : List AroundNets) (begun : OpenLoop) (counters : List PlainCounter) (stages : PlainStages) (slots : List ℕ) (k n : ℕ) (bs : List ActedList) (parts : List StagePart) (xs : List ActedList) (rs : List LoopTurns) (ks : List Keeping)
     (was : Reserves a b (begun.part.step ∷ (answers_in bs ++ row_nets begun.rows.rows.items))) (st : AreStages b c core plan table begun counters stages slots (k + 1) (n + counters_size counters) parts xs rs ks) where
   pub all_reserved : Reserves a c (begun.part.step ∷ (answers_in bs ++ (row_nets begun.rows.rows.items ++ st.nets)))
   all_reserved =
@@ -178,11 +177,11 @@ module _ (a b c : Draft) (core : PlainCore) (plan : PlainPlan) (table : List Aro
         dones = st.dones;
       }
 
-      pub loop_is : (d : Draft) (places : List (List (List ℕ))) (firsts : List ℕ) (done : ℕ) (style : Style) (owned : List ℕ) → Grows c d → IsClosed d begun parts places firsts done → ((s : Signals) → RunsOn s b.cells → CountsGroups s begun.part begun.nets)
+      pub loop_is : (d : Draft) (places : List (List (List ℕ))) (firsts : List ℕ) (done : ℕ) (style : Style) (owned : List ℕ) (own : LoopTurns) → own.start ≡ begun.part.start → own.owned.items ≡ owned → own.firsts.items ≡ firsts → Grows c d → IsClosed d begun parts places firsts done → ((s : Signals) → RunsOn s b.cells → CountsGroups s begun.part begun.nets)
           → HasBounds a b table n counters begun.part.counters.items bs → length begun.rows.rows.items ≡ length places → AreArranged places (slots_of (node_plan plan k)) → length (slots_of (node_plan plan k)) ≡ stage_count stages
           → slots ≡ slot_numbers (node_plan plan k) → MembersAreCircuits → RowsTakeWords → IsTree a d core plan table (outer counters style owned stages) k n (record { start = begun.part.start; done = done }) (bs ++ xs)
-          (renewed_by core (node_plan plan k) stages firsts owned ++ rs) ks
-      loop_is d places firsts done style owned g closed counts has each arranged size slots_are members taken around earlier is stand s run =
+          (own ∷ rs) ks
+      loop_is d places firsts done style owned own start_is owned_are firsts_are g closed counts has each arranged size slots_are members taken around earlier is stand s run =
           let p = node_plan plan k in
           let at_c = runs_earlier c d s g run in
           let at_b = runs_earlier b c s st.reserves.grows at_c in
@@ -221,7 +220,7 @@ module _ (a b c : Draft) (core : PlainCore) (plan : PlainPlan) (table : List Aro
               parts = inside.circuits;
             };
             handed = record { bounds = bs; inside = xs; all = refl; bound = bounds.acts; stand = inside.handed };
-            owners = record { rest = rs; renewed_are = refl; stages = inside.owners };
+            owners = record { own = own; rest = rs; turns_are = refl; start_is = start_is; owned_are = owned_are; firsts_are = firsts_are; stages = inside.owners };
           }
         where
           plain_at : (m at : ℕ) → at ≡ 0 + m → at ≡ m

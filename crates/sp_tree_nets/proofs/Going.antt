@@ -12,28 +12,28 @@ use Rattle.sp_op_nets.specs.declared.table.AroundNets.{AroundNets}
 use Rattle.sp_loop_nets.specs.declared.opening.OpenLoop.{OpenLoop}
 use Rattle.sp_stage_members.specs.declared.part.StagePart.{StagePart}
 use Rattle.sp_tree_handed.specs.declared.owners.Keeping.{Keeping}
-use Rattle.sp_tree_handed.specs.declared.owners.Renewal.{Renewal}
+use Rattle.sp_tree_handed.specs.declared.owners.LoopTurns.{LoopTurns}
 use Rattle.sp_tree_nets.specs.Stages.{CanEmitStages, LoopStands, AreStages, IsStage}
 use Rattle.sp_tree_nets.proofs.Lanes.{both_stages}
 use Rattle.sp_tree_nets.proofs.Opened.{loop_later, other_stages}
 
 -- whatever comes of the stages that are left, it is of all of them behind those before
-abbrev pub StagesSoFar : (old cur : Draft) → PlainCore → PlainPlan → List AroundNets → OpenLoop → List PlainCounter → List Stage → List ℕ → (k n i at second next : ℕ) → List StagePart → List ActedList → List Renewal → List Keeping → Type 0
-StagesSoFar old cur core plan table begun counters stages slots k n i at second next parts acted renewed kept =
+abbrev pub StagesSoFar : (old cur : Draft) → PlainCore → PlainPlan → List AroundNets → OpenLoop → List PlainCounter → List Stage → List ℕ → (k n i at second next : ℕ) → List StagePart → List ActedList → List LoopTurns → List Keeping → Type 0
+StagesSoFar old cur core plan table begun counters stages slots k n i at second next parts acted turns kept =
     CanEmitStages cur core plan table counters (plain_stage_list (drop i stages)) second next × LoopStands cur begun counters × (at ≡ i)
-    × ((new : Draft) (ps : List StagePart) (ls : List ActedList) (rs : List Renewal) (ks : List Keeping) → AreStages cur new core plan table begun counters (plain_stage_list (drop i stages)) (drop i slots) second next ps ls rs ks
-    → AreStages old new core plan table begun counters (plain_stage_list stages) slots k n (parts ++ ps) (acted ++ ls) (renewed ++ rs) (kept ++ ks))
+    × ((new : Draft) (ps : List StagePart) (ls : List ActedList) (rs : List LoopTurns) (ks : List Keeping) → AreStages cur new core plan table begun counters (plain_stage_list (drop i stages)) (drop i slots) second next ps ls rs ks
+    → AreStages old new core plan table begun counters (plain_stage_list stages) slots k n (parts ++ ps) (acted ++ ls) (turns ++ rs) (kept ++ ks))
 
 module _ (old cur mid : Draft) (core : PlainCore) (plan : PlainPlan) (table : List AroundNets) (begun : OpenLoop) (counters : List PlainCounter) (stages : List Stage) (slots : List ℕ) (k n i at second next c1 c2 : ℕ) (item : Stage) (parts parts' : List StagePart)
-    (acted acted' : List ActedList) (renewed renewed' : List Renewal) (kept kept' : List Keeping) (part : StagePart) (xs : List ActedList) (us : List Renewal) (vs : List Keeping)
-    (inv : StagesSoFar old cur core plan table begun counters stages slots k n i at second next parts acted renewed kept) (cut : drop i stages ≡ item ∷ drop (i + 1) stages) where
+    (acted acted' : List ActedList) (turns turns' : List LoopTurns) (kept kept' : List Keeping) (part : StagePart) (xs : List ActedList) (us : List LoopTurns) (vs : List Keeping)
+    (inv : StagesSoFar old cur core plan table begun counters stages slots k n i at second next parts acted turns kept) (cut : drop i stages ≡ item ∷ drop (i + 1) stages) where
   pub item_can : CanEmitStages cur core plan table counters (plain_stage_list (item ∷ drop (i + 1) stages)) second next
   item_can = subst (λ l. CanEmitStages cur core plan table counters (plain_stage_list l) second next) cut inv.0
 
   module _ (low : i < length slots) (one : c1 ≡ node_count (plain_node item.node)) (two : c2 ≡ number_count (plain_node item.node))
       (is : IsStage cur mid core plan table begun counters item.first item.last (plain_node item.node) (get_or slots at 0) second next part xs us vs) (parts_are : parts' ≡ parts ++ part ∷ []) (acted_are : acted' ≡ acted ++ xs)
-      (renewed_are : renewed' ≡ renewed ++ us) (kept_are : kept' ≡ kept ++ vs) where
-    pub stages_step : StagesSoFar old mid core plan table begun counters stages slots k n (i + 1) (at + 1) (second + c1) (next + c2) parts' acted' renewed' kept'
+      (turns_are : turns' ≡ turns ++ us) (kept_are : kept' ≡ kept ++ vs) where
+    pub stages_step : StagesSoFar old mid core plan table begun counters stages slots k n (i + 1) (at + 1) (second + c1) (next + c2) parts' acted' turns' kept'
     stages_step = (
       subst (λ x. CanEmitStages mid core plan table counters (plain_stage_list (drop (i + 1) stages)) (second + x) (next + c2)) (sym one)
           (subst (λ y. CanEmitStages mid core plan table counters (plain_stage_list (drop (i + 1) stages)) (second + node_count (plain_node item.node)) (next + y)) (sym two)
@@ -48,8 +48,8 @@ module _ (old cur mid : Draft) (core : PlainCore) (plan : PlainPlan) (table : Li
           let there = inv.3 new (part ∷ ps) (xs ++ ls) (us ++ rs) (vs ++ ks)
           (subst (λ l. AreStages cur new core plan table begun counters (plain_stage_list l) (drop i slots) second next (part ∷ ps) (xs ++ ls) (us ++ rs) (vs ++ ks)) (sym cut)
           (subst (λ l. AreStages cur new core plan table begun counters (plain_stage_list (item ∷ drop (i + 1) stages)) l second next (part ∷ ps) (xs ++ ls) (us ++ rs) (vs ++ ks)) (sym (drop_more slots i 0 low)) both)) in
-          subst (λ l. AreStages old new core plan table begun counters (plain_stage_list stages) slots k n l (acted' ++ ls) (renewed' ++ rs) (kept' ++ ks)) (sym (ap (λ l. l ++ ps) parts_are ∙ append_assoc parts (part ∷ []) ps))
-          (subst (λ l. AreStages old new core plan table begun counters (plain_stage_list stages) slots k n (parts ++ (part ∷ ps)) l (renewed' ++ rs) (kept' ++ ks)) (sym (ap (λ l. l ++ ls) acted_are ∙ append_assoc acted xs ls))
-          (subst (λ l. AreStages old new core plan table begun counters (plain_stage_list stages) slots k n (parts ++ (part ∷ ps)) (acted ++ (xs ++ ls)) l (kept' ++ ks)) (sym (ap (λ l. l ++ rs) renewed_are ∙ append_assoc renewed us rs))
-          (subst (λ l. AreStages old new core plan table begun counters (plain_stage_list stages) slots k n (parts ++ (part ∷ ps)) (acted ++ (xs ++ ls)) (renewed ++ (us ++ rs)) l) (sym (ap (λ l. l ++ ks) kept_are ∙ append_assoc kept vs ks)) there))),
+          subst (λ l. AreStages old new core plan table begun counters (plain_stage_list stages) slots k n l (acted' ++ ls) (turns' ++ rs) (kept' ++ ks)) (sym (ap (λ l. l ++ ps) parts_are ∙ append_assoc parts (part ∷ []) ps))
+          (subst (λ l. AreStages old new core plan table begun counters (plain_stage_list stages) slots k n (parts ++ (part ∷ ps)) l (turns' ++ rs) (kept' ++ ks)) (sym (ap (λ l. l ++ ls) acted_are ∙ append_assoc acted xs ls))
+          (subst (λ l. AreStages old new core plan table begun counters (plain_stage_list stages) slots k n (parts ++ (part ∷ ps)) (acted ++ (xs ++ ls)) l (kept' ++ ks)) (sym (ap (λ l. l ++ rs) turns_are ∙ append_assoc turns us rs))
+          (subst (λ l. AreStages old new core plan table begun counters (plain_stage_list stages) slots k n (parts ++ (part ∷ ps)) (acted ++ (xs ++ ls)) (turns ++ (us ++ rs)) l) (sym (ap (λ l. l ++ ks) kept_are ∙ append_assoc kept vs ks)) there))),
     )

@@ -24,10 +24,10 @@ use Rattle.sp_loop_nets.specs.declared.opening.OpenLoop.{OpenLoop}
 use Rattle.sp_stage_members.specs.declared.part.StagePart.{StagePart}
 use Rattle.sp_stage_members.specs.Members.{part_at, starts_in}
 use Rattle.sp_tree_handed.specs.declared.owners.Keeping.{Keeping}
-use Rattle.sp_tree_handed.specs.declared.owners.Renewal.{Renewal}
+use Rattle.sp_tree_handed.specs.declared.owners.LoopTurns.{LoopTurns}
 use Rattle.sp_tree_handed.specs.Lists.{lists_in, lists_in_stages}
 use Rattle.sp_tree_handed.proofs.Joining.{lists_join, lists_later}
-use Rattle.sp_tree_handed.proofs.Owning.{no_owners_stand, owners_join, owners_later}
+use Rattle.sp_tree_handed.proofs.Owning.{no_turns_stand, turns_join, turns_later}
 use Rattle.sp_tree_nets.specs.Emitted.{TreeIn}
 use Rattle.sp_tree_nets.specs.Stages.{IsStage, AreTrees, AreStages, AreDivided, no_more, to_one}
 use Rattle.sp_tree_nets.proofs.Dividing.{others_behind}
@@ -46,17 +46,17 @@ no_stages d core plan table begun counters k n = record {
   awaits = λ i lt. absurd (omega (arith, lt));
   dones = λ i lt. absurd (omega (arith, lt));
   lists = tt;
-  owners = no_owners_stand d core;
+  owners = no_turns_stand d core;
   trees = λ around earlier owned right stand s run i nets child nets_are child_are. record { circuits = tt; handed = refl; owners = (refl, refl) };
 }
 
-module _ (core : PlainCore) (plan : PlainPlan) (s : Signals) (near : List Near) (node : PlainNode) (k n : ℕ) (acted : List ActedList) (renewed : List Renewal) (kept : List Keeping) where
-  pub tree_by : (env other : Nets) (c d : Child) → env ≡ other → c ≡ d → TreeIn core plan s near env node k n c acted renewed kept → TreeIn core plan s near other node k n d acted renewed kept
-  tree_by env other c d e f t = subst (λ x. TreeIn core plan s near other node k n x acted renewed kept) f (subst (λ x. TreeIn core plan s near x node k n c acted renewed kept) e t)
+module _ (core : PlainCore) (plan : PlainPlan) (s : Signals) (near : List Near) (node : PlainNode) (k n : ℕ) (acted : List ActedList) (turns : List LoopTurns) (kept : List Keeping) where
+  pub tree_by : (env other : Nets) (c d : Child) → env ≡ other → c ≡ d → TreeIn core plan s near env node k n c acted turns kept → TreeIn core plan s near other node k n d acted turns kept
+  tree_by env other c d e f t = subst (λ x. TreeIn core plan s near other node k n x acted turns kept) f (subst (λ x. TreeIn core plan s near x node k n c acted turns kept) e t)
 
 -- one stage before the others
 module _ (a b c : Draft) (core : PlainCore) (plan : PlainPlan) (table : List AroundNets) (begun : OpenLoop) (counters : List PlainCounter) (first last : ℕ) (comb : Bool) (node : PlainNode) (rest : PlainStages) (slot : ℕ) (slots : List ℕ) (k n : ℕ) (part : StagePart)
-    (parts : List StagePart) (xs ys : List ActedList) (rs ss : List Renewal) (ps qs : List Keeping) (one : IsStage a b core plan table begun counters first last node slot k n part xs rs ps)
+    (parts : List StagePart) (xs ys : List ActedList) (rs ss : List LoopTurns) (ps qs : List Keeping) (one : IsStage a b core plan table begun counters first last node slot k n part xs rs ps)
     (more : AreStages b c core plan table begun counters rest slots (k + node_count node) (n + number_count node) parts ys ss qs) where
   both_trees : AreTrees a c core plan table begun counters (more_stage first last comb node rest) (slot ∷ slots) k n (part ∷ parts) (xs ++ ys) (rs ++ ss) (ps ++ qs)
   both_trees around earlier owned right stand s run i nets child nets_are child_are =
@@ -69,7 +69,7 @@ module _ (a b c : Draft) (core : PlainCore) (plan : PlainPlan) (table : List Aro
       record {
         circuits = (own.circuit, others.circuits);
         handed = record { one = xs; rest = ys; all = refl; first = own.handed; others = others.handed };
-        owners = record { one = rs; other = ss; one_kept = ps; other_kept = qs; renewed_are = refl; kept_are = refl; first = own.owners; second = others.owners };
+        owners = record { one = rs; other = ss; one_kept = ps; other_kept = qs; turns_are = refl; kept_are = refl; first = own.owners; second = others.owners };
       }
 
   pub both_stages : AreStages a c core plan table begun counters (more_stage first last comb node rest) (slot ∷ slots) k n (part ∷ parts) (xs ++ ys) (rs ++ ss) (ps ++ qs)
@@ -83,7 +83,7 @@ module _ (a b c : Draft) (core : PlainCore) (plan : PlainPlan) (table : List Aro
     awaits = start_is;
     dones = done_is;
     lists = lists_join c core (lists_in node n) (lists_in_stages rest (n + number_count node)) xs ys (lists_later b c core (lists_in node n) xs more.reserves.grows one.lists) more.lists;
-    owners = owners_join c core rs ss ps qs (owners_later b c core rs ps more.reserves.grows one.owners) more.owners;
+    owners = turns_join c core rs ss ps qs (turns_later b c core rs ps more.reserves.grows one.owners) more.owners;
     trees = both_trees;
   }
     where

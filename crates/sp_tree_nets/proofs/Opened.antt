@@ -24,9 +24,9 @@ use Rattle.sp_loop_nets.specs.declared.opening.OpenLoop.{OpenLoop}
 use Rattle.sp_loop_nets.specs.Fits.{counted_wires}
 use Rattle.sp_loop_nets.proofs.Promising.{rows_stand_later}
 use Rattle.sp_tree_handed.specs.declared.owners.Keeping.{Keeping}
-use Rattle.sp_tree_handed.specs.declared.owners.Renewal.{Renewal}
+use Rattle.sp_tree_handed.specs.declared.owners.LoopTurns.{LoopTurns}
 use Rattle.sp_tree_handed.specs.Lists.{lists_in}
-use Rattle.sp_tree_handed.specs.Standing.{AreListsStanding, AreOwnersStanding}
+use Rattle.sp_tree_handed.specs.Standing.{AreListsStanding, AreTurnsStanding}
 use Rattle.sp_tree_nets.specs.Emitted.{CanEmit, IsTree}
 use Rattle.sp_tree_nets.specs.Stages.{CanEmitStages, IsStage, LoopStands}
 use Rattle.sp_tree_nets.proofs.Lanes.{tree_by}
@@ -91,11 +91,11 @@ module _ (core : PlainCore) (plan : PlainPlan) (table inside : List AroundNets) 
     numbers = (let h = can.numbers in omega (arith, h));
   }
 
-  pub stage_is : (f : Draft) (child : Child) (acted : List ActedList) (renewed : List Renewal) (kept : List Keeping) → nets ≡ child.start ∷ [] → Awaits e child.start 1 → Reserves e f (answers_in acted) → HasNet f child.done 1
-      → ((number : ℕ) → nets_at inside number ≡ slot_nets begun.nets begun.rows.rows.items (nets_at table) counters slot number) → IsTree e f core plan inside node k n child acted renewed kept
-      → AreListsStanding f core (lists_in node n) acted → AreOwnersStanding f core renewed kept
-      → IsStage d f core plan table begun counters first last node slot k n (record { child = child; first = first; last = last }) acted renewed kept
-  stage_is f child acted renewed kept nets_are start more done same tree lists owners = record {
+  pub stage_is : (f : Draft) (child : Child) (acted : List ActedList) (turns : List LoopTurns) (kept : List Keeping) → nets ≡ child.start ∷ [] → Awaits e child.start 1 → Reserves e f (answers_in acted) → HasNet f child.done 1
+      → ((number : ℕ) → nets_at inside number ≡ slot_nets begun.nets begun.rows.rows.items (nets_at table) counters slot number) → IsTree e f core plan inside node k n child acted turns kept
+      → AreListsStanding f core (lists_in node n) acted → AreTurnsStanding f core turns kept
+      → IsStage d f core plan table begun counters first last node slot k n (record { child = child; first = first; last = last }) acted turns kept
+  stage_is f child acted turns kept nets_are start more done same tree lists owners = record {
     reserves = reserved_join d e f (child.start ∷ []) (answers_in acted) (subst (Reserves d e) nets_are g) more;
     first_is = refl;
     last_is = refl;
@@ -104,5 +104,5 @@ module _ (core : PlainCore) (plan : PlainPlan) (table inside : List AroundNets) 
     lists = lists;
     owners = owners;
     tree = λ around earlier owned right stand s run.
-        tree_by core plan s (own_near counters around.counters) node k n acted renewed kept (nets_at inside) (slot_nets begun.nets begun.rows.rows.items (nets_at table) counters slot) child child (fun_ext same) refl (tree (within around counters owned) earlier right (there around.counters stand) s run);
+        tree_by core plan s (own_near counters around.counters) node k n acted turns kept (nets_at inside) (slot_nets begun.nets begun.rows.rows.items (nets_at table) counters slot) child child (fun_ext same) refl (tree (within around counters owned) earlier right (there around.counters stand) s run);
   }

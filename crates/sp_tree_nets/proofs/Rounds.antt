@@ -1,5 +1,5 @@
 -- FSMs around their bodies, and inner bodies.
-use Rattle.std.proofs.Common.{◌≡◌, ℕ, ◌+◌, ◌&&◌, true, List, [], ◌∷◌, ◌++◌, length, append_assoc, refl, sym, ◌∙◌, ap, subst, arith, Option}
+use Rattle.std.proofs.Common.{◌≡◌, ℕ, ◌+◌, ◌&&◌, true, List, [], ◌∷◌, ◌++◌, length, append_assoc, refl, sym, ◌∙◌, ap, subst, arith, Option, None}
 use Rattle.std.proofs.lemmas.Bool.{and_parts}
 use Rattle.std.proofs.lemmas.List.{append-nil}
 use Rattle.sp_words.specs.declared.types.Ty.TheVariants.{Bit}
@@ -32,7 +32,7 @@ use Rattle.sp_op_nets.proofs.Reserving.{reserved_join}
 use Rattle.sp_list_circuits.specs.Turns.{IsInTurns, IsWordRight}
 use Rattle.sp_inner_circuits.specs.Inner.{IsInner, IsInnerRight, IsPlanned}
 use Rattle.sp_tree_handed.specs.declared.owners.Keeping.{Keeping}
-use Rattle.sp_tree_handed.specs.declared.owners.Renewal.{Renewal}
+use Rattle.sp_tree_handed.specs.declared.owners.LoopTurns.{LoopTurns}
 use Rattle.sp_tree_handed.specs.Owners.{keeping}
 use Rattle.sp_tree_nets.specs.Emitted.{CanEmit, IsTree}
 use Rattle.sp_tree_nets.proofs.Later.{stand_later}
@@ -115,11 +115,11 @@ machine_answers first test body next =
     ∙ ap (λ ns. answers_of first.ops.items ++ (answers_of test.ops.items ++ ns)) (ap (λ ns. answers_in body ++ ns) (sym (append-nil (answers_of next.ops.items))) ∙ sym (answers_append body (next ∷ [])))
 
 module _ (a b c d e : Draft) (core : PlainCore) (plan : PlainPlan) (table : List AroundNets) (start : List PlainOp) (state : ℕ) (test : List PlainOp) (body : PlainNode) (next : List PlainOp) (k n : ℕ) (begin done : ℕ) (first : Child) (begun : ℕ)
-    (check : Child) (tested : ℕ) (work : Child) (step : Child) (stepped : ℕ) (x y : ActedList) (xs : List ActedList) (z : ActedList) (rs : List Renewal) (ps : List Keeping) where
+    (check : Child) (tested : ℕ) (work : Child) (step : Child) (stepped : ℕ) (x y : ActedList) (xs : List ActedList) (z : ActedList) (rs : List LoopTurns) (ps : List Keeping) where
   pub machine_is : Grows a b → Grows b c → Grows c d → Grows d e → IsInTurns a b core table n start first begun x → IsInTurns a b core table (n + length start) test check tested y
       → IsTree b c core plan table body (k + 1) (n + (length start + length test)) work xs rs ps → IsInTurns c d core table (n + (length start + length test) + number_count body) next step stepped z
       → ((s : Signals) → RunsOn s e.cells → RunsFsm s begin first check tested work step done) → IsTree a e core plan table (fsm start state test body next) k n (record { start = begin; done = done }) (x ∷ y ∷ (xs ++ z ∷ [])) rs
-      ((keeping state first.done begun ∷ keeping state step.done stepped ∷ []) ++ ps)
+      ((keeping state first.done begun None ∷ keeping state step.done stepped None ∷ []) ++ ps)
   machine_is g h i j firsts tests tree nexts runs around earlier is stand s run =
       let right = machine_right core around earlier start state test body next is.0 in
       let inside = with_state core around state in
@@ -162,9 +162,9 @@ module _ (a b : Draft) (core : PlainCore) (plan : PlainPlan) (table : List Aroun
       record { circuit = w.circuit; handed = record { bounds = w.bounds; inside = w.own ∷ []; all = w.are; bound = w.of_bounds; stand = w.of_own }; owners = (refl, refl) }
 
   -- by the node as its function takes it
-  pub inner_tree : (node : PlainNode) → node ≡ inner counters owned ops comb → (renewed : List Renewal) (kept : List Keeping) → renewed ≡ [] → kept ≡ [] → (p : PlainNodePlan) (child : Child) (acted : List ActedList) → p ≡ node_plan plan k
-      → IsInner a b core table p n counters ops child acted → IsTree a b core plan table node k n child acted renewed kept
-  inner_tree node is renewed kept renewed_is kept_is p child acted e body =
-      subst (λ v. IsTree a b core plan table v k n child acted renewed kept) (sym is)
-      (subst (λ v. IsTree a b core plan table (inner counters owned ops comb) k n child acted v kept) (sym renewed_is)
+  pub inner_tree : (node : PlainNode) → node ≡ inner counters owned ops comb → (turns : List LoopTurns) (kept : List Keeping) → turns ≡ [] → kept ≡ [] → (p : PlainNodePlan) (child : Child) (acted : List ActedList) → p ≡ node_plan plan k
+      → IsInner a b core table p n counters ops child acted → IsTree a b core plan table node k n child acted turns kept
+  inner_tree node is turns kept turns_is kept_is p child acted e body =
+      subst (λ v. IsTree a b core plan table v k n child acted turns kept) (sym is)
+      (subst (λ v. IsTree a b core plan table (inner counters owned ops comb) k n child acted v kept) (sym turns_is)
       (subst (λ v. IsTree a b core plan table (inner counters owned ops comb) k n child acted [] v) (sym kept_is) (inner_is p child acted e body)))

@@ -32,7 +32,7 @@ use Rattle.sp_op_nets.proofs.Driving.{some_driven, stay}
 use Rattle.sp_op_nets.proofs.Reserving.{reserved_join}
 use Rattle.sp_list_circuits.specs.Turns.{IsInTurns, IsWordRight}
 use Rattle.sp_tree_handed.specs.declared.owners.Keeping.{Keeping}
-use Rattle.sp_tree_handed.specs.declared.owners.Renewal.{Renewal}
+use Rattle.sp_tree_handed.specs.declared.owners.LoopTurns.{LoopTurns}
 use Rattle.sp_tree_nets.specs.Emitted.{CanEmit, IsTree}
 use Rattle.sp_tree_nets.proofs.Later.{stand_later}
 
@@ -114,7 +114,7 @@ module _ (a b c d : Draft) (start : ℕ) (test : Child) (tested : ℕ) (one othe
       (subst (λ ns. Fills d e ns) same fills) (λ n h. h) (λ n h. h)
 
 module _ (a b c d e : Draft) (core : PlainCore) (plan : PlainPlan) (table : List AroundNets) (ops : List PlainOp) (first second : PlainNode) (k n : ℕ) (start done : ℕ) (test : Child) (tested : ℕ) (one other : Child) (list : ActedList) (xs ys : List ActedList)
-    (rs ss : List Renewal) (ps qs : List Keeping) where
+    (rs ss : List LoopTurns) (ps qs : List Keeping) where
   pub branch_is : Grows a b → Grows b c → Grows c d → Grows d e → IsInTurns a b core table n ops test tested list → IsTree b c core plan table first (k + 1) (n + length ops) one xs rs ps
       → IsTree c d core plan table second (k + 1 + node_count first) (n + length ops + number_count first) other ys ss qs → ((s : Signals) → RunsOn s e.cells → RunsBranch s start test tested one other done)
       → IsTree a e core plan table (branch ops first second) k n (record { start = start; done = done }) (list ∷ (xs ++ ys)) (rs ++ ss) (ps ++ qs)
@@ -128,5 +128,5 @@ module _ (a b c d e : Draft) (core : PlainCore) (plan : PlainPlan) (table : List
       record {
         circuit = record { test = test; tested = tested; chosen = one; left = other; circuit = runs s run; tests = tests.circuit; one = one_is.circuit; other = other_is.circuit };
         handed = record { test = list; one = xs; other = ys; all = refl; tests = tests.acted; firsts = one_is.handed; seconds = other_is.handed };
-        owners = record { one = rs; other = ss; one_kept = ps; other_kept = qs; renewed_are = refl; kept_are = refl; first = one_is.owners; second = other_is.owners };
+        owners = record { one = rs; other = ss; one_kept = ps; other_kept = qs; turns_are = refl; kept_are = refl; first = one_is.owners; second = other_is.owners };
       }

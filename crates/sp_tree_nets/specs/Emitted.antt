@@ -18,8 +18,8 @@ use Rattle.sp_op_nets.specs.declared.table.AroundNets.{AroundNets}
 use Rattle.sp_op_nets.specs.Table.{nets_at, StandAround}
 use Rattle.sp_tree_circuits.specs.Circuits.{Circuit}
 use Rattle.sp_tree_handed.specs.declared.owners.Keeping.{Keeping}
-use Rattle.sp_tree_handed.specs.declared.owners.Renewal.{Renewal}
-use Rattle.sp_tree_handed.specs.Owners.{AreOwners}
+use Rattle.sp_tree_handed.specs.declared.owners.LoopTurns.{LoopTurns}
+use Rattle.sp_tree_handed.specs.Owners.{AreTurns}
 use Rattle.sp_tree_nets.specs.Handed.{AreHanded}
 
 -- no transfer stands in a part
@@ -53,12 +53,12 @@ pub record CanEmit (d : Draft) (core : PlainCore) (plan : PlainPlan) (table : Li
   pub numbers : n + number_count node < 2 ^ 30
 
 -- in a run the tree has its circuit, by the operations and the owners' nets that are handed on
-pub record TreeIn (core : PlainCore) (plan : PlainPlan) (s : Signals) (near : List Near) (env : Nets) (node : PlainNode) (k n : ℕ) (c : Child) (acted : List ActedList) (renewed : List Renewal) (kept : List Keeping) : Type 0 where
+pub record TreeIn (core : PlainCore) (plan : PlainPlan) (s : Signals) (near : List Near) (env : Nets) (node : PlainNode) (k n : ℕ) (c : Child) (acted : List ActedList) (turns : List LoopTurns) (kept : List Keeping) : Type 0 where
   pub circuit : Circuit core plan s node near env k c
   pub handed : AreHanded core plan s node near env k n c circuit acted
-  pub owners : AreOwners core plan s node near env k c circuit renewed kept
+  pub owners : AreTurns core plan s node near env k c circuit turns kept
 
 -- so it is in each run of what the draft became, whatever stood around by which the core has the node right
-abbrev pub IsTree : (old new : Draft) → PlainCore → PlainPlan → List AroundNets → (node : PlainNode) → (k n : ℕ) → Child → List ActedList → List Renewal → List Keeping → Type 0
-IsTree old new core plan table node k n c acted renewed kept =
-    (around : Around) (earlier : List ℕ) → IsRight core around earlier node → StandAround old table around.counters → (s : Signals) → RunsOn s new.cells → TreeIn core plan s around.counters (nets_at table) node k n c acted renewed kept
+abbrev pub IsTree : (old new : Draft) → PlainCore → PlainPlan → List AroundNets → (node : PlainNode) → (k n : ℕ) → Child → List ActedList → List LoopTurns → List Keeping → Type 0
+IsTree old new core plan table node k n c acted turns kept =
+    (around : Around) (earlier : List ℕ) → IsRight core around earlier node → StandAround old table around.counters → (s : Signals) → RunsOn s new.cells → TreeIn core plan s around.counters (nets_at table) node k n c acted turns kept

@@ -9,7 +9,7 @@ use Rattle.sp_plan.specs.PlainPlan.{PlainPlan}
 use Rattle.sp_op_nets.specs.declared.acted.ActedList.{ActedList}
 use Rattle.sp_op_nets.specs.declared.table.AroundNets.{AroundNets}
 use Rattle.sp_tree_handed.specs.declared.owners.Keeping.{Keeping}
-use Rattle.sp_tree_handed.specs.declared.owners.Renewal.{Renewal}
+use Rattle.sp_tree_handed.specs.declared.owners.LoopTurns.{LoopTurns}
 use Rattle.sp_tree_handed.specs.Lists.{NumberedOps, bounds_in, lists_in_stages}
 use Rattle.sp_tree_nets.specs.Emitted.{CanEmit, IsTree}
 
@@ -19,8 +19,8 @@ pub record CanEmitLoop (d : Draft) (core : PlainCore) (plan : PlainPlan) (table 
   pub can : CanEmit d core plan table (outer counters style owned stages) k n
 
 -- each loop of these counters, memories and stages is what was emitted
-abbrev pub IsLoopTree : (old new : Draft) → PlainCore → PlainPlan → List AroundNets → List PlainCounter → (owned : List ℕ) → PlainStages → (k n : ℕ) → Child → List ActedList → List Renewal → List Keeping → Type 0
-IsLoopTree old new core plan table counters owned stages k n child acted renewed kept = (style : Style) → IsTree old new core plan table (outer counters style owned stages) k n child acted renewed kept
+abbrev pub IsLoopTree : (old new : Draft) → PlainCore → PlainPlan → List AroundNets → List PlainCounter → (owned : List ℕ) → PlainStages → (k n : ℕ) → Child → List ActedList → List LoopTurns → List Keeping → Type 0
+IsLoopTree old new core plan table counters owned stages k n child acted turns kept = (style : Style) → IsTree old new core plan table (outer counters style owned stages) k n child acted turns kept
 
 -- its lists of operations are those of its bounds, and then those of its stages
 abbrev pub lists_of_loop : List PlainCounter → PlainStages → (n : ℕ) → List NumberedOps

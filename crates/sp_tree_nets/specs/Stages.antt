@@ -29,10 +29,10 @@ use Rattle.sp_loop_nets.specs.Fits.{counted_wires}
 use Rattle.sp_stage_members.specs.declared.part.StagePart.{StagePart}
 use Rattle.sp_stage_members.specs.Members.{part_at, starts_in}
 use Rattle.sp_tree_handed.specs.declared.owners.Keeping.{Keeping}
-use Rattle.sp_tree_handed.specs.declared.owners.Renewal.{Renewal}
+use Rattle.sp_tree_handed.specs.declared.owners.LoopTurns.{LoopTurns}
 use Rattle.sp_tree_handed.specs.Lists.{lists_in, lists_in_stages}
-use Rattle.sp_tree_handed.specs.Owners.{StagesOwners}
-use Rattle.sp_tree_handed.specs.Standing.{AreListsStanding, AreOwnersStanding}
+use Rattle.sp_tree_handed.specs.Owners.{StagesTurn}
+use Rattle.sp_tree_handed.specs.Standing.{AreListsStanding, AreTurnsStanding}
 use Rattle.sp_tree_nets.specs.Emitted.{HaveNoTransfer, TreeIn}
 use Rattle.sp_tree_nets.specs.Handed.{StagesHanded}
 
@@ -58,31 +58,31 @@ pub record CanEmitStages (d : Draft) (core : PlainCore) (plan : PlainPlan) (tabl
   pub numbers : n + number_count_in stages < 2 ^ 30
 
 -- a stage as a part of its loop, with the nets of its slot around it
-pub record IsStage (old new : Draft) (core : PlainCore) (plan : PlainPlan) (table : List AroundNets) (begun : OpenLoop) (counters : List PlainCounter) (first last : ℕ) (node : PlainNode) (slot k n : ℕ) (part : StagePart) (acted : List ActedList) (renewed : List Renewal) (kept : List Keeping) : Type 0 where
+pub record IsStage (old new : Draft) (core : PlainCore) (plan : PlainPlan) (table : List AroundNets) (begun : OpenLoop) (counters : List PlainCounter) (first last : ℕ) (node : PlainNode) (slot k n : ℕ) (part : StagePart) (acted : List ActedList) (turns : List LoopTurns) (kept : List Keeping) : Type 0 where
   pub reserves : Reserves old new (part.child.start ∷ answers_in acted)
   pub first_is : first ≡ part.first
   pub last_is : last ≡ part.last
   pub start : Awaits new part.child.start 1
   pub done : HasNet new part.child.done 1
   pub lists : AreListsStanding new core (lists_in node n) acted
-  pub owners : AreOwnersStanding new core renewed kept
+  pub owners : AreTurnsStanding new core turns kept
   pub tree : (around : Around) (earlier owned : List ℕ) → IsRight core (within around counters owned) earlier node → StandAround old table around.counters
-      → (s : Signals) → RunsOn s new.cells → TreeIn core plan s (own_near counters around.counters) (slot_nets begun.nets begun.rows.rows.items (nets_at table) counters slot) node k n part.child acted renewed kept
+      → (s : Signals) → RunsOn s new.cells → TreeIn core plan s (own_near counters around.counters) (slot_nets begun.nets begun.rows.rows.items (nets_at table) counters slot) node k n part.child acted turns kept
 
 -- in a run stages have their circuits, by the operations and the owners' nets that are handed on
-pub record StagesIn (core : PlainCore) (plan : PlainPlan) (s : Signals) (near : List Near) (stages : PlainStages) (k n i : ℕ) (nets : (stage : ℕ) → Nets) (child : (stage : ℕ) → Child) (acted : List ActedList) (renewed : List Renewal) (kept : List Keeping) : Type 0 where
+pub record StagesIn (core : PlainCore) (plan : PlainPlan) (s : Signals) (near : List Near) (stages : PlainStages) (k n i : ℕ) (nets : (stage : ℕ) → Nets) (child : (stage : ℕ) → Child) (acted : List ActedList) (turns : List LoopTurns) (kept : List Keeping) : Type 0 where
   pub circuits : StageCircuits core plan s stages near k i nets child
   pub handed : StagesHanded core plan s stages near k n i nets child circuits acted
-  pub owners : StagesOwners core plan s stages near k i nets child circuits renewed kept
+  pub owners : StagesTurn core plan s stages near k i nets child circuits turns kept
 
 -- so they have in each run of what the draft became, as the stages from a number on: each with the nets of its slot and its part
-abbrev pub AreTrees : (old new : Draft) → PlainCore → PlainPlan → List AroundNets → OpenLoop → List PlainCounter → PlainStages → (slots : List ℕ) → (k n : ℕ) → List StagePart → List ActedList → List Renewal → List Keeping → Type 0
-AreTrees old new core plan table begun counters stages slots k n parts acted renewed kept =
+abbrev pub AreTrees : (old new : Draft) → PlainCore → PlainPlan → List AroundNets → OpenLoop → List PlainCounter → PlainStages → (slots : List ℕ) → (k n : ℕ) → List StagePart → List ActedList → List LoopTurns → List Keeping → Type 0
+AreTrees old new core plan table begun counters stages slots k n parts acted turns kept =
     (around : Around) (earlier owned : List ℕ) → AreRight core (within around counters owned) earlier stages → StandAround old table around.counters → (s : Signals) → RunsOn s new.cells
     → (i : ℕ) (nets : (stage : ℕ) → Nets) (child : (stage : ℕ) → Child)
     → ((m at : ℕ) → at ≡ i + m → m < stage_count stages → nets at ≡ slot_nets begun.nets begun.rows.rows.items (nets_at table) counters (slice_index slots m))
     → ((m at : ℕ) → at ≡ i + m → m < stage_count stages → child at ≡ (part_at parts m).child)
-    → StagesIn core plan s (own_near counters around.counters) stages k n i nets child acted renewed kept
+    → StagesIn core plan s (own_near counters around.counters) stages k n i nets child acted turns kept
 
 -- a list divided into two, each in its order
 pub data AreDivided : (all one other : List ℕ) → Type 0 where
@@ -91,7 +91,7 @@ pub data AreDivided : (all one other : List ℕ) → Type 0 where
   to_other : {n : ℕ} {all one other : List ℕ} → AreDivided all one other → AreDivided (n ∷ all) one (n ∷ other)
 
 -- the parts of stages: of all that was reserved for them some are their starts, and the others the answers of their operations
-pub record AreStages (old new : Draft) (core : PlainCore) (plan : PlainPlan) (table : List AroundNets) (begun : OpenLoop) (counters : List PlainCounter) (stages : PlainStages) (slots : List ℕ) (k n : ℕ) (parts : List StagePart) (acted : List ActedList) (renewed : List Renewal) (kept : List Keeping) : Type 0 where
+pub record AreStages (old new : Draft) (core : PlainCore) (plan : PlainPlan) (table : List AroundNets) (begun : OpenLoop) (counters : List PlainCounter) (stages : PlainStages) (slots : List ℕ) (k n : ℕ) (parts : List StagePart) (acted : List ActedList) (turns : List LoopTurns) (kept : List Keeping) : Type 0 where
   pub nets : List ℕ
   pub reserves : Reserves old new nets
   pub divided : AreDivided nets (starts_in parts) (answers_in acted)
@@ -101,5 +101,5 @@ pub record AreStages (old new : Draft) (core : PlainCore) (plan : PlainPlan) (ta
   pub awaits : (i : ℕ) → i < length parts → Awaits new (part_at parts i).child.start 1
   pub dones : (i : ℕ) → i < length parts → HasNet new (part_at parts i).child.done 1
   pub lists : AreListsStanding new core (lists_in_stages stages n) acted
-  pub owners : AreOwnersStanding new core renewed kept
-  pub trees : AreTrees old new core plan table begun counters stages slots k n parts acted renewed kept
+  pub owners : AreTurnsStanding new core turns kept
+  pub trees : AreTrees old new core plan table begun counters stages slots k n parts acted turns kept

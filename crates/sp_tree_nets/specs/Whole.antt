@@ -14,7 +14,7 @@ use Rattle.sp_overlap.specs.Whole.{IsTimed}
 use Rattle.sp_op_nets.specs.declared.acted.ActedList.{ActedList}
 use Rattle.sp_op_nets.specs.Table.{nets_at}
 use Rattle.sp_tree_handed.specs.declared.owners.Keeping.{Keeping}
-use Rattle.sp_tree_handed.specs.declared.owners.Renewal.{Renewal}
+use Rattle.sp_tree_handed.specs.declared.owners.LoopTurns.{LoopTurns}
 use Rattle.sp_tree_nets.specs.Emitted.{HasNoTransfer, TreeIn}
 
 -- a plan that is valid for some forms and meets of the core, whose latencies are numbers of 32 bits, and a tree that can be emitted
@@ -27,5 +27,5 @@ pub record HasTreePlan (core : PlainCore) (plan : PlainPlan) : Type 0 where
   pub latencies : (k : ℕ) → latency_of (node_plan plan k) < 2 ^ 32
 
 -- in each run of what the draft becomes the core's tree has its circuit, by the operations and the owners' nets that are handed on
-abbrev pub IsWhole : Draft → PlainCore → PlainPlan → Child → List ActedList → List Renewal → List Keeping → Type 0
-IsWhole d core plan c acted renewed kept = (s : Signals) → RunsOn s d.cells → TreeIn core plan s [] (nets_at []) core.root 0 0 c acted renewed kept
+abbrev pub IsWhole : Draft → PlainCore → PlainPlan → Child → List ActedList → List LoopTurns → List Keeping → Type 0
+IsWhole d core plan c acted turns kept = (s : Signals) → RunsOn s d.cells → TreeIn core plan s [] (nets_at []) core.root 0 0 c acted turns kept

@@ -10,7 +10,7 @@ use sp_netlist::NoMemory;
 use sp_op_nets::ActedList;
 use sp_plan::NodePlan;
 use sp_stage_members::{PlacedSlot, StagePart, arrange};
-use sp_tree_handed::OwnerNets;
+use sp_tree_handed::TreeOwners;
 use std::alloc::Global;
 
 /// The stages of a loop as parts of it, the operations of their lists, in the order of their numbers, and what the owners in them
@@ -19,7 +19,7 @@ use std::alloc::Global;
 pub(crate) struct Stages {
     pub(crate) parts: Vec<StagePart>,
     pub(crate) acted: Vec<ActedList>,
-    pub(crate) owners: OwnerNets,
+    pub(crate) owners: TreeOwners,
 }
 
 /// One of them.
@@ -27,7 +27,7 @@ pub(crate) struct Stages {
 pub(crate) struct OneStage {
     pub(crate) part: StagePart,
     pub(crate) acted: Vec<ActedList>,
-    pub(crate) owners: OwnerNets,
+    pub(crate) owners: TreeOwners,
 }
 
 /// The stages of a loop in their places, by its plan. Where it hasn't a chain for each slot, it answers want of memory.

@@ -8,7 +8,7 @@ ghost use Rattle.sp_op_nets.specs.Reserved.{Reserves};
 ghost use Rattle.sp_plan.specs.Plain.{plain_node_plan, plain_plan};
 ghost use Rattle.sp_plan.specs.PlainPlan.{node_plan};
 ghost use Rattle.sp_tree_handed.specs.Lists.{lists_in};
-ghost use Rattle.sp_tree_handed.specs.Standing.{AreListsStanding, OwnersStand};
+ghost use Rattle.sp_tree_handed.specs.Standing.{AreListsStanding, HandedStand};
 ghost use Rattle.sp_tree_nets.specs.Emitted.{CanEmit, IsTree};
 ghost use Rattle.sp_tree_nets.specs.Loops.{CanEmitLoop, IsLoopTree, lists_of_loop};
 ghost use Rattle.sp_tree_nets.specs.Stages.{AreStages, CanEmitStages, IsStage, LoopStands};
@@ -16,7 +16,7 @@ ghost use Rattle.sp_tree_nets.specs.Stages.{AreStages, CanEmitStages, IsStage, L
 use crate::branches::{OpenBranch, begin_branch, branch_lists, end_branch};
 use crate::loops::{OneStage, Stages, loop_lists, stage_places};
 use crate::machines::{OpenMachine, begin_machine, end_machine, machine_lists, mem_ty};
-use crate::owners::{both_owners, loop_owners, machine_owners, no_owners, renewals};
+use crate::owners::{both_owners, loop_owners, loop_turns, machine_owners, no_owners};
 use crate::tree::{TreeNets, append};
 use sp_core::{Core, CoreCounter, Node, Stage};
 use sp_gates::reserve;
@@ -59,8 +59,8 @@ pub fn emit_node(
     ensures start { IfOk result (λ tree. tree.child.start ≡ start) }
     ensures done { IfOk result (λ tree. HasNet builder.new tree.child.done 1) }
     ensures lists { IfOk result (λ tree. AreListsStanding builder.new (plain_core core.now) (lists_in (plain_node node.now) number) tree.acted.items) }
-    ensures owners { IfOk result (λ tree. OwnersStand builder.new (plain_core core.now) tree.owners) }
-    ensures tree { IfOk result (λ tree. IsTree builder.old builder.new (plain_core core.now) (plain_plan plan.now) around.now (plain_node node.now) index number tree.child tree.acted.items tree.owners.renewed.items tree.owners.kept.items) }
+    ensures owners { IfOk result (λ tree. HandedStand builder.new (plain_core core.now) tree.owners) }
+    ensures tree { IfOk result (λ tree. IsTree builder.old builder.new (plain_core core.now) (plain_plan plan.now) around.now (plain_node node.now) index number tree.child tree.acted.items tree.owners.turns.items tree.owners.kept.items) }
 {
     match node {
         Node::Inner { counters, ops, .. } => {
@@ -191,8 +191,8 @@ fn emit_loop(
     ensures start { IfOk result (λ tree. tree.child.start ≡ start) }
     ensures done { IfOk result (λ tree. HasNet builder.new tree.child.done 1) }
     ensures lists { IfOk result (λ tree. AreListsStanding builder.new (plain_core core.now) (lists_of_loop (map plain_counter counters.now) (plain_stage_list stages.now) number) tree.acted.items) }
-    ensures owners { IfOk result (λ tree. OwnersStand builder.new (plain_core core.now) tree.owners) }
-    ensures tree { IfOk result (λ tree. IsLoopTree builder.old builder.new (plain_core core.now) (plain_plan plan.now) around.now (map plain_counter counters.now) owned.now (plain_stage_list stages.now) index number tree.child tree.acted.items tree.owners.renewed.items tree.owners.kept.items) }
+    ensures owners { IfOk result (λ tree. HandedStand builder.new (plain_core core.now) tree.owners) }
+    ensures tree { IfOk result (λ tree. IsLoopTree builder.old builder.new (plain_core core.now) (plain_plan plan.now) around.now (map plain_counter counters.now) owned.now (plain_stage_list stages.now) index number tree.child tree.acted.items tree.owners.turns.items tree.owners.kept.items) }
 {
     loops_fit();
     single_lanes_are_first();
@@ -229,9 +229,9 @@ fn emit_loop(
         start,
         done: ends.done,
     };
-    let own = renewals(alloc, core, owned, stages, planned, &ends.nets)?;
+    let own = loop_turns(alloc, start, owned, &ends.nets)?;
     let acted = loop_lists(begun.acted, inside.acted)?;
-    let owners = loop_owners(own, inside.owners)?;
+    let owners = loop_owners(alloc, own, inside.owners)?;
     Ok(TreeNets {
         child,
         acted,
@@ -258,7 +258,7 @@ fn emit_stages(
     requires loop_stands { LoopStands builder.old begun.now (map plain_counter counters.now) }
     requires each { length slots.now ≡ length stages.now }
     requires slots { (m : ℕ) → m < length slots.now → slice_index slots.now m < length begun.now.rows.rows.items }
-    ensures { IfOk result (λ all. AreStages builder.old builder.new (plain_core core.now) (plain_plan plan.now) around.now begun.now (map plain_counter counters.now) (plain_stage_list stages.now) slots.now index number all.parts.items all.acted.items all.owners.renewed.items all.owners.kept.items) }
+    ensures { IfOk result (λ all. AreStages builder.old builder.new (plain_core core.now) (plain_plan plan.now) around.now begun.now (map plain_counter counters.now) (plain_stage_list stages.now) slots.now index number all.parts.items all.acted.items all.owners.turns.items all.owners.kept.items) }
 {
     let mut parts = Vec::new(alloc);
     let mut acted = Vec::new(alloc);
@@ -303,7 +303,7 @@ fn emit_stage(
     requires can { CanEmitStages builder.old (plain_core core.now) (plain_plan plan.now) around.now (map plain_counter counters.now) (plain_stage_list (stage.now ∷ [])) index number }
     requires loop_stands { LoopStands builder.old begun.now (map plain_counter counters.now) }
     requires slot { slot < length begun.now.rows.rows.items }
-    ensures { IfOk result (λ one. IsStage builder.old builder.new (plain_core core.now) (plain_plan plan.now) around.now begun.now (map plain_counter counters.now) stage.now.first stage.now.last (plain_node stage.now.node) slot index number one.part one.acted.items one.owners.renewed.items one.owners.kept.items) }
+    ensures { IfOk result (λ one. IsStage builder.old builder.new (plain_core core.now) (plain_plan plan.now) around.now begun.now (map plain_counter counters.now) stage.now.first stage.now.last (plain_node stage.now.node) slot index number one.part one.acted.items one.owners.turns.items one.owners.kept.items) }
 {
     let start = reserve(builder, 1)?;
     let rows = &begun.rows.rows;

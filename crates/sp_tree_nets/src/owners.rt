@@ -1,80 +1,74 @@
-//! What owners in a tree do to their memories.
-ghost use Rattle.std.specs.Prelude.{◌≡◌, ℕ, ◌<◌, [], ◌∷◌, ◌++◌, length, IfOk, OnOk};
-ghost use Rattle.sp_core.specs.CoreParts.{plain_core};
-ghost use Rattle.sp_core.specs.Plain.{plain_stage_list};
-ghost use Rattle.sp_plan.specs.Plain.{plain_node_plan};
-ghost use Rattle.sp_tree_handed.specs.Owners.{first_use, keeping, renewed_by};
+//! What a tree hands on of its owners: how its loops turn, and where its FSMs keep their states.
+ghost use Rattle.std.specs.Prelude.{◌≡◌, [], ◌∷◌, ◌++◌, IfOk, OnOk, None};
+ghost use Rattle.sp_tree_handed.specs.Owners.{keeping};
 
-use sp_core::{Core, Stage};
 use sp_list_circuits::Turns;
 use sp_netlist::{NetId, NoMemory};
-use sp_plan::NodePlan;
-use sp_tree_handed::{Keeping, OwnerNets, Renewal, first_slot};
+use sp_tree_handed::{Keeping, LoopTurns, TreeOwners};
 use std::alloc::Global;
 
-/// No owner does anything.
-pub(crate) fn no_owners(alloc: Global) -> OwnerNets
-    ensures renewed { result.renewed.items ≡ [] }
+/// There is no loop and no FSM.
+pub(crate) fn no_owners(alloc: Global) -> TreeOwners
+    ensures turns { result.turns.items ≡ [] }
     ensures kept { result.kept.items ≡ [] }
 {
-    OwnerNets {
-        renewed: Vec::new(alloc),
+    TreeOwners {
+        turns: Vec::new(alloc),
         kept: Vec::new(alloc),
     }
 }
 
-/// Further renewals, behind those before.
-fn add_renewed(all: &mut Vec<Renewal>, more: Vec<Renewal>) -> Result<(), NoMemory>
+/// Further loops, behind those before.
+fn add_turns(all: &mut Vec<LoopTurns>, more: Vec<LoopTurns>) -> Result<(), NoMemory>
     ensures { OnOk result (all.new.items ≡ all.old.items ++ more.items) }
 {
-    for renewal in more {
-        all.push(renewal)?;
+    for turning in more {
+        all.push(turning)?;
     }
     Ok(())
 }
 
 /// Further keepings, behind those before.
-fn add_kept(all: &mut Vec<Keeping>, more: Vec<Keeping>) -> Result<(), NoMemory>
-    ensures { OnOk result (all.new.items ≡ all.old.items ++ more.items) }
+fn add_kept(all: &mut Vec<Keeping>, more: &[Keeping]) -> Result<(), NoMemory>
+    ensures { OnOk result (all.new.items ≡ all.old.items ++ more.now) }
 {
-    for keeping in more {
-        all.push(keeping)?;
+    for index in 0..more.len() {
+        all.push(more[index])?;
     }
     Ok(())
 }
 
-/// What the owners of one part do, and behind it what those of another do.
-pub(crate) fn both_owners(one: OwnerNets, other: OwnerNets) -> Result<OwnerNets, NoMemory>
-    ensures renewed { IfOk result (λ both. both.renewed.items ≡ one.renewed.items ++ other.renewed.items) }
+/// Those of one part, and behind them those of another.
+pub(crate) fn both_owners(one: TreeOwners, other: TreeOwners) -> Result<TreeOwners, NoMemory>
+    ensures turns { IfOk result (λ both. both.turns.items ≡ one.turns.items ++ other.turns.items) }
     ensures kept { IfOk result (λ both. both.kept.items ≡ one.kept.items ++ other.kept.items) }
 {
-    let OwnerNets {
-        mut renewed,
+    let TreeOwners {
+        mut turns,
         mut kept,
     } = one;
-    let OwnerNets {
-        renewed: more,
+    let TreeOwners {
+        turns: more,
         kept: others,
     } = other;
-    add_renewed(&mut renewed, more)?;
-    add_kept(&mut kept, others)?;
-    Ok(OwnerNets { renewed, kept })
+    add_turns(&mut turns, more)?;
+    add_kept(&mut kept, &others)?;
+    Ok(TreeOwners { turns, kept })
 }
 
-/// An FSM keeps its state where its first state and where its next state is over, and behind that stands what the owners in its body
-/// do.
+/// An FSM keeps its state where its first state and where its next state is over, and behind that stand those of its body.
 pub(crate) fn machine_owners(
     alloc: Global,
     state: u32,
     first: &Turns,
     next: &Turns,
-    body: OwnerNets,
-) -> Result<OwnerNets, NoMemory>
-    ensures renewed { IfOk result (λ all. all.renewed.items ≡ body.renewed.items) }
-    ensures kept { IfOk result (λ all. all.kept.items ≡ (keeping state first.now.child.done first.now.word ∷ keeping state next.now.child.done next.now.word ∷ []) ++ body.kept.items) }
+    body: TreeOwners,
+) -> Result<TreeOwners, NoMemory>
+    ensures turns { IfOk result (λ all. all.turns.items ≡ body.turns.items) }
+    ensures kept { IfOk result (λ all. all.kept.items ≡ (keeping state first.now.child.done first.now.word None ∷ keeping state next.now.child.done next.now.word None ∷ []) ++ body.kept.items) }
 {
-    let OwnerNets {
-        renewed,
+    let TreeOwners {
+        turns,
         kept: inside,
     } = body;
     let mut kept = Vec::new(alloc);
@@ -90,47 +84,42 @@ pub(crate) fn machine_owners(
         word: next.word,
         copy: None,
     })?;
-    add_kept(&mut kept, inside)?;
-    Ok(OwnerNets { renewed, kept })
+    add_kept(&mut kept, &inside)?;
+    Ok(TreeOwners { turns, kept })
 }
 
-/// A loop makes each memory that it owns fresh where the first slot that uses it gets a group. `firsts` are the nets that are 1 in
-/// the first cycles of the slots.
-pub(crate) fn renewals(
+/// How a loop turns. `firsts` are the nets that are 1 in the first cycles of its slots.
+pub(crate) fn loop_turns(
     alloc: Global,
-    core: &Core,
+    start: NetId,
     owned: &[u32],
-    stages: &[Stage],
-    plan: &NodePlan,
     firsts: &[NetId],
-) -> Result<Vec<Renewal>, NoMemory>
-    requires { (m : ℕ) → first_use (plain_core core.now) (plain_node_plan plan.now) (plain_stage_list stages.now) m < length firsts.now }
-    ensures { IfOk result (λ all. all.items ≡ renewed_by (plain_core core.now) (plain_node_plan plan.now) (plain_stage_list stages.now) firsts.now owned.now) }
+) -> Result<LoopTurns, NoMemory>
+    ensures start { IfOk result (λ turns. turns.start ≡ start) }
+    ensures owned { IfOk result (λ turns. turns.owned.items ≡ owned.now) }
+    ensures firsts { IfOk result (λ turns. turns.firsts.items ≡ firsts.now) }
 {
-    let mut renewed = Vec::new(alloc);
-    for index in 0..owned.len() {
-        let mem = owned[index];
-        let slot = first_slot(core, mem, stages, plan) as usize;
-        let first = firsts[slot];
-        renewed.push(Renewal {
-            mem,
-            first,
-            copy: None,
-        })?;
-    }
-    Ok(renewed)
+    let owned = Vec::from_slice(alloc, owned)?;
+    let firsts = Vec::from_slice(alloc, firsts)?;
+    Ok(LoopTurns {
+        start,
+        owned,
+        firsts,
+    })
 }
 
-/// What a loop does itself, and behind it what the owners in its stages do.
-pub(crate) fn loop_owners(own: Vec<Renewal>, inside: OwnerNets) -> Result<OwnerNets, NoMemory>
-    ensures renewed { IfOk result (λ all. all.renewed.items ≡ own.items ++ inside.renewed.items) }
+/// How a loop turns itself, and behind it what its stages hand on.
+pub(crate) fn loop_owners(
+    alloc: Global,
+    own: LoopTurns,
+    inside: TreeOwners,
+) -> Result<TreeOwners, NoMemory>
+    ensures turns { IfOk result (λ all. all.turns.items ≡ own ∷ inside.turns.items) }
     ensures kept { IfOk result (λ all. all.kept.items ≡ inside.kept.items) }
 {
-    let OwnerNets {
-        renewed: more,
-        kept,
-    } = inside;
-    let mut renewed = own;
-    add_renewed(&mut renewed, more)?;
-    Ok(OwnerNets { renewed, kept })
+    let TreeOwners { turns: more, kept } = inside;
+    let mut turns = Vec::new(alloc);
+    turns.push(own)?;
+    add_turns(&mut turns, more)?;
+    Ok(TreeOwners { turns, kept })
 }

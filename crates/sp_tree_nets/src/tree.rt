@@ -3,7 +3,7 @@ ghost use Rattle.std.specs.Prelude.{◌≡◌, ◌++◌, OnOk};
 
 use sp_netlist::{Child, NoMemory};
 use sp_op_nets::ActedList;
-use sp_tree_handed::OwnerNets;
+use sp_tree_handed::TreeOwners;
 
 /// The start and the end of a tree of nodes, the operations of its lists, in the order of their numbers, for the memories that
 /// they name, and what the owners in it do to their memories.
@@ -11,7 +11,7 @@ use sp_tree_handed::OwnerNets;
 pub struct TreeNets {
     pub child: Child,
     pub acted: Vec<ActedList>,
-    pub owners: OwnerNets,
+    pub owners: TreeOwners,
 }
 
 /// Further lists, behind those before.

@@ -6,7 +6,7 @@ ghost use Rattle.sp_plan.specs.Plain.{plain_plan};
 ghost use Rattle.sp_op_nets.specs.Acted.{answers_in};
 ghost use Rattle.sp_op_nets.specs.Reserved.{Reserves};
 ghost use Rattle.sp_tree_handed.specs.Lists.{lists_in};
-ghost use Rattle.sp_tree_handed.specs.Standing.{AreListsStanding, OwnersStand};
+ghost use Rattle.sp_tree_handed.specs.Standing.{AreListsStanding, HandedStand};
 ghost use Rattle.sp_tree_nets.specs.Whole.{HasTreePlan, IsWhole};
 
 use crate::nodes::emit_node;
@@ -33,8 +33,8 @@ pub fn emit_core(
     ensures start { IfOk result (λ tree. tree.child.start ≡ start) }
     ensures done { IfOk result (λ tree. HasNet builder.new tree.child.done 1) }
     ensures lists { IfOk result (λ tree. AreListsStanding builder.new (plain_core core.now) (lists_in (plain_core core.now).root 0) tree.acted.items) }
-    ensures owners { IfOk result (λ tree. OwnersStand builder.new (plain_core core.now) tree.owners) }
-    ensures whole { IfOk result (λ tree. IsWhole builder.new (plain_core core.now) (plain_plan plan.now) tree.child tree.acted.items tree.owners.renewed.items tree.owners.kept.items) }
+    ensures owners { IfOk result (λ tree. HandedStand builder.new (plain_core core.now) tree.owners) }
+    ensures whole { IfOk result (λ tree. IsWhole builder.new (plain_core core.now) (plain_plan plan.now) tree.child tree.acted.items tree.owners.turns.items tree.owners.kept.items) }
 {
     plans_leave_time();
     plans_have_places();

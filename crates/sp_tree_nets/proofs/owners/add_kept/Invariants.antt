@@ -1,6 +1,5 @@
-use Rattle.std.proofs.Common.{◌≡◌, ◌++◌}
+use Rattle.std.proofs.Common.{◌≡◌, ◌++◌, take}
 use Rattle.sp_tree_nets.proofs.owners.add_kept.Given as goal
 
--- what stands so far, and behind it what is left
-abbrev pub invariant-loop-keeping : goal.invariant-loop-keeping
-invariant-loop-keeping l = l.all.items ++ l.keeping-iterator.rest.items ≡ l.fn.all.items ++ l.fn.more.items
+abbrev pub invariant-loop-index : goal.invariant-loop-index
+invariant-loop-index l = l.all.items ≡ l.fn.all.items ++ take l.index l.more

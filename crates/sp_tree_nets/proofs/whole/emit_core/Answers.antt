@@ -17,8 +17,8 @@ emit_node-requires-clause-can c =
 
 pub returns-clause-whole : goal.returns-clause-whole
 returns-clause-whole c =
-    subst (λ x. IsTree c.args.builder.now c.emit_node.new.builder (plain_core c.args.core.now) (plain_plan c.args.plan.now) [] (plain_node x) 0 0 c.in_ok-tree.tree.child c.in_ok-tree.tree.acted.items c.in_ok-tree.tree.owners.renewed.items c.in_ok-tree.tree.owners.kept.items) c.root-root.ensures.root
-    (subst (λ ts. IsTree c.args.builder.now c.emit_node.new.builder (plain_core c.args.core.now) (plain_plan c.args.plan.now) ts (plain_node c.root-root.result.now) 0 0 c.in_ok-tree.tree.child c.in_ok-tree.tree.acted.items c.in_ok-tree.tree.owners.renewed.items c.in_ok-tree.tree.owners.kept.items) (c.deref.ensures.value ∙ c.new-around.ensures.items) c.in_ok-tree.ensures.tree)
+    subst (λ x. IsTree c.args.builder.now c.emit_node.new.builder (plain_core c.args.core.now) (plain_plan c.args.plan.now) [] (plain_node x) 0 0 c.in_ok-tree.tree.child c.in_ok-tree.tree.acted.items c.in_ok-tree.tree.owners.turns.items c.in_ok-tree.tree.owners.kept.items) c.root-root.ensures.root
+    (subst (λ ts. IsTree c.args.builder.now c.emit_node.new.builder (plain_core c.args.core.now) (plain_plan c.args.plan.now) ts (plain_node c.root-root.result.now) 0 0 c.in_ok-tree.tree.child c.in_ok-tree.tree.acted.items c.in_ok-tree.tree.owners.turns.items c.in_ok-tree.tree.owners.kept.items) (c.deref.ensures.value ∙ c.new-around.ensures.items) c.in_ok-tree.ensures.tree)
     nothing [] c.root-root.ensures.core.nodes (nobody_stands c.args.builder.now)
 
 pub returns-clause-lists : goal.returns-clause-lists
