@@ -76,13 +76,13 @@ abbrev pub none_waits : Delays
 none_waits k path ask = 0
 
 -- a run of the core in lanes, from an input that fits
-found_run : (p : PlainProgram) (plan : PlainPlan) → ChosenAreValid → StaysCore p → ProgramIsByLane p → (planned : IsPlanOf p plan) → is_buildable (lanes_of p) plan ≡ true
+found_run : (p : PlainProgram) (plan : PlainPlan) → ChosenAreValid → StaysCore p → ProgramIsByLane p → (planned : IsPlanOf p plan) → is_buildable (lanes_of p) ≡ true
     → (n : ℕ) (input : PlainInput) (h : History) (left : Store) → FitsPorts p.ports input → run_core in_lanes n (lanes_of p) input ≡ went h left → RunsByPlan (lanes_of p) plan none_waits input h left
 found_run p plan valid is by planned built n input h left fits ran =
     record {
       meets = planned.meets;
       meets_are = planned.are_meets;
-      planned = record { is_core = is; is_timed = is_timed p plan built; by_lane = by; valid = valid (lanes_of p) (forms_of p) planned.meets plan is planned.is_planned };
+      planned = record { is_core = is; is_timed = is_timed p built; by_lane = by; valid = valid (lanes_of p) (forms_of p) planned.meets plan is planned.is_planned };
       fits = fits_lanes p input fits;
       turns = n;
       ran = ran;
@@ -103,7 +103,7 @@ carried p plan valid is by decided runs planned h cells carries = record {
   carries = λ input delays n outs drams turns shape fits e. (
       let core = lanes_of p in
       let delay = greatest_delay delays in
-      let has : HasLanedPlan p planned.meets plan = record { is_timed = is_timed p plan h; meets_are = planned.are_meets; is_chosen = planned.is_planned } in
+      let has : HasLanedPlan p planned.meets plan = record { is_timed = is_timed p h; meets_are = planned.are_meets; is_chosen = planned.is_planned } in
       let r : Runs p plan none_waits delay input n turns outs drams = runs none_waits delay planned.meets has (λ k path ask. omega arith) n input (fits_core p input fits) outs drams turns shape e in
       let within = r.ends n ((decided input).ends n outs drams turns shape e).0 in
       let took = (core_timed core plan none_waits r.history).took in
@@ -123,7 +123,7 @@ cost_kept p plan valid is by costs planned built cells carries = record {
   within = λ input delays n h left fits ran. (
       let core = lanes_of p in
       let took = (core_timed core plan none_waits h).took in
-      let cost = cost_of_run p plan (greatest_delay delays) (costs none_waits (greatest_delay delays)) (is_timed p plan built) (forms_of p) planned.meets (valid core (forms_of p) planned.meets plan is planned.is_planned) n input h left ran in
+      let cost = cost_of_run p plan (greatest_delay delays) (costs none_waits (greatest_delay delays)) (is_timed p built) (forms_of p) planned.meets (valid core (forms_of p) planned.meets plan is planned.is_planned) n input h left ran in
       let ends = carries.carries none_waits input h left (found_run p plan valid is by planned built n input h left fits ran) delays took (omega arith) in
       (took, cost, ends));
 }

@@ -1,5 +1,5 @@
 -- A program whose block is one inner body can be built.
-use Rattle.std.proofs.Common.{◌≡◌, ℕ, zero, suc, ◌<◌, ◌==◌, Bool, true, false, not, ◌&&◌, ◌||◌, List, [], ◌∷◌, ◌++◌, map, length, refl, sym, ap, ◌∙◌, subst, arith, slice_index_or, if◌then◌else◌, eq-eqb}
+use Rattle.std.proofs.Common.{◌≡◌, ℕ, zero, suc, Bool, true, false, not, ◌&&◌, ◌||◌, List, [], ◌∷◌, ◌++◌, map, refl, sym, ap, ◌∙◌, subst, slice_index_or, if◌then◌else◌}
 use Rattle.std.proofs.lemmas.Bool.{and_parts, true≢false}
 use Rattle.std.proofs.lemmas.List.{append-nil}
 use Rattle.std.specs.List.{list_all}
@@ -18,10 +18,8 @@ use Rattle.sp_sugar.specs.Uses.{no_more}
 use Rattle.sp_sugar.specs.Numbers.{is_off_dram, written_mem, written_mems}
 use Rattle.sp_lanes.specs.Order.{memory_order}
 use Rattle.sp_lanes.specs.Unrolled.{unrolled, node_in}
-use Rattle.sp_depths.specs.Depths.{depth_in}
-use Rattle.sp_plan.specs.PlainPlan.{PlainNodePlan, no_mem_plan, mem_plan, PlainPlan}
-use Rattle.sp_compile.specs.Choices.{lanes_of, IsPlanOf}
-use Rattle.sp_build.specs.Buildable.{is_stored, is_stored_mem, is_single, is_node_buildable, is_uncounted, is_buildable}
+use Rattle.sp_compile.specs.Choices.{lanes_of}
+use Rattle.sp_build.specs.Buildable.{is_stored, is_stored_mem, is_node_buildable, is_uncounted}
 use Rattle.sp_build.specs.Laws.{InnerBlocksCanBeBuilt}
 
 both : (a b : Bool) → a ≡ true → b ≡ true → (a && b) ≡ true
@@ -36,11 +34,6 @@ all_or p (x ∷ xs) (suc m) d h e = all_or p xs m d (and_parts (p x) (list_all p
 all_map : {X Y : Type 0} (p : Y → Bool) (f : X → Y) (xs : List X) → ((x : X) → p (f x) ≡ true) → list_all p (map f xs) ≡ true
 all_map p f [] h = refl
 all_map p f (x ∷ xs) h = both (p (f x)) (list_all p (map f xs)) (h x) (all_map p f xs h)
-
--- each element at its place passes the test
-all_from : {X : Type 0} (p : X → Bool) (xs : List X) (d : X) → ((m : ℕ) → m < length xs → p (slice_index_or xs m d) ≡ true) → list_all p xs ≡ true
-all_from p [] d h = refl
-all_from p (x ∷ xs) d h = both (p x) (list_all p xs) (h 0 (omega arith)) (all_from p xs d (λ m l. h (suc m) (omega (arith, l))))
 
 abbrev is_plain_mem : program.PlainMem → Bool
 is_plain_mem m = is_stored m.kind || is_dram m.kind
@@ -111,23 +104,7 @@ root_buildable core (load r m spans) h = absurd h
 root_buildable core (store r m spans) h = absurd h
 root_buildable core (sparse kind r m places spans count par) h = absurd h
 
-depth_at_root : (core : PlainCore) (nodes : List PlainNodePlan) (m : ℕ) (node : PlainNode) → IsInnerRoot node → depth_in core nodes m 0 node ≡ 1
-depth_at_root core nodes m (inner [] owned ops comb) h = refl
-depth_at_root core nodes m (inner (c ∷ counters) owned ops comb) h = absurd h
-depth_at_root core nodes m (outer counters style owned stages) h = absurd h
-depth_at_root core nodes m (fsm start state test body next) h = absurd h
-depth_at_root core nodes m (branch test first second) h = absurd h
-depth_at_root core nodes i (load r m spans) h = absurd h
-depth_at_root core nodes i (store r m spans) h = absurd h
-depth_at_root core nodes i (sparse kind r m places spans count par) h = absurd h
-
 pub inner_built : (p : PlainProgram) → InnerBlocksCanBeBuilt p
-inner_built p one all plan planned =
+inner_built p one all =
     let core = lanes_of p in
-    let scalars = stored_core p one all in
-    let root = laned_root p one in
-    let alike = planned.is_planned.memories in
-    let single : list_all is_single plan.mems ≡ true =
-    all_from is_single plan.mems no_mem_plan (λ m l. eq-eqb (mem_plan plan m).depth 1 (planned.is_planned.depths m (omega (arith, alike, l)) ∙ depth_at_root core plan.nodes m core.root root)) in
-    both (list_all is_stored_mem core.mems) ((is_node_buildable core core.root && is_uncounted core.root) && list_all is_single plan.mems) scalars
-    (both (is_node_buildable core core.root && is_uncounted core.root) (list_all is_single plan.mems) (root_buildable core core.root root) single)
+    both (list_all is_stored_mem core.mems) (is_node_buildable core core.root && is_uncounted core.root) (stored_core p one all) (root_buildable core core.root (laned_root p one))

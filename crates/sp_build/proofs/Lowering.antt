@@ -1,6 +1,6 @@
--- A core that is buildable by its plan can be lowered.
+-- A core that is buildable can be lowered.
 use Rattle.std.proofs.Common.{◌≡◌, ℕ, zero, suc, ◌+◌, ◌<◌, ◌==◌, nat_lt, Bool, true, false, not, ◌&&◌, List, [], ◌∷◌, ◌++◌, length, Option, Some, None, inl, inr, refl, sym, ap, subst, ◌∙◌, arith, slice_index_or, if◌then◌else◌}
-use Rattle.std.proofs.lemmas.Bool.{and_parts, true≢false, cases_lt, lt-ltb, ltb-true, eqb-true}
+use Rattle.std.proofs.lemmas.Bool.{and_parts, true≢false, cases_lt, lt-ltb, ltb-true}
 use Rattle.std.proofs.lemmas.List.Elements.{Contains-append_cases, Contains-get_or}
 use Rattle.std.proofs.lemmas.List.{get_or_past}
 use Rattle.std.specs.List.{Contains, list_all}
@@ -13,7 +13,7 @@ use Rattle.sp_core.specs.Invariant.{IsCore}
 use Rattle.sp_core.specs.Meaning.{is_arg}
 use Rattle.sp_core.specs.Numbering.{counters_size, node_count, number_count}
 use Rattle.sp_core.specs.PlainCore.{PlainOp, PlainCounter, PlainNode, PlainStages, inner, outer, fsm, branch, load, store, sparse, no_stage, more_stage, PlainMem, no_mem, PlainCore}
-use Rattle.sp_plan.specs.PlainPlan.{no_mem_plan, mem_plan, PlainPlan}
+use Rattle.sp_plan.specs.PlainPlan.{PlainPlan}
 use Rattle.sp_overlap.specs.Whole.{IsTimed, AreTimed}
 use Rattle.sp_plans.specs.Planned.{IsPlanned}
 use Rattle.sp_plans.specs.Laws.{ChosenAreValid}
@@ -22,7 +22,6 @@ use Rattle.sp_array_nets.specs.Kinds.{IsEmitted, AreEmitted}
 use Rattle.sp_tree_handed.specs.Standing.{BoundsReadArguments}
 use Rattle.sp_tree_nets.specs.Emitted.{HasNoTransfer, HaveNoTransfer}
 use Rattle.sp_tree_nets.specs.Whole.{HasTreePlan}
-use Rattle.sp_owner_runs.specs.Acting.{AreSingle}
 use Rattle.sp_stored_cores.specs.Quiet.{HasNoCounters}
 use Rattle.sp_lower.specs.Carries.{CanLower}
 use Rattle.sp_tree.specs.PlainProgram.{PlainProgram}
@@ -35,7 +34,7 @@ use Rattle.sp_array_nets.specs.Laws.{ValidPlansHaveArrays}
 use Rattle.sp_lane_programs.specs.LanesLaws.{ProgramIsByLane}
 use Rattle.sp_lane_cores.specs.Laws.{StaysCore}
 use Rattle.sp_compile.specs.Choices.{lanes_of, forms_of, IsPlanOf}
-use Rattle.sp_build.specs.Buildable.{is_stored, is_stored_mem, is_single, is_argument, reads_argument, is_early, has_early_bounds, is_node_buildable, are_buildable, is_uncounted_by, is_uncounted, is_buildable}
+use Rattle.sp_build.specs.Buildable.{is_stored, is_stored_mem, is_argument, reads_argument, is_early, has_early_bounds, is_node_buildable, are_buildable, is_uncounted_by, is_uncounted, is_buildable}
 use Rattle.sp_build.specs.Laws.{BuildableCanBeLowered}
 use Rattle.sp_build.proofs.Lists.{cons_cases, all_at, only}
 
@@ -185,22 +184,17 @@ stored_kind Dram h = absurd (true≢false (sym h))
 stored : (core : PlainCore) → list_all is_stored_mem core.mems ≡ true → AreEmitted core
 stored core h m l = subst IsEmitted (sym (own_kind core m l)) (stored_kind (mem core m).kind (all_at is_stored_mem core.mems (mem core m) h (Contains-get_or core.mems m no_mem l)))
 
-single : (core : PlainCore) (plan : PlainPlan) → length plan.mems ≡ length core.mems → list_all is_single plan.mems ≡ true → AreSingle core plan
-single core plan same h m l = eqb-true (mem_plan plan m).depth 1 (all_at is_single plan.mems (mem_plan plan m) h (Contains-get_or plan.mems m no_mem_plan (omega (arith, same, l))))
-
 -- the parts of the test
-pub record Buildable (core : PlainCore) (plan : PlainPlan) : Type 0 where
+pub record Buildable (core : PlainCore) : Type 0 where
   pub are_stored : list_all is_stored_mem core.mems ≡ true
   pub tree : is_node_buildable core core.root ≡ true
   pub root : is_uncounted core.root ≡ true
-  pub singles : list_all is_single plan.mems ≡ true
 
-pub buildable : (core : PlainCore) (plan : PlainPlan) → is_buildable core plan ≡ true → Buildable core plan
-buildable core plan h =
-    let all = and_parts (list_all is_stored_mem core.mems) ((is_node_buildable core core.root && is_uncounted core.root) && list_all is_single plan.mems) h in
-    let rest = and_parts (is_node_buildable core core.root && is_uncounted core.root) (list_all is_single plan.mems) all.1 in
-    let tree = and_parts (is_node_buildable core core.root) (is_uncounted core.root) rest.0 in
-    record { are_stored = all.0; tree = tree.0; root = tree.1; singles = rest.1 }
+pub buildable : (core : PlainCore) → is_buildable core ≡ true → Buildable core
+buildable core h =
+    let all = and_parts (list_all is_stored_mem core.mems) (is_node_buildable core core.root && is_uncounted core.root) h in
+    let tree = and_parts (is_node_buildable core core.root) (is_uncounted core.root) all.1 in
+    record { are_stored = all.0; tree = tree.0; root = tree.1 }
 
 -- the schemes of the chosen plan are of those that are searched
 in_space : (core : PlainCore) (forms : PlainForms) (plan : PlainPlan) → AreChosen core forms (schemes_of plan) → (m : ℕ) (b : Banking) → scheme_at (schemes_of plan) (Some m) ≡ Some b → InSpace b
@@ -209,7 +203,7 @@ in_space core forms plan chosen m b e = (subst (IsChosen core forms m) e (chosen
 pub can_lower : (p : PlainProgram) (plan : PlainPlan) → ChosenAreValid → StaysCore p → ProgramIsByLane p → ValidPlansHaveArrays (lanes_of p) plan → BuildableCanBeLowered p plan
 can_lower p plan valid is by arrays planned short h =
     let core = lanes_of p in
-    let b : Buildable core plan = buildable core plan h in
+    let b : Buildable core = buildable core h in
     record {
       can = record {
         planned = record {
@@ -225,7 +219,6 @@ can_lower p plan valid is by arrays planned short h =
             (record { is_core = is; is_timed = timed core core.root b.tree; by_lane = by; valid = valid core (forms_of p) planned.meets plan is planned.is_planned })
             (in_space core (forms_of p) plan planned.is_planned.schemes);
         bounds = reads_arguments core b.tree;
-        single = single core plan planned.is_planned.memories b.singles;
       };
       stored = record {
         right = is;
@@ -237,5 +230,5 @@ can_lower p plan valid is by arrays planned short h =
       };
     }
 
-pub is_timed : (p : PlainProgram) (plan : PlainPlan) → is_buildable (lanes_of p) plan ≡ true → IsTimed (lanes_of p).root
-is_timed p plan h = timed (lanes_of p) (lanes_of p).root (buildable (lanes_of p) plan h).tree
+pub is_timed : (p : PlainProgram) → is_buildable (lanes_of p) ≡ true → IsTimed (lanes_of p).root
+is_timed p h = timed (lanes_of p) (lanes_of p).root (buildable (lanes_of p) h).tree

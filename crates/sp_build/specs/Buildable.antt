@@ -1,5 +1,5 @@
--- Which cores have a netlist so far, by their plans.
-use Rattle.std.specs.Prelude.{◌≡◌, ℕ, ◌==◌, ◌&&◌, not, Bool, true, false, IsTrue, List, [], ◌∷◌, Option, Some, None}
+-- Which cores have a netlist so far.
+use Rattle.std.specs.Prelude.{◌≡◌, ℕ, ◌&&◌, not, Bool, true, false, List, [], ◌∷◌, Option, Some, None}
 use Rattle.std.specs.List.{list_all}
 use Rattle.sp_words.specs.declared.kind.Kind.{Kind}
 use Rattle.sp_words.specs.declared.kind.Kind.TheVariants.{Reg, Sram, Fifo, ArgIn, ArgOut}
@@ -9,8 +9,7 @@ use Rattle.sp_core.specs.declared.operation.OpKind.TheVariants.{Read}
 use Rattle.sp_core.specs.Declarations.{mem, is_stream}
 use Rattle.sp_core.specs.Meaning.{is_arg}
 use Rattle.sp_core.specs.PlainCore.{PlainOp, PlainCounter, PlainNode, PlainStages, inner, outer, fsm, branch, load, store, sparse, no_stage, more_stage, PlainMem, PlainCore}
-use Rattle.sp_plan.specs.PlainPlan.{PlainMemPlan, PlainPlan}
-use Rattle.sp_compile.specs.Choices.{lanes_of, IsPlanOf}
+use Rattle.sp_compile.specs.Choices.{lanes_of}
 
 -- a register, an argument, an output, an SRAM or a FIFO
 abbrev pub is_stored : Kind → Bool
@@ -23,10 +22,6 @@ is_stored _ = false
 
 abbrev pub is_stored_mem : PlainMem → Bool
 is_stored_mem m = is_stored m.kind
-
--- by the plan the memory has one copy
-abbrev pub is_single : PlainMemPlan → Bool
-is_single m = m.depth == 1
 
 module _ (core : PlainCore) where
   -- an operation that reads reads an argument
@@ -72,17 +67,14 @@ is_uncounted (fsm start state test body next) = true
 is_uncounted (branch test first second) = true
 is_uncounted _ = false
 
--- A core all of whose memories are of these kinds, in one copy each by the plan; its root has no counters. No transfer names its DRAMs.
-abbrev pub is_buildable : PlainCore → PlainPlan → Bool
-is_buildable core plan =
-    list_all is_stored_mem core.mems && ((is_node_buildable core core.root && is_uncounted core.root) && list_all is_single plan.mems)
+-- A core all of whose memories are of these kinds, whose root has no counters. No transfer names its DRAMs.
+abbrev pub is_buildable : PlainCore → Bool
+is_buildable core = list_all is_stored_mem core.mems && (is_node_buildable core core.root && is_uncounted core.root)
 
--- so is the core of a program in lanes, by its plan
+-- so is the core of a program in lanes
 abbrev pub CanBeBuilt : PlainProgram → Type 0
-CanBeBuilt p = (plan : PlainPlan) → IsPlanOf p plan → is_buildable (lanes_of p) plan ≡ true
+CanBeBuilt p = is_buildable (lanes_of p) ≡ true
 
 -- or it isn't
-pub record IsUnbuilt (p : PlainProgram) : Type 0 where
-  pub plan : PlainPlan
-  pub is_plan : IsPlanOf p plan
-  pub not_buildable : is_buildable (lanes_of p) plan ≡ false
+abbrev pub IsUnbuilt : PlainProgram → Type 0
+IsUnbuilt p = is_buildable (lanes_of p) ≡ false

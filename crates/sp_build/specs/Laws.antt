@@ -21,15 +21,15 @@ HasShortLatencies plan = (k : ℕ) → latency_of (node_plan plan k) < 2 ^ 32
 
 -- the core of a program in lanes can be lowered by its plan, where it is buildable
 abbrev pub BuildableCanBeLowered : PlainProgram → PlainPlan → Type 0
-BuildableCanBeLowered p plan = IsPlanOf p plan → HasShortLatencies plan → is_buildable (lanes_of p) plan ≡ true → CanLower (lanes_of p) plan
+BuildableCanBeLowered p plan = IsPlanOf p plan → HasShortLatencies plan → is_buildable (lanes_of p) ≡ true → CanLower (lanes_of p) plan
 
 -- a netlist that carries that core carries the program
 abbrev pub CoresCarryPrograms : PlainProgram → PlainPlan → Type 0
-CoresCarryPrograms p plan = IsPlanOf p plan → is_buildable (lanes_of p) plan ≡ true → (cells : List PlainCell) → CarriesCore (lanes_of p) plan cells → Carries p cells
+CoresCarryPrograms p plan = IsPlanOf p plan → is_buildable (lanes_of p) ≡ true → (cells : List PlainCell) → CarriesCore (lanes_of p) plan cells → Carries p cells
 
 -- and is done within the cost of each run of that core
 abbrev pub CoresKeepCosts : PlainProgram → PlainPlan → Type 0
-CoresKeepCosts p plan = IsPlanOf p plan → is_buildable (lanes_of p) plan ≡ true → (cells : List PlainCell) → CarriesCore (lanes_of p) plan cells → KeepsCost p plan cells
+CoresKeepCosts p plan = IsPlanOf p plan → is_buildable (lanes_of p) ≡ true → (cells : List PlainCell) → CarriesCore (lanes_of p) plan cells → KeepsCost p plan cells
 
 -- a program whose block is one inner body, over registers, arguments, outputs, SRAMs and FIFOs, with any DRAMs, can be built
 abbrev pub InnerBlocksCanBeBuilt : PlainProgram → Type 0

@@ -4,11 +4,10 @@ ghost use Rattle.std.specs.List.{list_all};
 ghost use Rattle.sp_core.specs.CoreParts.{plain_core};
 ghost use Rattle.sp_core.specs.Declarations.{is_stream};
 ghost use Rattle.sp_core.specs.Plain.{plain_counter, plain_mem, plain_node, plain_op};
-ghost use Rattle.sp_plan.specs.Plain.{plain_mem_plan, plain_plan};
-ghost use Rattle.sp_build.specs.Buildable.{is_stored, is_stored_mem, is_single, is_argument, reads_argument, is_early, has_early_bounds, is_node_buildable, is_uncounted, is_buildable};
+ghost use Rattle.sp_build.specs.Buildable.{is_stored, is_stored_mem, is_argument, reads_argument, is_early, has_early_bounds, is_node_buildable, is_uncounted, is_buildable};
 
 use sp_core::{Core, CoreCounter, CoreMem, Node, Op, OpKind};
-use sp_plan::{MemPlan, Plan, kind};
+use sp_plan::kind;
 use sp_words::{Kind, Style};
 
 fn both(one: bool, other: bool) -> bool
@@ -142,29 +141,10 @@ fn is_uncounted(node: &Node) -> bool
     }
 }
 
-fn is_single(mem: &MemPlan) -> bool
-    ensures { result ≡ is_single (plain_mem_plan mem.now) }
+/// Whether a core has a netlist so far: its memories are registers, arguments, outputs, SRAMs and FIFOs; it has no transfer and no
+/// `Stream` block; bounds of counters read arguments alone; its root has no counters.
+pub fn is_buildable(core: &Core) -> bool
+    ensures { result ≡ is_buildable (plain_core core.now) }
 {
-    mem.depth == 1
-}
-
-/// Whether by a plan each memory has one copy.
-fn are_single(mems: &[MemPlan]) -> bool
-    ensures { result ≡ list_all is_single (map plain_mem_plan mems.now) }
-{
-    let mut all = true;
-    for mem in mems {
-        all = both(all, is_single(mem));
-    }
-    all
-}
-
-/// Whether a core has a netlist by its plan so far: its memories are registers, arguments, outputs, SRAMs and FIFOs, in one copy
-/// each; it has no transfer and no `Stream` block; bounds of counters read arguments alone.
-pub fn is_buildable(core: &Core, plan: &Plan) -> bool
-    ensures { result ≡ is_buildable (plain_core core.now) (plain_plan plan.now) }
-{
-    are_stored(core.mems())
-        && ((is_node_buildable(core, core.root()) && is_uncounted(core.root()))
-            && are_single(&plan.mems))
+    are_stored(core.mems()) && (is_node_buildable(core, core.root()) && is_uncounted(core.root()))
 }

@@ -28,7 +28,7 @@ pub fn build(alloc: Global, program: &Program) -> Result<Option<Netlist>, NoMemo
     cores_carry_programs();
     cores_keep_costs();
     let made = plan(alloc, program)?;
-    if !is_buildable(&made.core, &made.plan) {
+    if !is_buildable(&made.core) {
         return Ok(None);
     }
     latencies_are_short(&made.plan);

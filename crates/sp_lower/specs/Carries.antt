@@ -15,7 +15,7 @@ use Rattle.sp_stored_cores.specs.Circuits.{IsStoredCore}
 use Rattle.sp_stored_cores.specs.Closing.{RunsByPlan}
 use Rattle.sp_stored_trees.specs.Fits.{CanEmitStored}
 
--- a core of registers, arguments, outputs, SRAMs and FIFOs, in one copy each by the plan, whose tree can be emitted; its DRAMs no
+-- a core of registers, arguments, outputs, SRAMs and FIFOs, whose tree can be emitted; its DRAMs no
 -- transfer names
 pub record CanLower (core : PlainCore) (plan : PlainPlan) : Type 0 where
   pub can : CanEmitStored core plan

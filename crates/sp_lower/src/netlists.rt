@@ -21,7 +21,7 @@ use sp_stored_trees::emit_stored_core;
 use sp_taps::tap_laws;
 use std::alloc::Global;
 
-/// The netlist of a core all of whose memories are registers, arguments, outputs, SRAMs and FIFOs, in one copy each by a valid plan, and
+/// The netlist of a core all of whose memories are registers, arguments, outputs, SRAMs and FIFOs, by a valid plan, and
 /// whose DRAMs no transfer names. It is started in cycle 0, and done in the cycle after the last one of the timeline; its outputs and DRAMs
 /// then have the words that the core's run leaves.
 pub fn lower(alloc: Global, core: &Core, plan: &Plan) -> Result<Netlist, NoMemory>

@@ -49,6 +49,8 @@ use Rattle.sp_memory_words.specs.Runs.{RunsHappenWell}
 use Rattle.sp_access_nets.specs.declared.access.AccessNets.{AccessNets}
 use Rattle.sp_access_nets.specs.Accesses.{copy_in}
 use Rattle.sp_tree_accesses.specs.Laws.{IsInTime, AccessesAct, OperationsHaveAccesses, TreesAreAnswered}
+use Rattle.sp_owner_runs.specs.Acting.{CoresOwn}
+use Rattle.sp_owner_runs.specs.Naming.{CoresNameCopies, PlansHaveNumbers}
 use Rattle.sp_bank_runs.specs.Laws.{GoesWell, ValidPlansGoWell}
 use Rattle.sp_scalar_words.specs.InTime.{MemoriesInTime, ArgumentsGiven}
 use Rattle.sp_array_words.specs.Laws.{MemoriesAnswer, MemoriesHold}
@@ -61,6 +63,9 @@ use Rattle.sp_stored_cores.proofs.Elements.{each_in}
 pub record ClosingLaws (core : PlainCore) (plan : PlainPlan) (delays : Delays) : Type 0 where
   pub act : AccessesAct core plan delays
   pub have : OperationsHaveAccesses core
+  pub own : CoresOwn core plan delays
+  pub name : CoresNameCopies core plan delays
+  pub numbers : PlansHaveNumbers core plan
   pub answer : MemoriesAnswer core plan delays
   pub hold : MemoriesHold core plan
   pub goes : ValidPlansGoWell core plan delays
@@ -145,18 +150,25 @@ module _ (core : PlainCore) (plan : PlainPlan) (delays : Delays) (laws : Closing
 
   told : (t : ℕ) → Going t → MemoriesInTime core s (core_events core plan delays h) t x.accesses x.owners
   told t a =
-      let own = x.named delays h all_done fits r.meets r.planned input well t a in
+      let has = laws.numbers (patterns_of core) r.meets r.planned in
+      let own = laws.own s (nets_at []) h c is.right is.timed all_done fits has.copies x.circuit x.copies x.owners.renewed.items x.owners.kept.items x.named t a in
       record {
         right = is.right;
         is_operation = λ b there. (of_time t a b there).of_core.is;
-        all_operations = λ m n kind accesses_it op. (let has = laws.have _ x.acted x.accesses x.accesses_are m n kind op in (has.access, has.there, has.numbered, has.mem_is, has.kind_is));
+        all_operations = λ m n kind accesses_it op. (let one = laws.have _ x.acted x.accesses x.accesses_are m n kind op in (one.access, one.there, one.numbered, one.mem_is, one.kind_is));
         act = λ b there other. (of_time t a b there).acts other;
         in_banks = λ b there banks. (of_time t a b there).in_banks banks;
         named = λ b there.
             let of = (of_time t a b there).of_core in
-            subst (λ (n : Option ℕ). NamesCopies s (core_events core plan delays h) t b.number n) (sym of.copied) (own.named b.mem b.number b.kind of.on_chip of.is);
+            subst (λ (n : Option ℕ). NamesCopies s (core_events core plan delays h) t b.number n) (sym of.copied)
+            (laws.name s (nets_at []) h c is.right is.timed all_done fits has.copies has.kept x.circuit x.copies x.owners.renewed.items x.owners.kept.items x.named t a b.number);
         asked = x.asked;
-        owners_act = own.owners_act;
+        owners_act = record {
+          renewal = λ q there u le on. own.renews q u there le on;
+          keeping = λ q there u le on. own.keeps q u there le on;
+          all_renewals = λ u k m le there done. own.all_renewals u k m le done there;
+          all_keepings = λ u k m word le there. (let it = own.all_keepings u k m word le there in (it.0, it.1, it.2, it.3, it.5));
+        };
         within = x.within;
         draft = x.draft;
         stand = x.stand;

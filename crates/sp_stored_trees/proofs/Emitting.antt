@@ -1,6 +1,8 @@
 -- The memories of a tree that was emitted can be emitted behind it, and then the whole is a circuit of the core.
-use Rattle.std.proofs.Common.{◌≡◌, ◌≢◌, ℕ, suc, ◌<◌, ◌≤◌, ◌⊎◌, inl, inr, true, slice_index_or, List, [], ◌∷◌, ◌++◌, length, slice_index, Option, Some, refl, sym, ap, subst, ◌∙◌, arith}
+use Rattle.std.proofs.Common.{◌≡◌, ◌≢◌, ℕ, suc, ◌<◌, ◌≤◌, ◌⊎◌, inl, inr, true, slice_index_or, List, [], ◌∷◌, ◌++◌, length, slice_index, Option, Some, None, refl, sym, ap, subst, ◌∙◌, arith}
 use Rattle.std.proofs.lemmas.Bool.{false≢true}
+use Rattle.std.proofs.lemmas.List.{append-nil}
+use Rattle.std.proofs.lemmas.List.Elements.{Contains-get_or}
 use Rattle.std.specs.Prelude.{All}
 use Rattle.std.specs.List.{Contains}
 use Rattle.sp_words.specs.declared.kind.Kind.{Kind}
@@ -8,10 +10,10 @@ use Rattle.sp_words.specs.declared.kind.Kind.TheVariants.{Reg, Sram, Fifo, LineB
 use Rattle.sp_netlist.specs.declared.parts.Child.{Child}
 use Rattle.sp_netlist.specs.Draft.{Draft}
 use Rattle.sp_netlist.specs.Signals.{Signals}
-use Rattle.sp_gates.specs.Grows.{Fills}
+use Rattle.sp_gates.specs.Grows.{Grows, Fills}
 use Rattle.sp_gates.specs.Nets.{HasNet}
 use Rattle.sp_gates.specs.Runs.{RunsOn}
-use Rattle.sp_gates.proofs.Growing.{HasNet-stays}
+use Rattle.sp_gates.proofs.Growing.{Grows-join, HasNet-stays}
 use Rattle.sp_gates.proofs.Running.{runs_earlier}
 use Rattle.sp_core.specs.Invariant.{IsCore}
 use Rattle.sp_core.specs.Declarations.{mem, kind_of}
@@ -23,6 +25,7 @@ use Rattle.sp_op_nets.specs.Acted.{answers_in}
 use Rattle.sp_op_nets.specs.Laws.{ReservedAreDriven}
 use Rattle.sp_op_nets.specs.Reserved.{Rise, Reserves}
 use Rattle.sp_op_nets.specs.Table.{nets_at}
+use Rattle.sp_op_nets.proofs.Reserving.{none_reserved, reserved_join}
 use Rattle.sp_access_nets.specs.declared.access.AccessNets.{AccessNets}
 use Rattle.sp_access_nets.specs.Accesses.{copy_in}
 use Rattle.sp_access_nets.specs.Laws.{answer_nets}
@@ -30,10 +33,13 @@ use Rattle.sp_circuit_ops.specs.declared.ops.WordNet.{WordNet}
 use Rattle.sp_core.specs.declared.operation.OpKind.TheVariants.{Read, Deq}
 use Rattle.sp_mem.specs.Fits.{CopyFits}
 use Rattle.sp_tree_circuits.specs.Circuits.{Circuit}
+use Rattle.sp_tree_events.specs.CopiesStanding.{no_numbers}
+use Rattle.sp_copy_nets.specs.Numbers.{StandNumbers}
 use Rattle.sp_tree_handed.specs.declared.owners.OwnerNets.{OwnerNets}
-use Rattle.sp_tree_handed.specs.Lists.{lists_in}
+use Rattle.sp_tree_handed.specs.Lists.{NumberedOps, lists_in}
 use Rattle.sp_tree_handed.specs.Standing.{AreListsStanding, AccessStands, BoundsReadArguments, OwnersStand}
 use Rattle.sp_tree_nets.specs.Handed.{AreHanded}
+use Rattle.sp_tree_copies.specs.Naming.{AreNamed}
 use Rattle.sp_tree_accesses.specs.Accesses.{AreAllAccesses}
 use Rattle.sp_tree_accesses.specs.Laws.{AreTreeAccesses, IsOfCore, AnswersAreOfReads}
 use Rattle.sp_tree_accesses.specs.Queued.{QueuedStands}
@@ -43,7 +49,7 @@ use Rattle.sp_array_nets.specs.Fits.{MemoriesFit}
 use Rattle.sp_array_nets.specs.Laws.{ArraysAreOpen, ArraysStay}
 use Rattle.sp_array_nets.specs.Runs.{RunMemories}
 use Rattle.sp_scalar_nets.specs.Fits.{OwnersNameCopies}
-use Rattle.sp_stored_cores.specs.Circuits.{CopiesGoAlong, StoredCircuit}
+use Rattle.sp_stored_cores.specs.Circuits.{StoredCircuit}
 use Rattle.sp_stored_trees.specs.Fits.{ArgumentsStand, CanEmitStored}
 
 lower : (from to : ℕ) (ns : List ℕ) → from ≤ to → Rise to ns → Rise from ns
@@ -60,11 +66,32 @@ fifo_of Dram e = absurd (false≢true e)
 fifo_of ArgIn e = absurd (false≢true e)
 fifo_of ArgOut e = absurd (false≢true e)
 
+-- cells behind the tree that drive nothing that was open leave its lists as they stand, and open what it left open
+pub lists_stay : (a b : Draft) (core : PlainCore) (lists : List NumberedOps) (acted : List ActedList) → Grows a b → AreListsStanding a core lists acted → AreListsStanding b core lists acted
+lists_stay a b core [] [] g h = tt
+lists_stay a b core [] (x ∷ acted) g h = h
+lists_stay a b core (list ∷ lists) [] g h = h
+lists_stay a b core (list ∷ lists) (x ∷ acted) g h = (
+  record { draft = h.0.draft; grows = Grows-join h.0.draft a b h.0.grows g; first = h.0.first; ops_of = h.0.ops_of; answers = h.0.answers; after = h.0.after; issue = h.0.issue; acts = h.0.acts },
+  lists_stay a b core lists acted g h.1,
+)
+
+pub still_reserved : (a b c : Draft) (nets : List ℕ) → Reserves a b nets → Fills b c [] → Reserves a c nets
+still_reserved a b c nets r f = subst (Reserves a c) (append-nil nets) (reserved_join a b c nets [] r (none_reserved b c f))
+
+-- nets that stand are those of copies
+pub copies_fit : (d : Draft) (nets : List (Option ℕ)) → StandNumbers d nets → All (CopyFits d) nets
+copies_fit d nets h k e l = fits_at (slice_index_or nets k e) refl
+  where
+    fits_at : (net : Option ℕ) → slice_index_or nets k e ≡ net → CopyFits d net
+    fits_at None is = tt
+    fits_at (Some n) is = h n (subst (Contains nets) is (Contains-get_or nets k e l))
+
 -- the circuit of the tree in a run, with nets of copies
 pub record TreeRuns (core : PlainCore) (plan : PlainPlan) (s : Signals) (c : Child) (acted : List ActedList) (copies : List (Option ℕ)) (owners : OwnerNets) : Type 0 where
   pub circuit : Circuit core plan s core.root [] (nets_at []) 0 c
   pub handed : AreHanded core plan s core.root [] (nets_at []) 0 0 c circuit acted
-  pub named : CopiesGoAlong core plan s c circuit copies owners
+  pub named : AreNamed core plan s core.root [] (nets_at []) 0 c circuit no_numbers copies owners.renewed.items owners.kept.items
 
 module _ (core : PlainCore) (plan : PlainPlan) (old mid : Draft) (acted : List ActedList) (copies : List (Option ℕ)) (owners : OwnerNets) (accesses : List AccessNets) (arguments : List ℕ) (arrays : List Array) (start : ℕ) (able : CanEmitStored core plan)
     (r : Reserves old mid (answers_in acted)) (same : answer_nets accesses ≡ answers_in acted) (stand : BoundsReadArguments core core.root → All (AccessStands mid core) accesses) (of_core : All (IsOfCore core (copy_in copies)) accesses)

@@ -9,18 +9,16 @@ use Rattle.sp_core.specs.PlainCore.{PlainCore}
 use Rattle.sp_plan.specs.PlainPlan.{PlainPlan}
 use Rattle.sp_tree_handed.specs.Standing.{BoundsReadArguments}
 use Rattle.sp_tree_nets.specs.Whole.{HasTreePlan}
-use Rattle.sp_owner_runs.specs.Acting.{AreSingle}
 use Rattle.sp_array_nets.specs.Banks.{HasArrayPlan}
 use Rattle.sp_array_nets.specs.Kinds.{AreEmitted}
 
--- the tree and the banks of SRAMs can be emitted by the plan, all memories are registers, arguments, outputs, SRAMs and FIFOs, in one copy
--- each, and bounds read arguments alone
+-- the tree and the banks of SRAMs can be emitted by the plan, all memories are registers, arguments, outputs, SRAMs and FIFOs, and
+-- bounds read arguments alone
 pub record CanEmitStored (core : PlainCore) (plan : PlainPlan) : Type 0 where
   pub planned : HasTreePlan core plan
   pub stored : AreEmitted core
   pub arrays : HasArrayPlan core plan
   pub bounds : BoundsReadArguments core core.root
-  pub single : AreSingle core plan
 
 -- each argument has the net of its port
 pub record ArgumentsStand (d : Draft) (core : PlainCore) (arguments : List ℕ) : Type 0 where

@@ -10,14 +10,13 @@ ghost use Rattle.sp_array_nets.specs.Banks.{ArraysStand, wires_in};
 ghost use Rattle.sp_stored_cores.specs.Circuits.{StoredCircuit};
 ghost use Rattle.sp_stored_trees.specs.Fits.{ArgumentsStand, CanEmitStored, WordsStand};
 
-use crate::laws::copies_are_first;
-use crate::owners::at_first;
 use sp_array_nets::{Array, arrays_are_open, arrays_stay, emit_memories};
 use sp_core::Core;
 use sp_netlist::{Builder, Child, NetId, NoMemory};
 use sp_op_nets::reserved_are_driven;
 use sp_plan::Plan;
 use sp_tree_accesses::{answers_are_of_reads, tree_accesses};
+use sp_tree_copies::emit_copies;
 use sp_tree_nets::emit_core;
 use std::alloc::Global;
 
@@ -29,9 +28,9 @@ pub struct StoredTree {
     pub words: Vec<NetId>,
 }
 
-/// Emits the circuit of a core all of whose memories are registers, arguments, outputs, SRAMs and FIFOs, in one copy each by a valid plan:
-/// its tree, and for each memory a register, or its banks' ports, which answer the tree's reads and takes. It is started where `start`
-/// is 1.
+/// Emits the circuit of a core all of whose memories are registers, arguments, outputs, SRAMs and FIFOs, by a valid plan: its tree, the
+/// numbers of copies of memories, and for each memory a register, or its banks' ports, in its copies, which answer the tree's reads and
+/// takes. It is started where `start` is 1.
 /// `arguments` has the net of each argument's port, and `arrays` the banks of each SRAM and FIFO, by the memory's number.
 pub fn emit_stored_core(
     alloc: Global,
@@ -55,15 +54,22 @@ pub fn emit_stored_core(
     answers_are_of_reads();
     arrays_are_open();
     arrays_stay();
-    copies_are_first();
     reserved_are_driven();
     // (what is asked of accesses is that the core keeps its rules, as each does whose root is given)
     let _root = core.root();
     let tree = emit_core(alloc, builder, core, plan, start)?;
-    let owners = at_first(alloc, &tree.owners)?;
-    let accesses = tree_accesses(alloc, core, &tree.acted, &[])?;
+    let copies = emit_copies(alloc, builder, core, plan, &tree.owners)?;
+    let accesses = tree_accesses(alloc, core, &tree.acted, &copies.names)?;
     let nets = emit_memories(
-        alloc, builder, core, plan, &accesses, &owners, arguments, arrays, start,
+        alloc,
+        builder,
+        core,
+        plan,
+        &accesses,
+        &copies.owners,
+        arguments,
+        arrays,
+        start,
     )?;
     Ok(StoredTree {
         child: tree.child,

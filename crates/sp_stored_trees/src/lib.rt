@@ -3,8 +3,5 @@
 #![tactic(auto)]
 
 mod emit;
-mod laws;
-mod owners;
 
 pub use emit::{StoredTree, emit_stored_core};
-pub use laws::copies_are_first;

@@ -51,7 +51,7 @@ abbrev pub SpellOne : Type 0
 SpellOne = (text : List ℕ) (p q : PlainProgram) → Spells text p → Spells text q → p ≡ q
 
 pub not_unbuilt : (p : PlainProgram) → CanBeBuilt p → IsUnbuilt p → ⊥
-not_unbuilt p can un = true≢false (sym (can un.plan un.is_plan) ∙ un.not_buildable)
+not_unbuilt p can un = true≢false (sym can ∙ un)
 
 module _ (laws : AreNotRefused) (one : SpellOne) (told : List ℕ → Standing) (failed : List ℕ → Type 0) (asked : List Call → Type 0) (program bytes : List ℕ) (plain : PlainProgram) where
   compiles : (status : PlainStatus) → (failed program → ⊥) → told program ≡ Holds bytes → length bytes ≤ longest_program → Spells bytes plain → CanBeBuilt plain

@@ -11,6 +11,6 @@ returns-clause-carries c =
     let p = plain_program c.args.program.now in
     let plan = plain_plan c.in_ok-made.made.plan in
     let core_is = c.in_ok-made.ensures.core in
-    let test = subst (λ (core : PlainCore). is_buildable core plan ≡ true) core_is (sym c.is_buildable.ensures ∙ c.if-not-is_buildable.false) in
+    let test = subst (λ (core : PlainCore). is_buildable core ≡ true) core_is (sym c.is_buildable.ensures ∙ c.if-not-is_buildable.false) in
     let carries = subst (λ (core : PlainCore). CarriesCore core plan c.in_ok-netlist.netlist) core_is c.in_ok-netlist.ensures.carries in
     c.cores_carry_programs.ensures p plan c.mems.ensures.program c.in_ok-made.ensures.plan test c.in_ok-netlist.netlist carries

@@ -7,6 +7,9 @@ returns c core plan delays s child arguments words is x starts input h left r gi
     (record {
       act = c.accesses_act.ensures core plan delays;
       have = c.operations_have_accesses.ensures core;
+      own = c.cores_own.ensures core plan delays;
+      name = c.cores_name_copies.ensures core plan delays;
+      numbers = c.plans_have_numbers.ensures core plan;
       answer = c.memories_answer.ensures core plan delays;
       hold = c.memories_hold.ensures core plan;
       goes = c.valid_plans_go_well.ensures core plan delays;
