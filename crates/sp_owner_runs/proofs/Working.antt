@@ -1,11 +1,12 @@
 -- The worked nets of owners.
-use Rattle.std.proofs.Common.{◌≡◌, ℕ, zero, suc, ◌==◌, ◌⊎◌, inl, inr, Bool, true, false, if◌then◌else◌, [], ◌∷◌, nat_eq, refl, sym, ap, subst, arith}
+use Rattle.std.proofs.Common.{◌≡◌, ℕ, zero, suc, ◌==◌, ◌⊎◌, inl, inr, Bool, true, false, if◌then◌else◌, [], ◌∷◌, None, nat_eq, refl, sym, ap, subst, arith}
 use Rattle.std.specs.List.{Contains}
 use Rattle.std.proofs.lemmas.Bool.{eqb-true, true≢false}
 use Rattle.sp_gates.specs.Tested.{is_on}
 use Rattle.sp_core.specs.Events.{Moment, renews, keeps}
 use Rattle.sp_core.specs.PlainCore.{PlainCore}
 use Rattle.sp_machine.specs.Stamps.{Stamped}
+use Rattle.sp_mem.specs.Copies.{copy_at}
 use Rattle.sp_node_runs.proofs.BodiesListed.{here, none_there, first_or_later}
 use Rattle.sp_tree_events.specs.ActsExample.{waves, in_three}
 use Rattle.sp_tree_events.specs.OwnersOwning.{Deed, renewed, kept, moment_of, Shows}
@@ -57,26 +58,26 @@ never_fresh m e = absurd (cc (e))
 never_kept : (m w : ℕ) → renews 2 ≡ keeps m w → ⊥
 never_kept m w e = absurd (cc (e))
 
-fresh_then : (t m : ℕ) → t ≡ 3 → 2 ≡ m → IsRenewed waves t m (renewal 2 0 ∷ [])
-fresh_then t m e same = (renewal 2 0, here (renewal 2 0) [], same, on_at t e)
+fresh_then : (t m c : ℕ) → t ≡ 3 → c ≡ 0 → 2 ≡ m → IsRenewed waves t m c (renewal 2 0 None ∷ [])
+fresh_then t m c e first same = (renewal 2 0 None, here (renewal 2 0 None) [], same, on_at t e, sym first)
 
-kept_then : (t m w : ℕ) → t ≡ 3 → 4 ≡ m → 5 ≡ w → IsKept waves t m (keeping 4 0 1 ∷ []) w
-kept_then t m w e same word = (keeping 4 0 1, here (keeping 4 0 1) [], same, on_at t e, word)
+kept_then : (t m c w : ℕ) → t ≡ 3 → c ≡ 0 → 4 ≡ m → 5 ≡ w → IsKept waves t m c (keeping 4 0 1 None ∷ []) w
+kept_then t m c w e first same word = (keeping 4 0 1 None, here (keeping 4 0 1 None) [], same, on_at t e, word, sym first)
 
-loop : (core : PlainCore) (last : ℕ) → OwnersAct core waves (in_three (renews 2)) last (renewal 2 0 ∷ []) []
+loop : (core : PlainCore) (last : ℕ) → OwnersAct core waves (in_three (renews 2)) last (renewal 2 0 None ∷ []) []
 loop core last = record {
-  renews = λ r u there le on. one_of (λ (r : Renewal). is_on waves r.first u ≡ true → Shows (in_three (renews 2)) u 0 (renewed r.mem)) (renewal 2 0) r (λ on. shown (renewed 2) u on) there on;
+  renews = λ r u there le on. one_of (λ (r : Renewal). is_on waves r.first u ≡ true → Shows (in_three (renews 2)) u (copy_at waves u r.copy) (renewed r.mem)) (renewal 2 0 None) r (λ on. shown (renewed 2) u on) there on;
   keeps = λ k u there le on. absurd (none_there k there);
-  all_renewals = λ u c m le counts h. (let x = at_three (renews 2) u c (renewed m) h in (x.copy, fresh_then u m x.cycle (same_fresh m x.same)));
+  all_renewals = λ u c m le counts h. (let x = at_three (renews 2) u c (renewed m) h in fresh_then u m c x.cycle x.copy (same_fresh m x.same));
   all_keepings = λ u c m v le h. absurd (never_kept m v (at_three (renews 2) u c (kept m v) h).same);
 }
 
-machine : (core : PlainCore) (last : ℕ) → OwnersAct core waves (in_three (keeps 4 5)) last [] (keeping 4 0 1 ∷ [])
+machine : (core : PlainCore) (last : ℕ) → OwnersAct core waves (in_three (keeps 4 5)) last [] (keeping 4 0 1 None ∷ [])
 machine core last = record {
   renews = λ r u there le on. absurd (none_there r there);
-  keeps = λ k u there le on. one_of (λ (k : Keeping). is_on waves k.done u ≡ true → Shows (in_three (keeps 4 5)) u 0 (kept k.mem (waves.net u k.word))) (keeping 4 0 1) k (λ on. shown (kept 4 5) u on) there on;
+  keeps = λ k u there le on. one_of (λ (k : Keeping). is_on waves k.done u ≡ true → Shows (in_three (keeps 4 5)) u (copy_at waves u k.copy) (kept k.mem (waves.net u k.word))) (keeping 4 0 1 None) k (λ on. shown (kept 4 5) u on) there on;
   all_renewals = λ u c m le counts h. absurd (never_fresh m (at_three (keeps 4 5) u c (renewed m) h).same);
-  all_keepings = λ u c m v le h. (let x = at_three (keeps 4 5) u c (kept m v) h in let e = same_state m v x.same in (x.copy, kept_then u m v x.cycle e.0 e.1));
+  all_keepings = λ u c m v le h. (let x = at_three (keeps 4 5) u c (kept m v) h in let e = same_state m v x.same in kept_then u m c v x.cycle x.copy e.0 e.1);
 }
 
 pub worked : WorkedNets

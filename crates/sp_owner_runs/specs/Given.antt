@@ -1,15 +1,19 @@
--- The laws of the crates below by which owners are shown to act, together.
+-- The laws of the crates below by which owners are shown to act and operations to name copies, together.
 use Rattle.sp_core.specs.PlainCore.{PlainNode, PlainCore}
 use Rattle.sp_plan.specs.PlainPlan.{PlainPlan}
 use Rattle.sp_machine.specs.Laws.{TellsAll}
 use Rattle.sp_machine.specs.Transfers.{Delays}
 use Rattle.sp_node_runs.specs.FitsLaws.{PartsFit, StagesTakeTime}
+use Rattle.sp_node_runs.specs.RunsTold.{StagesAreTold}
 use Rattle.sp_node_runs.specs.RunsLaws.{SidesComeInTurn, BodiesComeInTurn, StagesComeInTurn}
 use Rattle.sp_tree_runs.specs.BodiesScoped.{ScopedParts}
 use Rattle.sp_tree_events.specs.ActsKeeping.{MachinesKeep}
 use Rattle.sp_tree_events.specs.ActsRenewing.{LoopsRenew}
-use Rattle.sp_tree_events.specs.CopiesLaws.{NumbersStand}
+use Rattle.sp_tree_events.specs.CopiesLaws.{NumbersStand, InnersNameCopies, ListsNameCopies}
 use Rattle.sp_tree_events.specs.OwnersOwning.{RunsOwn, SidesOwn, BodiesOwn, StagesOwn}
+use Rattle.sp_tree_events.specs.PartsAgreeing.{SidesAgree, MachinesAgree, StagesAgree}
+use Rattle.sp_tree_events.specs.PartsLists.{BranchTestsAgree, MachineListsAgree}
+use Rattle.sp_tree_events.specs.ToldLaws.{NumbersAreWithin}
 use Rattle.sp_owner_runs.specs.Deeds.{OwnersDo}
 
 pub record Laws (core : PlainCore) (plan : PlainPlan) (delays : Delays) : Type 0 where
@@ -28,3 +32,12 @@ pub record Laws (core : PlainCore) (plan : PlainPlan) (delays : Delays) : Type 0
   pub loops : LoopsRenew core plan delays
   pub machines : MachinesKeep core plan delays
   pub numbers : NumbersStand core plan delays
+  pub within : (node : PlainNode) → NumbersAreWithin core node
+  pub stages_told : StagesAreTold core plan delays
+  pub sides_agree : SidesAgree core plan delays
+  pub machines_agree : MachinesAgree core plan delays
+  pub stages_agree : StagesAgree core plan delays
+  pub tests_agree : BranchTestsAgree core plan delays
+  pub lists_agree : MachineListsAgree core plan delays
+  pub inners_name : InnersNameCopies core plan delays
+  pub lists_name : ListsNameCopies core plan delays

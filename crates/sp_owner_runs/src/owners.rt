@@ -5,15 +5,20 @@ ghost use Rattle.sp_machine.specs.Transfers.{Delays};
 ghost use Rattle.sp_owner_runs.specs.Acting.{CoresOwn, TreesOwn};
 ghost use Rattle.sp_owner_runs.specs.Example.{WorkedNets};
 ghost use Rattle.sp_owner_runs.specs.Given.{Laws};
+ghost use Rattle.sp_owner_runs.specs.Naming.{CoresNameCopies, PlansHaveNumbers, TreesNameCopies};
 ghost use Rattle.sp_plan.specs.PlainPlan.{PlainPlan};
 
 use crate::deeds::owners_do;
+use sp_core_ports::plans_have_copies;
 use sp_machine::timelines_tell_all;
 use sp_node_runs::{
-    bodies_come_in_turn, parts_fit, sides_come_in_turn, stages_come_in_turn, stages_take_time,
+    bodies_come_in_turn, parts_fit, sides_come_in_turn, stages_are_told, stages_come_in_turn,
+    stages_take_time,
 };
 use sp_tree_events::{
-    bodies_own, loops_renew, machines_keep, numbers_stand, runs_own, sides_own, stages_own,
+    bodies_own, branch_tests_agree, inners_name_copies, lists_name_copies, loops_renew,
+    machine_lists_agree, machines_agree, machines_keep, numbers_are_within, numbers_stand,
+    runs_own, sides_agree, sides_own, stages_agree, stages_own,
 };
 use sp_tree_runs::parts_are_done;
 
@@ -36,10 +41,42 @@ fn laws_below()
     loops_renew();
     machines_keep();
     numbers_stand();
+    numbers_are_within();
+    stages_are_told();
+    sides_agree();
+    machines_agree();
+    stages_agree();
+    branch_tests_agree();
+    machine_lists_agree();
+    inners_name_copies();
+    lists_name_copies();
 }
 
-/// Where the circuit of a node goes as the timeline says up to a cycle, by a plan in which each memory has one copy, the nets of its
-/// owners tell where memories are made fresh and states are kept, and with which words, and nothing else does.
+/// Where the circuit of a node goes as the timeline says up to a cycle, and up to the cycle after it the numbers of copies around the
+/// node stand, the nets that its operations have name the copies of their events.
+pub fn trees_name_copies()
+    ensures { (core : PlainCore) (plan : PlainPlan) (delays : Delays) → TreesNameCopies core plan delays }
+{
+    laws_below();
+}
+
+/// So do those of a core's circuit, over the run of the whole core.
+pub fn cores_name_copies()
+    ensures { (core : PlainCore) (plan : PlainPlan) (delays : Delays) → CoresNameCopies core plan delays }
+{
+    laws_below();
+    trees_name_copies();
+}
+
+/// A valid plan has what both ask of it: each memory has a copy, and the times of loop bodies are kept.
+pub fn plans_have_numbers()
+    ensures { (core : PlainCore) (plan : PlainPlan) → PlansHaveNumbers core plan }
+{
+    plans_have_copies();
+}
+
+/// Where the circuit of a node goes as the timeline says up to a cycle, and the numbers of copies around it stand, the nets of its owners
+/// tell where memories are made fresh and states are kept, in which copies and with which words, and nothing else does.
 pub fn trees_own()
     ensures { (core : PlainCore) (plan : PlainPlan) (delays : Delays) → TreesOwn core plan delays }
 {

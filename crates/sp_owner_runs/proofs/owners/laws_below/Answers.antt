@@ -17,4 +17,13 @@ returns c core plan delays = record {
   loops = c.loops_renew.ensures core plan delays;
   machines = c.machines_keep.ensures core plan delays;
   numbers = c.numbers_stand.ensures core plan delays;
+  within = c.numbers_are_within.ensures core;
+  stages_told = c.stages_are_told.ensures core plan delays;
+  sides_agree = c.sides_agree.ensures core plan delays;
+  machines_agree = c.machines_agree.ensures core plan delays;
+  stages_agree = c.stages_agree.ensures core plan delays;
+  tests_agree = c.branch_tests_agree.ensures core plan delays;
+  lists_agree = c.machine_lists_agree.ensures core plan delays;
+  inners_name = c.inners_name_copies.ensures core plan delays;
+  lists_name = c.lists_name_copies.ensures core plan delays;
 }

@@ -1,0 +1,127 @@
+-- Nets of copies by the numbers of operations.
+use Rattle.std.proofs.Common.{◌≡◌, ℕ, zero, suc, ◌+◌, ◌-◌, ◌<◌, ◌≤◌, ◌⊎◌, inl, inr, List, [], ◌∷◌, ◌++◌, length, slice_index_or, Option, None, refl, sym, ap, subst, ◌∙◌, arith}
+use Rattle.std.proofs.lemmas.Bool.{cases_lt}
+use Rattle.sp_netlist.specs.Signals.{Signals}
+use Rattle.sp_core.specs.Events.{Event}
+use Rattle.sp_core.specs.Numbering.{counters_size}
+use Rattle.sp_core.specs.PlainCore.{PlainOp, PlainCounter, PlainCore}
+use Rattle.sp_machine.specs.Stamps.{Stamped}
+use Rattle.sp_memory_words.specs.Answers.{NamesCopies}
+use Rattle.sp_tree_events.specs.CopiesStanding.{CopyNets}
+use Rattle.sp_tree_events.specs.PartsAgreeing.{Agree}
+use Rattle.sp_tree_events.specs.ToldItems.{Item, operation, transfer, ListHas, CountersHave}
+use Rattle.sp_tree_events.specs.ToldLaws.{Does}
+use Rattle.sp_tree_copies.specs.Naming.{name_of, names_of, bound_names}
+use Rattle.sp_owner_runs.specs.Naming.{NameCopies}
+
+-- in two lists, one behind the other
+pub before : (xs ys : List (Option ℕ)) (i : ℕ) → i < length xs → slice_index_or (xs ++ ys) i None ≡ slice_index_or xs i None
+before [] ys i l = absurd (omega (arith, l))
+before (x ∷ xs) ys zero l = refl
+before (x ∷ xs) ys (suc i) l = before xs ys i (omega (arith, l))
+
+pub behind : (xs ys : List (Option ℕ)) (i : ℕ) → slice_index_or (xs ++ ys) (length xs + i) None ≡ slice_index_or ys i None
+behind [] ys i = ap (λ j. slice_index_or ys j None) {x = 0 + i} {y = i} (omega arith)
+behind (x ∷ xs) ys i = ap (λ j. slice_index_or (x ∷ xs ++ ys) j None) {x = suc (length xs) + i} {y = suc (length xs + i)} (omega arith) ∙ behind xs ys i
+
+pub both_long : (xs ys : List (Option ℕ)) → length (xs ++ ys) ≡ length xs + length ys
+both_long [] ys = omega arith
+both_long (x ∷ xs) ys = let e = both_long xs ys in omega (arith, e)
+
+-- as many as there are operations
+pub names_long : (around : CopyNets) (ops : List PlainOp) → length (names_of around ops) ≡ length ops
+names_long around [] = refl
+names_long around (op ∷ ops) = ap suc (names_long around ops)
+
+pub bounds_long : (around : CopyNets) (counters : List PlainCounter) → length (bound_names around counters) ≡ counters_size counters
+bounds_long around [] = refl
+bounds_long around (c ∷ counters) =
+    let a = both_long (names_of around c.from) (names_of around c.until ++ bound_names around counters) in
+    let b = both_long (names_of around c.until) (bound_names around counters) in
+    let d = names_long around c.from in
+    let e = names_long around c.until in
+    let f = bounds_long around counters in
+    omega (arith, a, b, d, e, f)
+
+-- each has the net of its memory
+op_at : (around : CopyNets) (ops : List PlainOp) (i : ℕ) (op : PlainOp) → i < length ops → slice_index_or (names_of around ops) i None ≡ name_of around (slice_index_or ops i op).mem
+op_at around [] i op l = absurd (omega (arith, l))
+op_at around (x ∷ ops) zero op l = refl
+op_at around (x ∷ ops) (suc i) op l = op_at around ops i op (omega (arith, l))
+
+pub list_name : (core : PlainCore) (around : CopyNets) (ops : List PlainOp) (n x j : ℕ) (i : Item) (e : Event) → ListHas ops n x i → Does core i e → x ≡ n + j → slice_index_or (names_of around ops) j None ≡ around e.mem
+list_name core around ops n x j (operation op) e h d at =
+    let same : h.place ≡ j = (let a = h.numbered in omega (arith, a, at)) in
+    ap (λ p. slice_index_or (names_of around ops) p None) (sym same) ∙ op_at around ops h.place op h.within ∙ ap (λ (o : PlainOp). name_of around o.mem) h.is ∙ ap (name_of around) d.0
+list_name core around ops n x j (transfer r m) e h d at = absurd h
+
+pub list_within : (ops : List PlainOp) (n x j : ℕ) (i : Item) → ListHas ops n x i → x ≡ n + j → j < length ops
+list_within ops n x j (operation op) h at = let a = h.numbered in let b = h.within in omega (arith, a, b, at)
+list_within ops n x j (transfer r m) h at = absurd h
+
+pub list_low : (ops : List PlainOp) (n x : ℕ) (i : Item) → ListHas ops n x i → n ≤ x
+list_low ops n x (operation op) h = let a = h.numbered in omega (arith, a)
+list_low ops n x (transfer r m) h = absurd h
+
+pub counters_low : (counters : List PlainCounter) (n x : ℕ) (i : Item) → CountersHave counters n x i → n ≤ x
+counters_low [] n x i h = absurd h
+counters_low (c ∷ counters) n x i (inl (inl h)) = list_low c.from n x i h
+counters_low (c ∷ counters) n x i (inl (inr h)) = let a = list_low c.until (n + length c.from) x i h in omega (arith, a)
+counters_low (c ∷ counters) n x i (inr h) = let a = counters_low counters (n + (length c.from + length c.until)) x i h in omega (arith, a)
+
+pub counters_within : (counters : List PlainCounter) (n x : ℕ) (i : Item) → CountersHave counters n x i → x < n + counters_size counters
+counters_within [] n x i h = absurd h
+counters_within (c ∷ counters) n x i (inl (inl h)) = (let a = list_low c.from n x i h in let b = list_within c.from n x (x - n) i h (omega (arith, a)) in omega (arith, a, b))
+counters_within (c ∷ counters) n x i (inl (inr h)) = (let a = list_low c.until (n + length c.from) x i h in let b = list_within c.until (n + length c.from) x (x - (n + length c.from)) i h (omega (arith, a)) in omega (arith, a, b))
+counters_within (c ∷ counters) n x i (inr h) = let a = counters_within counters (n + (length c.from + length c.until)) x i h in omega (arith, a)
+
+-- so has each of a bound
+pub bound_name : (core : PlainCore) (around : CopyNets) (counters : List PlainCounter) (n x j : ℕ) (i : Item) (e : Event) → CountersHave counters n x i → Does core i e → x ≡ n + j → slice_index_or (bound_names around counters) j None ≡ around e.mem
+bound_name core around [] n x j i e h d at = absurd h
+bound_name core around (c ∷ counters) n x j i e (inl (inl h)) d at =
+    let w = list_within c.from n x j i h at in
+    let l = names_long around c.from in
+    before (names_of around c.from) (names_of around c.until ++ bound_names around counters) j (omega (arith, w, l)) ∙ list_name core around c.from n x j i e h d at
+bound_name core around (c ∷ counters) n x j i e (inl (inr h)) d at =
+    let low = list_low c.until (n + length c.from) x i h in
+    let j2 : ℕ = x - (n + length c.from) in
+    let is : x ≡ (n + length c.from) + j2 = omega (arith, low) in
+    let w = list_within c.until (n + length c.from) x j2 i h is in
+    let l = names_long around c.from in
+    let u = names_long around c.until in
+    let same : length (names_of around c.from) + j2 ≡ j = omega (arith, l, is, at) in
+    ap (λ p. slice_index_or (names_of around c.from ++ (names_of around c.until ++ bound_names around counters)) p None) (sym same)
+    ∙ behind (names_of around c.from) (names_of around c.until ++ bound_names around counters) j2
+    ∙ before (names_of around c.until) (bound_names around counters) j2 (omega (arith, w, u)) ∙ list_name core around c.until (n + length c.from) x j2 i e h d is
+bound_name core around (c ∷ counters) n x j i e (inr h) d at =
+    let low = counters_low counters (n + (length c.from + length c.until)) x i h in
+    let j2 : ℕ = x - (n + (length c.from + length c.until)) in
+    let is : x ≡ (n + (length c.from + length c.until)) + j2 = omega (arith, low) in
+    let l = names_long around c.from in
+    let u = names_long around c.until in
+    let same : length (names_of around c.from) + (length (names_of around c.until) + j2) ≡ j = omega (arith, l, u, is, at) in
+    ap (λ p. slice_index_or (names_of around c.from ++ (names_of around c.until ++ bound_names around counters)) p None) (sym same)
+    ∙ behind (names_of around c.from) (names_of around c.until ++ bound_names around counters) (length (names_of around c.until) + j2)
+    ∙ behind (names_of around c.until) (bound_names around counters) j2 ∙ bound_name core around counters (n + (length c.from + length c.until)) x j2 i e h d is
+
+-- what names the copies of events, list by list
+module _ (s : Signals) (t : ℕ) where
+  pub name_both : (events : List Stamped) (n : ℕ) (xs ys : List (Option ℕ)) → NameCopies s events t n xs → NameCopies s events t (n + length xs) ys → NameCopies s events t n (xs ++ ys)
+  name_both events n xs ys h k i l = by (cases_lt i (length xs))
+    where
+      by : (i < length xs) ⊎ (length xs ≤ i) → NamesCopies s events t (n + i) (slice_index_or (xs ++ ys) i None)
+      by (inl low) = subst (NamesCopies s events t (n + i)) (sym (before xs ys i low)) (h i low)
+      by (inr high) =
+          let j : ℕ = i - length xs in
+          let same : length xs + j ≡ i = omega (arith, high) in
+          let all = both_long xs ys in
+          subst (λ p. NamesCopies s events t (n + p) (slice_index_or (xs ++ ys) p None)) same
+          (subst (NamesCopies s events t (n + (length xs + j))) (sym (behind xs ys j))
+          (subst (λ x. NamesCopies s events t x (slice_index_or ys j None)) {x = (n + length xs) + j} {y = n + (length xs + j)} (omega arith) (k j (omega (arith, l, all, same)))))
+
+  pub name_at : (events : List Stamped) (n m : ℕ) (names : List (Option ℕ)) → n ≡ m → NameCopies s events t n names → NameCopies s events t m names
+  name_at events n m names e h = subst (λ x. NameCopies s events t x names) e h
+
+  -- by a part, where the whole agrees with it at their numbers
+  pub name_in : (whole part : List Stamped) (n : ℕ) (names : List (Option ℕ)) → ((i : ℕ) → i < length names → Agree whole part (n + i)) → NameCopies s part t n names → NameCopies s whole t n names
+  name_in whole part n names agree h i l u e p late = let y = (agree i l).into u e p in h i l u y.0 y.1 late ∙ y.3
