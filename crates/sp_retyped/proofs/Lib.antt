@@ -1,0 +1,5 @@
+pub mod Values
+pub mod Names
+pub mod Owns
+pub mod Back
+pub mod Quiet
