@@ -1,3 +1,4 @@
 pub mod Bare
 pub mod Shown
 pub mod Laws
+pub mod BareMems
