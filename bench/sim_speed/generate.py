@@ -1,7 +1,18 @@
 """A synthetic netlist from a seed, as a listing and as Verilog: registers, sums, products, comparisons, choices,
-shifts and banks. generate.py CELLS SEED LISTING VERILOG"""
+shifts, banks, and DRAMs with a load and a store unit each. generate.py CELLS SEED LISTING VERILOG [LAST]
+
+The listing is done in cycle LAST, by default in none that is ever reached. The Verilog text runs for as many cycles as
+its argument +n says, and prints the words that stand then: those of the outputs, and a number for the words of each
+DRAM. Channels are those of docs/netlists.md, with the delays below."""
 import random
 import sys
+
+NEVER = 1 << 62
+# The channels wait so long, in the order in which they ask, and those that ask later don't wait. The measuring program
+# has the same list.
+DELAYS = [7 * k % 20 for k in range(100)]
+# Words of a bank, and of a DRAM.
+BANK, DRAM = 64, 1024
 
 
 class Circuit:
@@ -13,6 +24,7 @@ class Circuit:
         self.edges = []
         self.starts = []
         self.recent = []
+        self.kept = []
         self.bits = []
 
     def fresh(self):
@@ -20,7 +32,8 @@ class Circuit:
         return self.net - 1
 
     def word(self):
-        return self.random.choice(self.recent[-200:])
+        """Every second operand is a register, so that no path through what is computed is longer than in a design."""
+        return self.random.choice(self.kept if self.random.random() < 0.5 else self.recent[-200:])
 
     def bit(self):
         return self.random.choice(self.bits[-50:])
@@ -37,7 +50,7 @@ class Circuit:
 
     def register(self):
         net = self.fresh()
-        self.recent.append(net)
+        self.kept.append(net)
         return net
 
     def close(self, net):
@@ -67,48 +80,140 @@ class Circuit:
         else:
             self.compute(32, f"mux {{n}} 32 {c} {a} {b}", f"n{c} ? n{a} : n{b}")
 
+    def address(self, low):
+        source = self.word()
+        return self.compute(32, f"op {{n}} u32.0 and {source} {low}", f"n{source} & n{low}")
+
     def bank(self, number, low):
         read = self.fresh()
         self.recent.append(read)
-        source = self.word()
-        address = self.compute(32, f"op {{n}} u32.0 and {source} {low}", f"n{source} & n{low}")
+        address = self.address(low)
         enable, word = self.bit(), self.word()
-        self.lines += [f"bank {number} 32 64", f"read {read} {number} 1 {address}", f"write {number} {enable} {address} {word}"]
-        self.starts += [f"reg [31:0] m{number} [0:63];", f"reg [31:0] n{read} = 0;"]
-        self.starts.append(f"initial for (k = 0; k < 64; k = k + 1) m{number}[k] = 0;")
+        self.lines += [f"bank {number} 32 {BANK}", f"read {read} {number} 1 {address}", f"write {number} {enable} {address} {word}"]
+        self.starts += [f"reg [31:0] m{number} [0:{BANK - 1}];", f"reg [31:0] n{read} = 0;"]
+        self.starts.append(f"initial for (k = 0; k < {BANK}; k = k + 1) m{number}[k] = 0;")
         self.edges += [f"n{read} <= m{number}[n{address}[5:0]];", f"if (n{enable}) m{number}[n{address}[5:0]] <= n{word};"]
 
+    def dram(self, number, steady):
+        """A DRAM and its load unit, whose channel has the same number; `close_store` adds its store unit."""
+        self.lines.append(f"dram {number} d{number} s32.0 {DRAM}")
+        self.starts.append(f"reg [31:0] d{number} [0:{DRAM - 1}];")
+        self.starts.append(f"initial for (k = 0; k < {DRAM}; k = k + 1) d{number}[k] = 0;")
+        ready, word = self.fresh(), self.fresh()
+        self.bits.append(ready)
+        self.recent.append(word)
+        last, address = self.stream(ready, steady)
+        self.lines.append(f"load {number} {number} {ready} {word} {steady.one} {last} {address}")
+        self.starts.append(f"reg [31:0] n{word} = 0;")
+        self.channel(number, ready, steady.one, last, f"n{word} <= d{number}[n{address}[9:0]];")
 
-def circuit(cells, seed):
+    def close_store(self, channel, number, steady):
+        ready = self.fresh()
+        last, address = self.stream(ready, steady)
+        word = self.word()
+        self.lines.append(f"store {channel} {number} {ready} {steady.one} {last} {address} {word}")
+        self.channel(channel, ready, steady.one, last, f"d{number}[n{address}[9:0]] <= n{word};")
+
+    def stream(self, ready, steady):
+        """A count of words that are moved: the address of the next one, and whether it is the last of its line."""
+        count = self.fresh()
+        following = self.compute(32, f"op {{n}} u32.0 add {count} {steady.step}", f"n{count} + n{steady.step}")
+        self.lines.append(f"reg {count} 32 0 {following} {ready}")
+        self.starts.append(f"reg [31:0] n{count} = 32'd0;")
+        self.edges.append(f"if (n{ready}) n{count} <= n{following};")
+        place = self.compute(32, f"op {{n}} u32.0 and {count} {steady.low}", f"n{count} & n{steady.low}")
+        last = self.compute(1, f"op {{n}} u32.0 eq {place} {steady.low}", f"n{place} == n{steady.low}")
+        address = self.compute(32, f"op {{n}} u32.0 and {count} {steady.lower}", f"n{count} & n{steady.lower}")
+        return last, address
+
+    def channel(self, number, ready, request, last, move):
+        """What a channel does at a clock edge: it moves a word in each cycle in which it is ready, and asks at a
+        request and with each sixteenth word; then the next delay is taken."""
+        c = f"c{number}"
+        self.starts += [f"reg n{ready} = 0;", f"reg {c}_busy = 0;", f"reg [3:0] {c}_moved = 0;", f"reg [7:0] {c}_wait = 0;"]
+        ask = f"{c}_moved <= 0; wait_for = delay(taken); taken = taken + 1; n{ready} <= wait_for == 0; {c}_wait <= wait_for - 1;"
+        self.edges += [
+            f"if (n{ready}) begin",
+            f"  {move}",
+            f"  if (n{last}) begin n{ready} <= 0; {c}_busy <= 0; end",
+            f"  else if ({c}_moved == 15) begin {ask} end",
+            f"  else {c}_moved <= {c}_moved + 1;",
+            "end",
+            f"else if (!{c}_busy) begin if (n{request}) begin {c}_busy <= 1; {ask} end end",
+            f"else if ({c}_wait == 0) n{ready} <= 1;",
+            f"else {c}_wait <= {c}_wait - 1;",
+        ]
+
+    def end(self, last, steady):
+        """The listing is done in that cycle."""
+        count = self.fresh()
+        step = self.compute(64, "const {n} 64 1", "64'd1")
+        limit = self.compute(64, f"const {{n}} 64 {last}", f"64'd{last}")
+        following = self.compute(64, f"op {{n}} u64.0 add {count} {step}", f"n{count} + n{step}")
+        done = self.compute(1, f"op {{n}} u64.0 eq {count} {limit}", f"n{count} == n{limit}")
+        self.lines += [f"reg {count} 64 0 {following} {steady.one}", f"done {done}"]
+        self.starts.append(f"reg [63:0] n{count} = 64'd0;")
+        self.edges.append(f"n{count} <= n{following};")
+
+
+class Steady:
+    """Constants: a bit, 1, and what leaves the lowest bits of an address in a bank and in a DRAM."""
+
+    def __init__(self, circuit):
+        circuit.constant(1, 0)
+        self.one, self.step = circuit.constant(1, 1), circuit.constant(32, 1)
+        self.low, self.lower = circuit.constant(32, BANK - 1), circuit.constant(32, DRAM - 1)
+
+
+# The cells of a store unit with its stream, and of the end; the outputs.
+STORE, END, OUTPUTS = 6, 6, 4
+
+
+def circuit(cells, seed, last):
     made = Circuit(seed)
-    zero = made.constant(1, 0)
-    made.constant(1, 1)
-    low = made.constant(32, 63)
-    registers = [made.register() for _ in range(max(2, cells // 5))]
+    steady = Steady(made)
+    registers = [made.register() for _ in range(max(OUTPUTS, cells // 5))]
     for number in range(max(1, cells // 100)):
-        made.bank(number, low)
-    while len(made.lines) + len(registers) < cells - 2:
+        made.bank(number, steady.low)
+    drams = max(1, cells // 500)
+    for number in range(drams):
+        made.dram(number, steady)
+    while len(made.lines) + len(registers) + STORE * drams < cells - END - OUTPUTS:
         made.operation()
     for net in registers:
         made.close(net)
-    made.lines += [f"out y {registers[0]} s32.0", f"done {zero}"]
-    return made, registers[0]
+    shown = registers[:: len(registers) // OUTPUTS][:OUTPUTS]
+    made.lines += [f"out y{place} {net} s32.0" for place, net in enumerate(shown)]
+    for number in range(drams):
+        made.close_store(drams + number, number, steady)
+    made.end(last, steady)
+    return made, shown, drams
+
+
+def bench(made, shown, drams):
+    """The circuit as a module that clocks itself and prints what stands in the end."""
+    lines = ["module top;", "reg clk = 0;", "integer i, k, n, taken = 0;", "reg [7:0] wait_for;", "reg [63:0] sum;"]
+    lines += ["function [7:0] delay(input integer place);", "  case (place)"]
+    lines += [f"    {place}: delay = {word};" for place, word in enumerate(DELAYS)]
+    lines += ["    default: delay = 0;", "  endcase", "endfunction"]
+    lines += made.starts + made.wires + ["always @(posedge clk) begin"] + made.edges + ["end"]
+    lines += ["initial begin", "  if (!$value$plusargs(\"n=%d\", n)) n = 1;"]
+    lines.append("  for (i = 0; i < n; i = i + 1) begin #1 clk = 1; #1 clk = 0; end")
+    lines += [f"  $display(\"out %0d\", n{net});" for net in shown]
+    for number in range(drams):
+        lines.append(f"  sum = 0; for (k = 0; k < {DRAM}; k = k + 1) sum = 3 * sum + d{number}[k];")
+        lines.append(f"  $display(\"dram %0d\", sum);")
+    return "\n".join(lines + ["  $finish(0);", "end", "endmodule", ""])
 
 
 def main():
     cells, seed, listing, verilog = int(sys.argv[1]), int(sys.argv[2]), sys.argv[3], sys.argv[4]
-    made, shown = circuit(cells, seed)
+    last = int(sys.argv[5]) if len(sys.argv) > 5 else NEVER
+    made, shown, drams = circuit(cells, seed, last)
     with open(listing, "w") as file:
         file.write("netlist 1\n" + "\n".join(made.lines) + "\n")
     with open(verilog, "w") as file:
-        body = "\n".join(made.starts + made.wires)
-        edges = "\n".join(made.edges)
-        file.write(
-            f"module top;\nreg clk = 0;\ninteger i, k, n;\n{body}\nalways @(posedge clk) begin\n{edges}\nend\n"
-            "initial begin\n  if (!$value$plusargs(\"n=%d\", n)) n = 1;\n"
-            "  for (i = 0; i < n; i = i + 1) begin #1 clk = 1; #1 clk = 0; end\n"
-            f"  $display(\"%0d\", n{shown}); $finish;\nend\nendmodule\n"
-        )
+        file.write(bench(made, shown, drams))
 
 
 main()
