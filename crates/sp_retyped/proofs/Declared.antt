@@ -112,7 +112,7 @@ module _ (p : PlainProgram) where
     mems_back (IsBodyTree.more {at = at} {s = s} {x = x} {rest = rest} {all = all} t ts) h =
         joined bare_mem mem_is (typed.mems_in at x) (typed.mems_declared all) (mems_in s) (mems_declared rest) (stmt_mems at t (left (mems_in s) (mems_declared rest) h)) (mems_back ts (right (mems_in s) (mems_declared rest) h))
 
-    stmt_mems : {s : program.PlainStmtKind} {x : tree_of.PlainStmtKind} (place : ℕ) → IsStmtTree (names_in p) s x → Right (mems_in s) → map bare_mem (typed.mems_in place x) ≡ map mem_is (mems_in s)
+    pub stmt_mems : {s : program.PlainStmtKind} {x : tree_of.PlainStmtKind} (place : ℕ) → IsStmtTree (names_in p) s x → Right (mems_in s) → map bare_mem (typed.mems_in place x) ≡ map mem_is (mems_in s)
     stmt_mems place (IsStmtTree.declared {m = m} t) h = declare_back place t (h m (0, omega arith, refl))
     stmt_mems place (IsStmtTree.bound a b) h = refl
     stmt_mems place (IsStmtTree.reg_set a b) h = refl
@@ -138,7 +138,7 @@ module _ (p : PlainProgram) where
     vals_back IsBodyTree.empty = refl
     vals_back (IsBodyTree.more {s = s} {x = x} {rest = rest} {all = all} t ts) = alike val_is (typed.vals_in x) (typed.vals_declared all) (vals_in s) (vals_declared rest) (stmt_vals t) (vals_back ts)
 
-    stmt_vals : {s : program.PlainStmtKind} {x : tree_of.PlainStmtKind} → IsStmtTree (names_in p) s x → typed.vals_in x ≡ map val_is (vals_in s)
+    pub stmt_vals : {s : program.PlainStmtKind} {x : tree_of.PlainStmtKind} → IsStmtTree (names_in p) s x → typed.vals_in x ≡ map val_is (vals_in s)
     stmt_vals (IsStmtTree.declared t) = declare_vals t
     stmt_vals (IsStmtTree.bound text b) = λ i. text i ∷ []
     stmt_vals (IsStmtTree.reg_set a b) = refl
@@ -165,7 +165,7 @@ module _ (p : PlainProgram) where
     counters_back IsBodyTree.empty = refl
     counters_back (IsBodyTree.more {s = s} {x = x} {rest = rest} {all = all} t ts) = alike counter_is (typed.counters_in x) (typed.counters_declared all) (counters_in s) (counters_declared rest) (stmt_counters t) (counters_back ts)
 
-    stmt_counters : {s : program.PlainStmtKind} {x : tree_of.PlainStmtKind} → IsStmtTree (names_in p) s x → typed.counters_in x ≡ map counter_is (counters_in s)
+    pub stmt_counters : {s : program.PlainStmtKind} {x : tree_of.PlainStmtKind} → IsStmtTree (names_in p) s x → typed.counters_in x ≡ map counter_is (counters_in s)
     stmt_counters (IsStmtTree.declared t) = declare_counters t
     stmt_counters (IsStmtTree.bound text b) = refl
     stmt_counters (IsStmtTree.reg_set a b) = refl

@@ -5,3 +5,8 @@ pub mod Back
 pub mod Quiet
 pub mod Declared
 pub mod Ports
+pub mod Scopes
+pub mod Numbered
+pub mod Parts
+pub mod Bodies
+pub mod Programs

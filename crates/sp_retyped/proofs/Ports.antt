@@ -24,7 +24,7 @@ use Rattle.sp_retyped.proofs.Declared.{known_is, same_parts, no_dims, rank_at, s
 
 -- ---- places in a list
 
-here : {A : Type 0} (before : List A) (x : A) (xs : List A) (d : A) → slice_index_or (before ++ x ∷ xs) (length before) d ≡ x
+pub here : {A : Type 0} (before : List A) (x : A) (xs : List A) (d : A) → slice_index_or (before ++ x ∷ xs) (length before) d ≡ x
 here [] x xs d = refl
 here (y ∷ before) x xs d = here before x xs d
 
@@ -79,7 +79,7 @@ ports_of_bare ms = λ i. record { args = kept is_arg ms i; outs = kept is_out ms
         go true e h = rw e (ap (λ l. port_of m ∷ l) h)
         go false e h = rw e h
 
-below : (n x : ℕ) → Contains (numbers_below n) x → x < n
+pub below : (n x : ℕ) → Contains (numbers_below n) x → x < n
 below zero x (i, lt, e) = absurd (omega (arith, lt))
 below (suc n) x at = by (Contains-append_cases (numbers_below n) (n ∷ []) x at) (λ h. below n x h)
   where
