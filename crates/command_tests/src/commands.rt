@@ -220,10 +220,15 @@ waves F S|netlist 1;const 0 1 0;||-|11|listing: no listing at line 3;\n\
 simulate F S|in x 0 s32.0;const 1 32 3;op 2 s32.0 add 0 1;reg 3 32 0 2 4;const 4 1 1;reg 5 1 0 4 4;out y 3 s32.0;done 5;|[args];x = 4;|-|11|listing: no listing at line 1;\n\
 simulate F S|netlist 1;in x 0 s32.0;const 1 32 3;op 2 s32.0 add 0 1;reg 3 32 0 2 4;const 4 1 1;reg 5 1 0 4 4;out y 3 s32.0;|[args];x = 4;|-|11|listing: no listing at line 9;\n\
 simulate F S|netlist 1;const 1 32 3;op 2 s32.0 add 0 1;reg 3 32 0 2 4;const 4 1 1;reg 5 1 0 4 4;out y 3 s32.0;done 5;||-|11|listing: net 0 is not driven once;\n\
+simulate F S|netlist 1;in x 0 s32.0;op 2 s32.0 add 0 1;reg 3 32 0 2 4;const 4 1 1;reg 5 1 0 4 4;out y 3 s32.0;done 5;||-|11|listing: net 1 is not driven once;\n\
+simulate F S|netlist 1;in x 0 s32.0;const 1 32 3;reg 3 32 0 2 4;const 4 1 1;reg 5 1 0 4 4;out y 3 s32.0;done 5;||-|11|listing: net 2 is not driven once;\n\
+simulate F S|netlist 1;in x 0 s32.0;const 1 32 3;op 2 s32.0 add 0 1;const 4 1 1;reg 5 1 0 4 4;out y 3 s32.0;done 5;||-|11|listing: net 3 is not driven once;\n\
+simulate F S|netlist 1;in x 0 s32.0;const 1 32 3;op 2 s32.0 add 0 1;reg 3 32 0 2 4;reg 5 1 0 4 4;out y 3 s32.0;done 5;||-|11|listing: net 4 is not driven once;\n\
 simulate F S|netlist 1;in x 0 s32.0;const 1 32 3;op 2 s32.0 add 0 1;reg 3 32 0 2 4;const 4 1 1;out y 3 s32.0;done 5;||-|11|listing: net 5 is not driven once;\n\
 simulate F S|netlist 2;||-|11|listing: no listing at line 1;\n\
 simulate F S|netlist 1;not 0 u1.0 0;done 0;||-|11|listing: loop through net 0;\n\
 simulate F S|netlist 1;in x 0 s32.0;const 1 32 3;op 2 s32.0 add 0 1;reg 3 32 0 2 4;const 4 1 1;reg 5 2 0 4 4;out y 3 s32.0;done 5;||-|11|listing: width of net 4;\n\
+simulate F S|netlist 1;dram 0 a u8.0 67108864;const 0 1 1;done 0;|x = = 1;|-|5|setup: no toml;\n\
 simulate F S|netlist 1;dram 0 a u8.0 67108865;const 0 1 1;done 0;||-|11|listing: limit 67108865;\n\
 simulate F S|netlist 1;const 0 1 1;const 1 32 0;reg 2 1 0 0 0;bank 0 8 4;read 3 0 2 1;read 4 0 2 1;const 4 1 0;done 4;||-|11|listing: net 4 is not driven once;\n\
 simulate F S|netlist 1;const 0 1 1;const 1 32 0;reg 2 1 0 0 0;bank 0 8 4;read 3 0 2 1;read 4 0 2 1;const 5 1 0;done 5;||-|12|conflict: cycle 1, bank 0, read port;\n\

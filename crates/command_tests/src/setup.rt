@@ -135,12 +135,20 @@ int|1|0|[args];x = = 1||no toml\n\
 int|1|0|[args];x = 4;x = 4||no toml\n\
 int|1|0|turns = 0;[args];x = 4||range turns at 0\n\
 int|1|0|turns = 10000001;[args];x = 4||range turns at 0\n\
+int|1|0|turns = 1;cycles = 1;[args];x = 4||1 1 args 4\n\
+int|1|0|turns = 10000000;cycles = 1000000000;[args];x = 4||10000000 1000000000 args 4\n\
+int|1|0|cycles = 0;[args];x = 4||range cycles at 0\n\
 int|1|0|cycles = 1000000001;[args];x = 4||range cycles at 0\n\
 int|1|0|delays = [0, 1000001];[args];x = 4||range delays at 1\n\
+int|1|0|delays = [0, 1000000];[args];x = 4||10000000 10000000 delay 0 delay 1000000 args 4\n\
 int|1|0|delays = [-1];[args];x = 4||range delays at 0\n\
 int|1|0|[args];x = '4.75'||10000000 10000000 args 4\n\
 int|1|0|[args];x = '-0.5'||10000000 10000000 args 4294967295\n\
 int|1|0|[args];x = -2147483648||10000000 10000000 args 2147483648\n\
+int|1|0|[args];x = -2147483649||range args.x at 0\n\
+int|1|0|[args];x = 2147483647||10000000 10000000 args 2147483647\n\
+int|1|0|[args];x = '2147483647.999'||10000000 10000000 args 2147483647\n\
+int|1|0|[args];x = '-2147483648.001'||range args.x at 0\n\
 int|1|0|[args];x = true||key args.x\n\
 int|1|0|[args];x = 1.5||key args.x\n\
 int|1|0|[args];x = '1..2'||key args.x\n\
@@ -148,6 +156,8 @@ int|1|0|[args];x = ' 1'||key args.x\n\
 int|1|0|[args];x = '1.'||key args.x\n\
 int|1|0|[args];x = '4294967296'||range args.x at 0\n\
 int|1|0|[args];x = '340282366920938463463374607431768211456'||range args.x at 0\n\
+int|1|0|[args];x = '4.0000000000000000000000000000000000000000000000000000000000000001'||10000000 10000000 args 4\n\
+int|1|0|[args];x = '4.00000000000000000000000000000000000000000000000000000000000000001'||range args.x at 0\n\
 int|1|0|zz = 1;turns = 0;cycles = 0||key zz\n\
 int|1|0|turns = 1.5;cycles = 'a'||key cycles\n\
 int|1|0|turns = 0;cycles = 0;[args];z = 1||range turns at 0\n\
@@ -156,11 +166,15 @@ int|1|2|[args];x = 'a';[dram];q = 'f'||key args.x\n\
 s8.8|2|0|[args];x = '1.5';z = '-2.25'||10000000 10000000 args 384 64960\n\
 s8.8|2|0|[args];x = '0.00390625';z = '-0.00390625'||10000000 10000000 args 1 65535\n\
 s8.8|2|0|[args];x = 127;z = 128||range args.z at 0\n\
+s8.8|2|0|[args];x = '127.999';z = -128||10000000 10000000 args 32767 32768\n\
+s8.8|1|0|[args];x = '-128.001'||range args.x at 0\n\
 bit|2|0|[args];x = 1;z = 'true'||10000000 10000000 args 1 1\n\
 bit|2|0|[args];x = false;z = '0.5'||10000000 10000000 args 0 0\n\
 bit|2|0|[args];x = 2;z = 0||range args.x at 0\n\
 bit|2|0|[args];x = 'yes';z = 0||key args.x\n\
 u64|1|0|[args];x = -1||range args.x at 0\n\
+u64|1|0|[args];x = '18446744073709551615'||10000000 10000000 args 18446744073709551615\n\
+u64|1|0|[args];x = '18446744073709551616'||range args.x at 0\n\
 u64|0|2|[dram];a = 'f'|18446744073709551615,0|10000000 10000000 args dram 18446744073709551615 0 dram 0 0\n\
 int|0|3||1,2,3|10000000 10000000 args dram 0 0 0 dram 0 0 0\n\
 int|0|3|[dram];b = 'f'| 1 ,\t2;;-1\t|10000000 10000000 args dram 0 0 0 dram 1 2 4294967295\n\
@@ -186,6 +200,33 @@ fn a_setup_is_read_or_refused_by_its_first_wrong_part(rt: HostRuntime) -> Result
         let file = lines_of(alloc, field(&rt, fields.next()))?;
         let given = outcome(&rt, alloc, &ports, text.as_str(), file.as_str())?;
         assert_eq!(rt; given.as_str(), field(&rt, fields.next()), "{row}");
+    }
+    Ok(())
+}
+
+// A setup of so many delays.
+fn delays_text(alloc: Global, count: u32) -> Result<String, AllocError> {
+    let mut text = String::from_str(alloc, "delays = [")?;
+    for _place in 0..count {
+        text.push_str("0,")?;
+    }
+    text.push_str("]\n")?;
+    Ok(text)
+}
+
+#[test]
+fn a_setup_has_at_most_100_000_delays(rt: HostRuntime) -> Result<(), Fail> {
+    let alloc = rt.alloc();
+    let ports = ports_of(alloc, type_of(&rt, "int"), 0, 0)?;
+    let text = delays_text(alloc, 100_001)?;
+    let given = outcome(&rt, alloc, &ports, text.as_str(), "")?;
+    assert_eq!(rt; given.as_str(), "range delays at 100000");
+    let text = delays_text(alloc, 100_000)?;
+    let mut inputs = inputs_of(alloc, "")?;
+    assert!(rt; dram_sizes_fit(&ports));
+    match read(alloc, &mut inputs, &ports, text.as_bytes()) {
+        Ok(setup) => assert_eq!(rt; setup.delays.len(), 100_000),
+        Err(end) => Err(end_text(alloc, &end)?.as_str())?,
     }
     Ok(())
 }
