@@ -1,0 +1,11 @@
+//! Parts of statements of a program's tree have no refusals. The function does nothing: what it ensures is the law.
+#![tactic(auto)]
+
+ghost use Rattle.sp_unrefused.specs.Laws.{ExpressionsAreRight, SlicesAreRight, CountersAreRight};
+
+/// Expressions, slices of SRAMs and counters that name no accumulator around have no refusals in the body of it.
+pub fn parts_are_right()
+    ensures expressions { ExpressionsAreRight }
+    ensures slices { SlicesAreRight }
+    ensures counters { CountersAreRight }
+{}
