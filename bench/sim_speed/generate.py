@@ -1,5 +1,5 @@
 """A synthetic netlist from a seed, as a listing and as Verilog: registers, sums, products, comparisons, choices,
-shifts, banks, and DRAMs with a load and a store unit each. generate.py CELLS SEED LISTING VERILOG [LAST]
+shifts, banks, and DRAMs with a load and a store unit each, in blocks of 1,000 cells. generate.py CELLS SEED LISTING VERILOG [LAST]
 
 The listing is done in cycle LAST, by default in none that is ever reached. The Verilog text runs for as many cycles as
 its argument +n says, and prints the words that stand then: those of the outputs, and a number for the words of each
@@ -26,14 +26,17 @@ class Circuit:
         self.recent = []
         self.kept = []
         self.bits = []
+        self.banks = 0
+        self.drams = 0
+        self.channels = 0
 
     def fresh(self):
         self.net += 1
         return self.net - 1
 
     def word(self):
-        """Every second operand is a register, so that no path through what is computed is longer than in a design."""
-        return self.random.choice(self.kept if self.random.random() < 0.5 else self.recent[-200:])
+        """A word of the block, or now and then a register of any block so far."""
+        return self.random.choice(self.kept if self.random.random() < 0.05 else self.recent[-200:])
 
     def bit(self):
         return self.random.choice(self.bits[-50:])
@@ -51,6 +54,7 @@ class Circuit:
     def register(self):
         net = self.fresh()
         self.kept.append(net)
+        self.recent.append(net)
         return net
 
     def close(self, net):
@@ -84,7 +88,8 @@ class Circuit:
         source = self.word()
         return self.compute(32, f"op {{n}} u32.0 and {source} {low}", f"n{source} & n{low}")
 
-    def bank(self, number, low):
+    def bank(self, low):
+        number, self.banks = self.banks, self.banks + 1
         read = self.fresh()
         self.recent.append(read)
         address = self.address(low)
@@ -94,8 +99,9 @@ class Circuit:
         self.starts.append(f"initial for (k = 0; k < {BANK}; k = k + 1) m{number}[k] = 0;")
         self.edges += [f"n{read} <= m{number}[n{address}[5:0]];", f"if (n{enable}) m{number}[n{address}[5:0]] <= n{word};"]
 
-    def dram(self, number, steady):
-        """A DRAM and its load unit, whose channel has the same number; `close_store` adds its store unit."""
+    def dram(self, steady):
+        """A DRAM and its load unit; `close_store` adds its store unit."""
+        number, self.drams = self.drams, self.drams + 1
         self.lines.append(f"dram {number} d{number} s32.0 {DRAM}")
         self.starts.append(f"reg [31:0] d{number} [0:{DRAM - 1}];")
         self.starts.append(f"initial for (k = 0; k < {DRAM}; k = k + 1) d{number}[k] = 0;")
@@ -103,16 +109,17 @@ class Circuit:
         self.bits.append(ready)
         self.recent.append(word)
         last, address = self.stream(ready, steady)
-        self.lines.append(f"load {number} {number} {ready} {word} {steady.one} {last} {address}")
+        channel = self.channel(ready, steady.one, last, f"n{word} <= d{number}[n{address}[9:0]];")
+        self.lines.append(f"load {channel} {number} {ready} {word} {steady.one} {last} {address}")
         self.starts.append(f"reg [31:0] n{word} = 0;")
-        self.channel(number, ready, steady.one, last, f"n{word} <= d{number}[n{address}[9:0]];")
+        return number
 
-    def close_store(self, channel, number, steady):
+    def close_store(self, number, steady):
         ready = self.fresh()
         last, address = self.stream(ready, steady)
         word = self.word()
+        channel = self.channel(ready, steady.one, last, f"d{number}[n{address}[9:0]] <= n{word};")
         self.lines.append(f"store {channel} {number} {ready} {steady.one} {last} {address} {word}")
-        self.channel(channel, ready, steady.one, last, f"d{number}[n{address}[9:0]] <= n{word};")
 
     def stream(self, ready, steady):
         """A count of words that are moved: the address of the next one, and whether it is the last of its line."""
@@ -126,9 +133,10 @@ class Circuit:
         address = self.compute(32, f"op {{n}} u32.0 and {count} {steady.lower}", f"n{count} & n{steady.lower}")
         return last, address
 
-    def channel(self, number, ready, request, last, move):
+    def channel(self, ready, request, last, move):
         """What a channel does at a clock edge: it moves a word in each cycle in which it is ready, and asks at a
         request and with each sixteenth word; then the next delay is taken."""
+        number, self.channels = self.channels, self.channels + 1
         c = f"c{number}"
         self.starts += [f"reg n{ready} = 0;", f"reg {c}_busy = 0;", f"reg [3:0] {c}_moved = 0;", f"reg [7:0] {c}_wait = 0;"]
         ask = f"{c}_moved <= 0; wait_for = delay(taken); taken = taken + 1; n{ready} <= wait_for == 0; {c}_wait <= wait_for - 1;"
@@ -143,6 +151,21 @@ class Circuit:
             f"else if ({c}_wait == 0) n{ready} <= 1;",
             f"else {c}_wait <= {c}_wait - 1;",
         ]
+        return number
+
+    def block(self, size, until, steady):
+        """Cells that compute from each other and from registers of other blocks, up to so many cells in all."""
+        self.recent, self.bits = [], [steady.zero, steady.one]
+        registers = [self.register() for _ in range(size // 5)]
+        for _ in range(max(1, size // 100)):
+            self.bank(steady.low)
+        drams = [self.dram(steady) for _ in range(max(1, size // 500))]
+        while len(self.lines) + len(registers) + STORE * len(drams) < until:
+            self.operation()
+        for net in registers:
+            self.close(net)
+        for number in drams:
+            self.close_store(number, steady)
 
     def end(self, last, steady):
         """The listing is done in that cycle."""
@@ -157,40 +180,33 @@ class Circuit:
 
 
 class Steady:
-    """Constants: a bit, 1, and what leaves the lowest bits of an address in a bank and in a DRAM."""
+    """Constants: both bits, 1, and what leaves the lowest bits of an address in a bank and in a DRAM."""
 
     def __init__(self, circuit):
-        circuit.constant(1, 0)
+        self.zero = circuit.constant(1, 0)
         self.one, self.step = circuit.constant(1, 1), circuit.constant(32, 1)
         self.low, self.lower = circuit.constant(32, BANK - 1), circuit.constant(32, DRAM - 1)
 
 
-# The cells of a store unit with its stream, and of the end; the outputs.
+# The cells of a block. Those of a store unit with its stream, and of the end; the outputs.
+BLOCK = 1000
 STORE, END, OUTPUTS = 6, 6, 4
 
 
 def circuit(cells, seed, last):
     made = Circuit(seed)
     steady = Steady(made)
-    registers = [made.register() for _ in range(max(OUTPUTS, cells // 5))]
-    for number in range(max(1, cells // 100)):
-        made.bank(number, steady.low)
-    drams = max(1, cells // 500)
-    for number in range(drams):
-        made.dram(number, steady)
-    while len(made.lines) + len(registers) + STORE * drams < cells - END - OUTPUTS:
-        made.operation()
-    for net in registers:
-        made.close(net)
-    shown = registers[:: len(registers) // OUTPUTS][:OUTPUTS]
+    blocks = max(1, cells // BLOCK)
+    for number in range(1, blocks + 1):
+        until = cells * number // blocks
+        made.block(cells // blocks, until if number < blocks else until - END - OUTPUTS, steady)
+    shown = made.kept[:: len(made.kept) // OUTPUTS][:OUTPUTS]
     made.lines += [f"out y{place} {net} s32.0" for place, net in enumerate(shown)]
-    for number in range(drams):
-        made.close_store(drams + number, number, steady)
     made.end(last, steady)
-    return made, shown, drams
+    return made, shown
 
 
-def bench(made, shown, drams):
+def bench(made, shown):
     """The circuit as a module that clocks itself and prints what stands in the end."""
     lines = ["module top;", "reg clk = 0;", "integer i, k, n, taken = 0;", "reg [7:0] wait_for;", "reg [63:0] sum;"]
     lines += ["function [7:0] delay(input integer place);", "  case (place)"]
@@ -200,7 +216,7 @@ def bench(made, shown, drams):
     lines += ["initial begin", "  if (!$value$plusargs(\"n=%d\", n)) n = 1;"]
     lines.append("  for (i = 0; i < n; i = i + 1) begin #1 clk = 1; #1 clk = 0; end")
     lines += [f"  $display(\"out %0d\", n{net});" for net in shown]
-    for number in range(drams):
+    for number in range(made.drams):
         lines.append(f"  sum = 0; for (k = 0; k < {DRAM}; k = k + 1) sum = 3 * sum + d{number}[k];")
         lines.append(f"  $display(\"dram %0d\", sum);")
     return "\n".join(lines + ["  $finish(0);", "end", "endmodule", ""])
@@ -209,11 +225,11 @@ def bench(made, shown, drams):
 def main():
     cells, seed, listing, verilog = int(sys.argv[1]), int(sys.argv[2]), sys.argv[3], sys.argv[4]
     last = int(sys.argv[5]) if len(sys.argv) > 5 else NEVER
-    made, shown, drams = circuit(cells, seed, last)
+    made, shown = circuit(cells, seed, last)
     with open(listing, "w") as file:
         file.write("netlist 1\n" + "\n".join(made.lines) + "\n")
     with open(verilog, "w") as file:
-        file.write(bench(made, shown, drams))
+        file.write(bench(made, shown))
 
 
 main()
