@@ -42,10 +42,10 @@ pub record Numbered (here : Here) (mems vals counters : List ℕ) : Type 0 where
   pub vals_run : IsRun here.vals vals
   pub counters_run : IsRun here.counters counters
 
-first_part : {here : Here} (a b c d e f : List ℕ) → Numbered here (a ++ b) (c ++ d) (e ++ f) → Numbered here a c e
+pub first_part : {here : Here} (a b c d e f : List ℕ) → Numbered here (a ++ b) (c ++ d) (e ++ f) → Numbered here a c e
 first_part {here} a b c d e f n = record { mems_run = run_left here.mems a b n.mems_run; vals_run = run_left here.vals c d n.vals_run; counters_run = run_left here.counters e f n.counters_run }
 
-second_part : {here : Here} (a b c d e f : List ℕ) (i j k : ℕ) → i ≡ length a → j ≡ length c → k ≡ length e → Numbered here (a ++ b) (c ++ d) (e ++ f) → Numbered (past here i j k) b d f
+pub second_part : {here : Here} (a b c d e f : List ℕ) (i j k : ℕ) → i ≡ length a → j ≡ length c → k ≡ length e → Numbered here (a ++ b) (c ++ d) (e ++ f) → Numbered (past here i j k) b d f
 second_part {here} a b c d e f i j k x y z n = record {
   mems_run = subst (λ l. IsRun (here.mems + l) b) (sym x) (run_right here.mems a b n.mems_run);
   vals_run = subst (λ l. IsRun (here.vals + l) d) (sym y) (run_right here.vals c d n.vals_run);
@@ -66,7 +66,7 @@ module _ (p : PlainProgram) where
     ap (λ l. length l) (stmt_counters p t) ∙ mapped_length _ (counters_in s),
   )
 
-  body_lengths : {s : program.PlainStmts} {x : tree_of.PlainStmts} → IsBodyTree (names_in p) s x → Right p (mems_declared s)
+  pub body_lengths : {s : program.PlainStmts} {x : tree_of.PlainStmts} → IsBodyTree (names_in p) s x → Right p (mems_declared s)
       → (length (typed.mems_declared x) ≡ length (mems_declared s)) × (length (typed.vals_declared x) ≡ length (vals_declared s)) × (length (typed.counters_declared x) ≡ length (counters_declared s))
   body_lengths {s} {x} t r = (
     sym (mapped_length _ (typed.mems_declared x)) ∙ ap (λ l. length l) (mems_back p t r) ∙ mapped_length _ (mems_declared s),
@@ -74,18 +74,18 @@ module _ (p : PlainProgram) where
     ap (λ l. length l) (counters_back p t) ∙ mapped_length _ (counters_declared s),
   )
 
-  right_left : (a b : List ℕ) → Right p (a ++ b) → Right p a
+  pub right_left : (a b : List ℕ) → Right p (a ++ b) → Right p a
   right_left a b h m at = h m (Contains-append_left a b m at)
 
-  right_right : (a b : List ℕ) → Right p (a ++ b) → Right p b
+  pub right_right : (a b : List ℕ) → Right p (a ++ b) → Right p b
   right_right a b h m at = h m (Contains-append_right a b m at)
 
   -- ---- one statement further
 
-  itself : (scope : Scope) (here : Here) → Shown p scope here.names → {e : PlainExpr} {x : tree.PlainExpr} → IsTree (names_in p) e x → Typed p scope e → type_by_itself here x ≡ type_of e
+  pub itself : (scope : Scope) (here : Here) → Shown p scope here.names → {e : PlainExpr} {x : tree.PlainExpr} → IsTree (names_in p) e x → Typed p scope e → type_by_itself here x ≡ type_of e
   itself scope here shown t h = ap known (by_itself (own_is p scope here shown (seen_at here) refl t h))
 
-  val_shown : (scope : Scope) (here : Here) → Shown p scope here.names → (v n : ℕ) (ty t : Ty) (w : List ℕ) → w ≡ slice_index_or p.vals v [] → t ≡ ty → v ≡ n
+  pub val_shown : (scope : Scope) (here : Here) → Shown p scope here.names → (v n : ℕ) (ty t : Ty) (w : List ℕ) → w ≡ slice_index_or p.vals v [] → t ≡ ty → v ≡ n
       → Rattle.sp_tree.specs.Typing.IsFreshVal p scope v → Shown p (with_val scope v ty) (given here.names w (value (Some t)) n)
   val_shown scope here shown v n ty t w text type number fresh =
       subst (λ (x : List ℕ). Shown p (with_val scope v ty) (given here.names x (value (Some t)) n)) (sym text)
@@ -110,7 +110,7 @@ module _ (p : PlainProgram) where
   declare_shown scope here m shown (IsDeclareTree.a_fifo {i = i} k text ty dims) d number h = mem_shown scope here shown m here.mems _ i.text text (symbol_is (sym k) (Rattle.sp_retyped.proofs.Values.type_is ty) (sym dims)) number h
   declare_shown scope here m shown (IsDeclareTree.a_line {i = i} k text ty dims) d number h = mem_shown scope here shown m here.mems _ i.text text (symbol_is (sym k) (Rattle.sp_retyped.proofs.Values.type_is ty) (sym dims)) number h
 
-  shown_after : {s : program.PlainStmtKind} {x : tree_of.PlainStmtKind} (scope : Scope) (here : Here) → IsStmtTree (names_in p) s x → Shown p scope here.names → StmtTyped p scope s → Right p (mems_in s) → Numbered here (mems_in s) (vals_in s) (counters_in s)
+  pub shown_after : {s : program.PlainStmtKind} {x : tree_of.PlainStmtKind} (scope : Scope) (here : Here) → IsStmtTree (names_in p) s x → Shown p scope here.names → StmtTyped p scope s → Right p (mems_in s) → Numbered here (mems_in s) (vals_in s) (counters_in s)
       → Shown p (after scope s) (typed.names_after here x)
   shown_after scope here (IsStmtTree.declared {m = m} t) shown h r n = declare_shown scope here m shown t (r m (at_first m [])) n.mems_run.0 h
   shown_after scope here (IsStmtTree.bound {v = v} {e = e} {i = i} text t) shown h r n = val_shown scope here shown v here.vals (type_of e) _ i.text text (itself scope here shown t h.1) n.vals_run.0 h.0
@@ -131,7 +131,7 @@ module _ (p : PlainProgram) where
   shown_after scope here (IsStmtTree.machine a b c d t e f) shown h r n = shown
   shown_after scope here (IsStmtTree.branched a t u) shown h r n = shown
 
-  numbered_after : {s : program.PlainStmtKind} {x : tree_of.PlainStmtKind} (here : Here) (rest : program.PlainStmts) → IsStmtTree (names_in p) s x → Right p (mems_in s)
+  pub numbered_after : {s : program.PlainStmtKind} {x : tree_of.PlainStmtKind} (here : Here) (rest : program.PlainStmts) → IsStmtTree (names_in p) s x → Right p (mems_in s)
       → Numbered here (mems_in s ++ mems_declared rest) (vals_in s ++ vals_declared rest) (counters_in s ++ counters_declared rest)
       → Numbered (typed.after here x) (mems_declared rest) (vals_declared rest) (counters_declared rest)
   numbered_after {s} {x} here rest t r n =
@@ -139,7 +139,7 @@ module _ (p : PlainProgram) where
       let q = second_part (mems_in s) (mems_declared rest) (vals_in s) (vals_declared rest) (counters_in s) (counters_declared rest) _ _ _ l.0 l.1 l.2 n in
       record { mems_run = q.mems_run; vals_run = q.vals_run; counters_run = q.counters_run }
 
-  shown_end : {body : program.PlainStmts} {ss : tree_of.PlainStmts} (scope : Scope) (here : Here) → IsBodyTree (names_in p) body ss → Shown p scope here.names → BodyTyped p scope body → Right p (mems_declared body)
+  pub shown_end : {body : program.PlainStmts} {ss : tree_of.PlainStmts} (scope : Scope) (here : Here) → IsBodyTree (names_in p) body ss → Shown p scope here.names → BodyTyped p scope body → Right p (mems_declared body)
       → Numbered here (mems_declared body) (vals_declared body) (counters_declared body) → Shown p (after_all scope body) (typed.after_all here ss).names
   shown_end scope here IsBodyTree.empty shown h r n = shown
   shown_end scope here (IsBodyTree.more {s = s} {x = x} {rest = rest} t ts) shown h r n =
@@ -196,7 +196,7 @@ module _ (p : PlainProgram) where
     line_is k m ty i line is text mem = ap is_line (mem_means p scope here shown i m k ty text mem).symbol_is ∙ is _ _
 
   -- the place inside of a loop
-  in_loop_numbered : (here : Here) (binds : List tree.PlainIdent) (ms vs counters cs : List ℕ) → length binds ≡ length counters → Numbered here ms vs (counters ++ cs) → Numbered (typed.in_loop here binds) ms vs cs
+  pub in_loop_numbered : (here : Here) (binds : List tree.PlainIdent) (ms vs counters cs : List ℕ) → length binds ≡ length counters → Numbered here ms vs (counters ++ cs) → Numbered (typed.in_loop here binds) ms vs cs
   in_loop_numbered here binds ms vs counters cs count n =
       record { mems_run = n.mems_run; vals_run = n.vals_run; counters_run = subst (λ l. IsRun (here.counters + l) cs) (sym count) (run_right here.counters counters cs n.counters_run) }
 

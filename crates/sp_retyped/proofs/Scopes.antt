@@ -64,7 +64,7 @@ last_other : (name w : List ℕ) (x : Meant) → (w ≡ name → ⊥) → find (
 unfolding find
 last_other name w x h = rw (other_bytes name w h) refl
 
-given_fresh : (ns : Found) (w : List ℕ) (s : PlainSymbol) (n : ℕ) → find ns w ≡ None → given ns w s n ≡ ns ++ (w, record { symbol = s; number = n }) ∷ []
+pub given_fresh : (ns : Found) (w : List ℕ) (s : PlainSymbol) (n : ℕ) → find ns w ≡ None → given ns w s n ≡ ns ++ (w, record { symbol = s; number = n }) ∷ []
 unfolding given
 given_fresh ns w s n e = ap (λ o. if is_some o then ns else ns ++ (w, record { symbol = s; number = n }) ∷ []) e
 

@@ -7,16 +7,21 @@ use Rattle.sp_tree.specs.Footprint.{Names, SpansName, CountersName}
 use Rattle.sp_tree.specs.PlainExpression.{PlainExpr, type_of}
 use Rattle.sp_tree.specs.PlainProgram.{PlainProgram}
 use Rattle.sp_tree.specs.PlainStatement as program
-use Rattle.sp_tree.specs.Typing.{Scope, Typed, SpansTyped, BoundsTyped, LanesAtEnd, LanesAtLastRange, all_but}
+use Rattle.sp_tree.specs.Typing.{Scope, Typed, SpansTyped, BoundsTyped, LanesAtEnd, LanesAtLastRange, BindersFresh, StmtTyped, all_but, mem_at, after}
 use Rattle.sp_printer.specs.Names.{names_in}
 use Rattle.sp_printed.specs.Trees.{IsTree}
-use Rattle.sp_printed.specs.LoopTrees.{AreSpanTrees, AreCounterTrees}
+use Rattle.sp_printed.specs.LoopTrees.{AreSpanTrees, AreCounterTrees, AreBindTrees}
 use Rattle.sp_types.specs.Expressions.{at_type, expr_refusals}
-use Rattle.sp_types.specs.Spans.{spans_refusals, counters_refusals}
+use Rattle.sp_types.specs.Spans.{spans_refusals, counters_refusals, binds_refusals}
 use Rattle.sp_types.specs.Visible.{Visible}
 use Rattle.sp_typed.specs.Named.{Here}
 use Rattle.sp_retyped.specs.Shown.{is_still}
-use Rattle.sp_unrefused.specs.Placed.{Placed}
+use Rattle.sp_unrefused.specs.Placed.{Placed, IsRun}
+use Rattle.sp_printed.specs.StatementTrees.{IsStmtTree}
+use Rattle.sp_tree.specs.Declarations.{IsDeclaration}
+use Rattle.sp_tree.specs.Structure.{counter_numbers, mems_in, vals_in, counters_in}
+use Rattle.sp_types.specs.Statements as rule
+use Rattle.sp_typed.specs.Declarations as typed
 
 -- an expression that names no accumulator around, checked at its type
 abbrev pub ExpressionsAreRight : Type 0
@@ -35,3 +40,14 @@ abbrev pub CountersAreRight : Type 0
 CountersAreRight = (p : PlainProgram) (scope : Scope) (here : Here) (seen : Visible) (accs : List ℕ) (counters : List program.PlainCounter) (xs : List tree_of.PlainCounter)
     → Placed p scope here seen accs → AreCounterTrees (names_in p) counters xs → BoundsTyped p scope counters → ((a : ℕ) → Contains accs a → CountersName (all_but p a) counters) → LanesAtEnd p counters
     → counters_refusals seen xs ≡ []
+
+-- the names that a loop binds, where counters have numbers that follow one another
+abbrev pub BindersAreRight : Type 0
+BindersAreRight = (p : PlainProgram) (scope : Scope) (here : Here) (seen : Visible) (accs : List ℕ) (n : ℕ) (counters : List program.PlainCounter) (binds : List tree.PlainIdent)
+    → Placed p scope here seen accs → AreBindTrees (names_in p) counters binds → BindersFresh p scope counters → IsRun n (counter_numbers counters) → binds_refusals seen binds ≡ []
+
+-- behind a statement stands such a place again
+abbrev pub PlacesGoOn : Type 0
+PlacesGoOn = (p : PlainProgram) (scope : Scope) (here : Here) (seen : Visible) (accs : List ℕ) (s : program.PlainStmtKind) (x : tree_of.PlainStmtKind)
+    → Placed p scope here seen accs → IsStmtTree (names_in p) s x → StmtTyped p scope s → ((m : ℕ) → Contains (mems_in s) m → IsDeclaration (mem_at p m))
+    → IsRun here.mems (mems_in s) → IsRun here.vals (vals_in s) → IsRun here.counters (counters_in s) → Placed p (after scope s) (typed.after here x) (rule.after seen x) accs
