@@ -149,12 +149,12 @@ module _ (p : PlainProgram) where
 
   -- ---- memories at the end of a body
 
-  kept : (scope : Scope) (body : program.PlainStmts) (m : ℕ) → Contains scope.mems m → Contains (after_all scope body).mems m
+  pub kept : (scope : Scope) (body : program.PlainStmts) (m : ℕ) → Contains scope.mems m → Contains (after_all scope body).mems m
   kept scope program.no_stmt m at = at
   kept scope (program.more_stmt (program.stmt place (program.declare x)) rest) m at = kept (with_mem scope x) rest m (one_more x scope.mems m at)
   kept scope (program.more_stmt (program.stmt place kind) rest) m at = kept (after scope kind) rest m at
 
-  own_end : (scope : Scope) (body : program.PlainStmts) (m : ℕ) → Contains (own_mems body) m → Contains (after_all scope body).mems m
+  pub own_end : (scope : Scope) (body : program.PlainStmts) (m : ℕ) → Contains (own_mems body) m → Contains (after_all scope body).mems m
   own_end scope program.no_stmt m at = absurd (omega (arith, at.1))
   own_end scope (program.more_stmt (program.stmt place (program.declare x)) rest) m at = by (first_or_rest x (own_mems rest) m at) (λ h. own_end (with_mem scope x) rest m h)
     where

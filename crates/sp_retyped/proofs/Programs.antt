@@ -38,7 +38,7 @@ from_mapped f (x ∷ xs) y (suc k, lt, e) = let r = from_mapped f xs y (k, omega
 
 -- ---- the ports, one after the other
 
-abbrev with_all : Scope → List ℕ → Scope
+abbrev pub with_all : Scope → List ℕ → Scope
 with_all scope [] = scope
 with_all scope (m ∷ ms) = with_all (with_mem scope m) ms
 
@@ -66,11 +66,11 @@ was scope (x ∷ ms) m at = by (was (with_mem scope x) ms m at)
     by (inl h) = first (first_or_rest x scope.mems m h)
     by (inr h) = inr (one_more x ms m h)
 
-abbrev empty_scope : Scope
+abbrev pub empty_scope : Scope
 empty_scope = record { mems = []; vals = []; counters = [] }
 
 module _ (p : PlainProgram) where
-  port_shown : (scope : Scope) (names : List (List ℕ × Meant)) (m n : ℕ) {d : tree_of.PlainDecl} → Shown p scope names → IsPortTree (mem_at p m) d → IsDeclaration (mem_at p m) → m ≡ n → IsFresh p scope (mem_at p m).name
+  pub port_shown : (scope : Scope) (names : List (List ℕ × Meant)) (m n : ℕ) {d : tree_of.PlainDecl} → Shown p scope names → IsPortTree (mem_at p m) d → IsDeclaration (mem_at p m) → m ≡ n → IsFresh p scope (mem_at p m).name
       → Shown p (with_mem scope m) (given names d.name.text (port d.kind) n)
   port_shown scope names m n shown (IsPortTree.an_arg {i = i} k text ty) d number fresh =
       mem_shown p scope (record { names = names; mems = 0; vals = 0; counters = 0 }) shown m n _ i.text text (symbol_is p (sym k) (type_is ty) (no_dims (mem_at p m).dims (rank_at (mem_at p m) ArgIn d k))) number fresh
@@ -98,12 +98,12 @@ module _ (p : PlainProgram) where
       (All-tail IsDeclaration m ms all) rest fresh_here.1 (subst (λ k. IsRun k (numbers_of is_port (suc first) ms)) next run_here.1) one in
       subst (λ b. Shown p (with_all scope (numbers b)) (port_names (given names d.name.text (port d.kind) n) (n + 1) decls)) (sym a_port) more
 
-  ports_count : {ms : List PlainMem} {decls : List tree_of.PlainDecl} (first : ℕ) → ArePortTrees ms decls → length decls ≡ length (numbers_of is_port first ms)
+  pub ports_count : {ms : List PlainMem} {decls : List tree_of.PlainDecl} (first : ℕ) → ArePortTrees ms decls → length decls ≡ length (numbers_of is_port first ms)
   ports_count first ArePortTrees.no_ports = refl
   ports_count first (ArePortTrees.passed {rest = rest} not_port t) = ports_count (suc first) t ∙ ap (λ b. length ((if b then first ∷ [] else []) ++ numbers_of is_port (suc first) rest)) (sym not_port)
   ports_count first (ArePortTrees.more_ports {rest = rest} a_port t ts) = ap (λ n. suc n) (ports_count (suc first) ts) ∙ ap (λ b. length ((if b then first ∷ [] else []) ++ numbers_of is_port (suc first) rest)) (sym a_port)
 
-  nothing_shown : Shown p empty_scope []
+  pub nothing_shown : Shown p empty_scope []
   unfolding Rattle.sp_typed.specs.Named.find
   nothing_shown = record {
     mem = λ m at. absurd (omega (arith, at.1));
@@ -113,7 +113,7 @@ module _ (p : PlainProgram) where
   }
 
   -- in another order
-  in_order : (ms : List ℕ) (names : List (List ℕ × Meant)) → Shown p (with_all empty_scope ms) names → Shown p (record { mems = ms; vals = []; counters = [] }) names
+  pub in_order : (ms : List ℕ) (names : List (List ℕ × Meant)) → Shown p (with_all empty_scope ms) names → Shown p (record { mems = ms; vals = []; counters = [] }) names
   in_order ms names h = record {
     mem = λ m at. h.mem m (joins empty_scope ms m at);
     val = λ v ty at. absurd (omega (arith, at.1));

@@ -66,7 +66,7 @@ number_quiet seen ask place d ty w want word =
     nothing_none true = refl
     nothing_none false = refl
 
-type_none : {ty : Ty} {t : SynTy} → IsTypeTree ty t → type_refusals t ≡ []
+pub type_none : {ty : Ty} {t : SynTy} → IsTypeTree ty t → type_refusals t ≡ []
 type_none {t = t} h = none_if (is_none (written_type t)) _ (ap is_none (type_is h))
 
 takes_number : (o : BinOp) (from to : Ty) → takes_numbers o ≡ true → TwoTyped o from to → IsNumber from
@@ -98,7 +98,7 @@ asked_at {a} {b} o from to want e f g h = go (is_comparison o) refl
 fix_number : (t : FixTy) → IsNumber (Fix t)
 fix_number t e = absurd (cc)
 
-counts_are : {names : _} {indices : PlainExprs} {all : tree.PlainExprs} → AreTrees names indices all → index_count all ≡ expr_count indices
+pub counts_are : {names : _} {indices : PlainExprs} {all : tree.PlainExprs} → AreTrees names indices all → index_count all ≡ expr_count indices
 counts_are AreTrees.no_trees = refl
 counts_are (AreTrees.more_trees x rest) = omega (arith, counts_are rest)
 

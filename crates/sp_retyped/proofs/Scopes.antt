@@ -46,7 +46,7 @@ find_none (n ∷ ns) ms name e = go (bytes_eq name n.0) e (λ h. find_none ns ms
     go true h f = absurd (cc)
     go false h f = f h
 
-same_bytes : (w : List ℕ) → bytes_eq w w ≡ true
+pub same_bytes : (w : List ℕ) → bytes_eq w w ≡ true
 same_bytes w = (bytes_eq-Decides w w).1 refl
 
 other_bytes : (name w : List ℕ) → (w ≡ name → ⊥) → bytes_eq name w ≡ false
@@ -103,7 +103,7 @@ module _ (p : PlainProgram) where
       by x (inr at) = kept scope ns h w s m fresh _ _ (h.mem x at)
 
   -- a name more in the middle of what is visible, and at its end
-  in_middle : (xs ys zs : List (List ℕ)) (w name : List ℕ) → Contains (xs ++ ys ++ zs) name → Contains (xs ++ (w ∷ ys) ++ zs) name
+  pub in_middle : (xs ys zs : List (List ℕ)) (w name : List ℕ) → Contains (xs ++ ys ++ zs) name → Contains (xs ++ (w ∷ ys) ++ zs) name
   in_middle xs ys zs w name at = by (Contains-append_cases (xs ++ ys) zs name at)
     where
       inner : Contains xs name ⊎ Contains ys name → Contains (xs ++ (w ∷ ys)) name
@@ -117,7 +117,7 @@ module _ (p : PlainProgram) where
   middle_is : (xs ys zs : List (List ℕ)) (w : List ℕ) → Contains (xs ++ (w ∷ ys) ++ zs) w
   middle_is xs ys zs w = Contains-append_left (xs ++ (w ∷ ys)) zs w (Contains-append_right xs (w ∷ ys) w (at_first w ys))
 
-  at_end : (xs zs : List (List ℕ)) (w name : List ℕ) → Contains (xs ++ zs) name → Contains (xs ++ (w ∷ zs)) name
+  pub at_end : (xs zs : List (List ℕ)) (w name : List ℕ) → Contains (xs ++ zs) name → Contains (xs ++ (w ∷ zs)) name
   at_end xs zs w name at = by (Contains-append_cases xs zs name at)
     where
       by : Contains xs name ⊎ Contains zs name → Contains (xs ++ (w ∷ zs)) name

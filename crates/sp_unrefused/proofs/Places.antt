@@ -45,7 +45,7 @@ declared_busy seen w s = go (is_some (symbol_of seen w))
     go false = refl
 
 module _ (p : PlainProgram) where
-  symbol_none : (scope : Scope) (here : Here) (seen : Visible) (accs : List ℕ) → Placed p scope here seen accs → (w v : List ℕ) → v ≡ w → IsFresh p scope w → symbol_of seen v ≡ None
+  pub symbol_none : (scope : Scope) (here : Here) (seen : Visible) (accs : List ℕ) → Placed p scope here seen accs → (w v : List ℕ) → v ≡ w → IsFresh p scope w → symbol_of seen v ≡ None
   symbol_none scope here seen accs h w v text fresh =
       ap (symbol_of seen) text ∙ ap (λ l. Rattle.sp_types.specs.Visible.lookup l w) h.same ∙ looked_up here.names w ∙ ap symbol_if (h.shown.fresh w fresh)
 

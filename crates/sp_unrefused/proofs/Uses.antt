@@ -88,7 +88,7 @@ module _ (p : PlainProgram) (scope : Scope) (here : Here) (seen : Visible) (accs
   spans_length AreSpanTrees.no_spans = refl
   spans_length (AreSpanTrees.more_spans t ts) = ap (λ n. suc n) (spans_length ts)
 
-  par_none : {n : ℕ} {q : Option SynPar} (allowed : Bool) → IsParTree n q → (n ≡ 1) ⊎ (allowed ≡ true) → range_par allowed q ≡ []
+  pub par_none : {n : ℕ} {q : Option SynPar} (allowed : Bool) → IsParTree n q → (n ≡ 1) ⊎ (allowed ≡ true) → range_par allowed q ≡ []
   par_none allowed (IsParTree.one_lane e) h = refl
   par_none allowed (IsParTree.lanes {n = n} e) (inl one) = let bad : true ≡ false = sym (eq-eqb n 1 one) ∙ e in absurd (cc)
   par_none allowed (IsParTree.lanes e) (inr yes_allowed) = none_if (not allowed) _ (ap not yes_allowed)

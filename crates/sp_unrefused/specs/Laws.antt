@@ -1,4 +1,5 @@
--- Parts of statements of a program's tree that have no refusals, at a place inside of the bodies of some accumulators.
+-- Parts of statements of a program's tree that have no refusals, at a place inside of the bodies of some accumulators; and
+-- the whole tree of a program, which has none.
 use Rattle.std.specs.Prelude.{◌≡◌, ℕ, Bool, true, List, [], Contains, Option, Some}
 use Rattle.sp_words.specs.declared.types.Ty.{Ty}
 use Rattle.sp_reader.specs.PlainTree as tree
@@ -17,7 +18,10 @@ use Rattle.sp_types.specs.Visible.{Visible}
 use Rattle.sp_typed.specs.Named.{Here}
 use Rattle.sp_retyped.specs.Shown.{is_still}
 use Rattle.sp_unrefused.specs.Placed.{Placed, IsRun}
-use Rattle.sp_printed.specs.StatementTrees.{IsStmtTree}
+use Rattle.sp_printed.specs.StatementTrees.{IsStmtTree, IsProgramTree}
+use Rattle.sp_reader.specs.PlainStatement.{PlainSyntax}
+use Rattle.sp_tree.specs.Invariant.{IsProgram}
+use Rattle.sp_types.specs.Statements.{refusals}
 use Rattle.sp_tree.specs.Declarations.{IsDeclaration}
 use Rattle.sp_tree.specs.Structure.{counter_numbers, mems_in, vals_in, counters_in}
 use Rattle.sp_types.specs.Statements as rule
@@ -51,3 +55,7 @@ abbrev pub PlacesGoOn : Type 0
 PlacesGoOn = (p : PlainProgram) (scope : Scope) (here : Here) (seen : Visible) (accs : List ℕ) (s : program.PlainStmtKind) (x : tree_of.PlainStmtKind)
     → Placed p scope here seen accs → IsStmtTree (names_in p) s x → StmtTyped p scope s → ((m : ℕ) → Contains (mems_in s) m → IsDeclaration (mem_at p m))
     → IsRun here.mems (mems_in s) → IsRun here.vals (vals_in s) → IsRun here.counters (counters_in s) → Placed p (after scope s) (typed.after here x) (rule.after seen x) accs
+
+-- a tree of a program has no refusals
+abbrev pub ProgramsAreUnrefused : Type 0
+ProgramsAreUnrefused = (p : PlainProgram) (s : PlainSyntax) → IsProgram p → IsProgramTree p s → refusals s ≡ []
