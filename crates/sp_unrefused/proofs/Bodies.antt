@@ -1,5 +1,5 @@
 -- The statements of a program's tree have no refusals.
-use Rattle.std.proofs.Common.{◌≡◌, ℕ, suc, ◌+◌, Bool, true, false, List, [], ◌∷◌, ◌++◌, Contains, Option, Some, None, is_some, IsTrue, refl, sym, ap, subst, ◌∙◌, arith}
+use Rattle.std.proofs.Common.{◌≡◌, ℕ, suc, ◌+◌, Bool, true, false, List, [], ◌∷◌, ◌++◌, Contains, Some, is_some, IsTrue, refl, ap, subst, arith}
 use Rattle.sp_words.specs.declared.kind.Kind.TheVariants.{Reg, Sram}
 use Rattle.sp_words.specs.declared.kind.Style.{Style}
 use Rattle.sp_words.specs.declared.types.Ty.TheVariants.{Bit}
@@ -10,7 +10,7 @@ use Rattle.sp_tree.specs.Footprint.{Names, BodyNames, StmtKindNames}
 use Rattle.sp_tree.specs.PlainExpression.{PlainExpr, type_of}
 use Rattle.sp_tree.specs.PlainProgram.{PlainProgram}
 use Rattle.sp_tree.specs.PlainStatement as program
-use Rattle.sp_tree.specs.Structure.{mems_declared, mems_in, vals_declared, vals_in, counters_declared, counters_in, counter_numbers, own_mems}
+use Rattle.sp_tree.specs.Structure.{mems_declared, mems_in, vals_declared, vals_in, counters_declared, counters_in, counter_numbers}
 use Rattle.sp_tree.specs.Typing.{Scope, StmtTyped, BodyTyped, mem_at, all_but, after, after_all, with_val, with_counters}
 use Rattle.sp_printer.specs.Names.{names_in}
 use Rattle.sp_printed.specs.Trees.{IsTree}

@@ -1,10 +1,9 @@
 -- What stands at the end of a body of a program's tree.
-use Rattle.std.proofs.Common.{◌≡◌, ℕ, suc, ◌==◌, ◌&&◌, not, eq-eqb, Bool, true, false, List, [], ◌∷◌, ◌++◌, map, length, slice_index_or, Contains, Option, Some, None, is_some, IsTrue, refl, sym, ap, subst, ◌∙◌, inl, inr, arith}
+use Rattle.std.proofs.Common.{◌≡◌, ℕ, suc, ◌==◌, not, eq-eqb, Bool, true, List, [], ◌∷◌, ◌++◌, map, length, slice_index_or, Contains, IsTrue, refl, sym, ap, subst, ◌∙◌, inl, inr, arith}
 use Rattle.std.specs.Prelude.{◌⊎◌}
 use Rattle.std.specs.Bool.{nat_eq}
 use Rattle.std.specs.Cmp.Lexicographic.{pointwise}
 use Rattle.std.proofs.lemmas.List.Elements.{Contains-append_cases}
-use Rattle.sp_words.specs.declared.types.Ty.{Ty}
 use Rattle.sp_reader.specs.PlainTree as tree
 use Rattle.sp_reader.specs.PlainStatement as tree_of
 use Rattle.sp_tree.specs.Footprint.{BodyNames}

@@ -1,30 +1,22 @@
 -- Loops and FSMs of a program's tree without refusals, where their bodies have none.
-use Rattle.std.proofs.Common.{◌≡◌, ℕ, ◌+◌, ◌&&◌, ◌||◌, not, Bool, true, false, List, [], ◌∷◌, ◌++◌, slice_index_or, Contains, Option, Some, None, is_some, IsTrue, refl, sym, ap, ap₂, subst, ◌∙◌, inl, inr}
-use Rattle.std.specs.Bool.{nat_eq}
-use Rattle.std.specs.Cmp.Lexicographic.{pointwise}
+use Rattle.std.proofs.Common.{◌≡◌, ℕ, ◌&&◌, ◌||◌, not, Bool, true, false, List, [], slice_index_or, Option, Some, refl, sym, ap, ap₂, subst, ◌∙◌, inr}
 use Rattle.sp_words.specs.declared.kind.Kind.{Kind}
-use Rattle.sp_words.specs.declared.kind.Kind.TheVariants.{Reg, Sram}
+use Rattle.sp_words.specs.declared.kind.Kind.TheVariants.{Sram}
 use Rattle.sp_words.specs.declared.kind.Style.{Style}
 use Rattle.sp_words.specs.declared.types.Ty.{Ty}
-use Rattle.sp_words.specs.declared.types.Ty.TheVariants.{Bit}
 use Rattle.sp_reader.specs.PlainTree as tree
 use Rattle.sp_reader.specs.PlainStatement as tree_of
 use Rattle.sp_tree.specs.declared.statement.Comb.{Comb}
-use Rattle.sp_tree.specs.Footprint.{Names, StmtKindNames}
 use Rattle.sp_tree.specs.PlainExpression.{PlainExpr, type_of}
 use Rattle.sp_tree.specs.PlainProgram.{PlainProgram}
 use Rattle.sp_tree.specs.PlainStatement as program
 use Rattle.sp_tree.specs.Structure.{counter_numbers}
-use Rattle.sp_tree.specs.Typing.{Scope, IsMem, IsFreshVal, HasTypeStill, CountersTyped, StmtTyped, Typed, CombTyped, mem_at, all_but, after_all, with_val, with_counters}
+use Rattle.sp_tree.specs.Typing.{Scope, IsMem, IsFreshVal, CountersTyped, Typed, CombTyped, mem_at, with_val}
 use Rattle.sp_printer.specs.Names.{names_in}
 use Rattle.sp_printed.specs.Trees.{IsTree}
 use Rattle.sp_printed.specs.LoopTrees.{IsHeadTree, IsCombTree}
-use Rattle.sp_types.specs.declared.refusal.Refusal.{Refusal}
-use Rattle.sp_types.specs.Expressions.{name_refusals}
-use Rattle.sp_types.specs.Spans.{twice, with_binds, binds_refusals}
-use Rattle.sp_types.specs.Statements as rule
-use Rattle.sp_types.specs.Statements.{head_refusals, acc_refusals, value_refusals, reduced, mem_reduced, fits_acc, part_name, state, with_state, begin_refusals, next_refusals, acc_inside}
-use Rattle.sp_types.specs.Types.{own, own_or_int, is_type, symbol_type}
+use Rattle.sp_types.specs.Statements.{head_refusals, acc_refusals, value_refusals, fits_acc, part_name, state, with_state}
+use Rattle.sp_types.specs.Types.{is_type, symbol_type}
 use Rattle.sp_types.specs.Visible.{memory, value, Visible, symbol_of}
 use Rattle.sp_typed.specs.Named.{Here, given}
 use Rattle.sp_retyped.specs.Shown.{Shown}
@@ -36,8 +28,8 @@ use Rattle.sp_retyped.proofs.Values.{same_type}
 use Rattle.sp_unrefused.specs.Placed.{Placed}
 use Rattle.sp_unrefused.proofs.Free.{Spared, Spares}
 use Rattle.sp_unrefused.proofs.Uses.{used, counters_right, CountersSpare}
-use Rattle.sp_unrefused.proofs.Places.{placed_next, placed_binders, twice_none}
-use Rattle.sp_unrefused.proofs.Simple.{four_none, comb_none, word_right, still_right}
+use Rattle.sp_unrefused.proofs.Places.{placed_next, placed_binders}
+use Rattle.sp_unrefused.proofs.Simple.{comb_none, word_right}
 use Rattle.sp_unrefused.proofs.Ends.{binds_named, same_dims}
 
 fits : (t u : Ty) (ds es : List ℕ) → t ≡ u → ds ≡ es → fits_acc (Some (memory Sram (Some t) ds)) (Some (memory Sram (Some u) es)) ≡ true

@@ -1,7 +1,6 @@
 -- A program's tree has no refusals.
-use Rattle.std.proofs.Common.{◌≡◌, ℕ, zero, suc, ◌+◌, Bool, if◌then◌else◌, List, [], ◌∷◌, ◌++◌, length, slice_index_or, Contains, All, refl, sym, ap, subst, ◌∙◌, append_assoc, length-append, arith}
+use Rattle.std.proofs.Common.{◌≡◌, ℕ, suc, ◌+◌, Bool, if◌then◌else◌, List, [], ◌∷◌, ◌++◌, length, slice_index_or, Contains, All, refl, sym, ap, subst, ◌∙◌, append_assoc, length-append, arith}
 use Rattle.std.proofs.lemmas.List.Elements.{Contains-append_right, All-head, All-tail, All-get_or}
-use Rattle.sp_reader.specs.declared.syntax.expression.SynTy.{SynTy}
 use Rattle.sp_reader.specs.PlainStatement as tree_of
 use Rattle.sp_tree.specs.Counts.{is_port}
 use Rattle.sp_tree.specs.Declarations.{IsDeclaration}
@@ -11,7 +10,6 @@ use Rattle.sp_tree.specs.PlainProgram.{PlainMem, PlainProgram, no_mem}
 use Rattle.sp_tree.specs.Structure.{mems_declared, vals_declared, counters_declared}
 use Rattle.sp_tree.specs.Typing.{Scope, mem_at, with_mem, IsFresh}
 use Rattle.sp_printed.specs.StatementTrees.{IsPortTree, ArePortTrees, IsProgramTree}
-use Rattle.sp_types.specs.Spans.{twice}
 use Rattle.sp_types.specs.Statements.{port, port_type, decls_refusals, declaration_refusals, with_ports, refusals}
 use Rattle.sp_types.specs.Visible.{Visible, declare, nothing_visible}
 use Rattle.sp_typed.specs.Declarations.{port_names, at_block}

@@ -1,6 +1,5 @@
 -- Declarations, combiners, writes and transfers of a program's tree without refusals.
-use Rattle.std.proofs.Common.{◌≡◌, ◌≤◌, ℕ, zero, suc, ◌+◌, ◌*◌, ◌==◌, ◌&&◌, ◌||◌, not, eq-eqb, Bool, true, false, List, [], ◌∷◌, ◌++◌, length, Contains, Option, Some, None, IfSome, is_none, IsTrue, refl, sym, ap, ap₂, ◌∙◌, inl, inr, arith}
-use Rattle.std.specs.Prelude.{◌⊎◌}
+use Rattle.std.proofs.Common.{◌≡◌, ℕ, zero, suc, ◌*◌, ◌&&◌, ◌||◌, not, true, false, List, [], ◌++◌, length, Contains, Option, Some, IfSome, is_none, refl, sym, ap, ap₂, ◌∙◌, inl, arith}
 use Rattle.std.specs.Str.{bytes_eq}
 use Rattle.std.proofs.Math.Nat.{zero-mul, mul-zero, one-mul, mul-one}
 use Rattle.std.proofs.lemmas.Nat.{mul-le}
@@ -13,7 +12,6 @@ use Rattle.sp_words.specs.declared.types.Ty.TheVariants.{Fix, Bit}
 use Rattle.sp_words.specs.Types.{int_type}
 use Rattle.sp_words.specs.Words.{IsWord}
 use Rattle.sp_reader.specs.declared.syntax.expression.SynTy.{SynTy}
-use Rattle.sp_reader.specs.declared.syntax.statement.SynPar.{SynPar}
 use Rattle.sp_reader.specs.PlainTree as tree
 use Rattle.sp_reader.specs.PlainStatement as tree_of
 use Rattle.sp_tree.specs.declared.statement.Comb.{Comb}
@@ -27,26 +25,23 @@ use Rattle.sp_tree.specs.Footprint.{StmtKindNames}
 use Rattle.sp_tree.specs.Typing.{all_but}
 use Rattle.sp_printer.specs.Names.{names_in}
 use Rattle.sp_printed.specs.Trees.{IsTypeTree, IsTree, AreTrees}
-use Rattle.sp_printed.specs.LoopTrees.{IsParTree, IsCombOperator, IsCombTree, IsSpanTree, AreSpanTrees}
+use Rattle.sp_printed.specs.LoopTrees.{IsCombOperator, IsCombTree, IsSpanTree, AreSpanTrees}
 use Rattle.sp_printed.specs.StatementTrees.{IsStartTree, IsDeclareTree}
 use Rattle.sp_types.specs.declared.own.Own.TheVariants.{Known}
-use Rattle.sp_types.specs.Expressions.{literal_refusals, other_type, at_type, expr_refusals, index_count, count_refusals, may_be}
-use Rattle.sp_types.specs.First.{one_if}
+use Rattle.sp_types.specs.Expressions.{literal_refusals, other_type, at_type, expr_refusals, index_count, may_be}
 use Rattle.sp_types.specs.Literal.{literal_word}
 use Rattle.sp_types.specs.Spans as rule
 use Rattle.sp_types.specs.Spans.{twice, combines_numbers, is_bit_type, comb_names, other_name, comb_refusals, spans_refusals, line_ranges, ends_in_range}
-use Rattle.sp_types.specs.Statements.{declaration_refusals, start_refusals, bare_write, indexed_write, loaded_use, load_refusals, store_refusals, count_if, rank_if, one_row, type_if, stmt_refusals}
+use Rattle.sp_types.specs.Statements.{declaration_refusals, start_refusals, bare_write, indexed_write, loaded_use, load_refusals, store_refusals, rank_if, one_row, type_if, stmt_refusals}
 use Rattle.sp_types.specs.Types.{is_type, own_type, symbol_type, type_of as written_type}
 use Rattle.sp_types.specs.Visible.{memory, Visible, symbol_of}
 use Rattle.sp_typed.specs.Named.{Here}
-use Rattle.sp_retyped.specs.Shown.{is_still}
 use Rattle.sp_retyped.proofs.Declared.{start_at}
 use Rattle.sp_retyped.proofs.Names.{none_if, two_none, three_none}
 use Rattle.sp_retyped.proofs.Quiet.{type_none, counts_are}
-use Rattle.sp_retyped.proofs.Scopes.{same_bytes}
 use Rattle.sp_retyped.proofs.Values.{type_is, same_type, literal_is}
 use Rattle.sp_unrefused.specs.Placed.{Placed}
-use Rattle.sp_unrefused.proofs.Free.{Spared, Spares, right_at, rows_right}
+use Rattle.sp_unrefused.proofs.Free.{Spares, right_at, rows_right}
 use Rattle.sp_unrefused.proofs.Places.{twice_none}
 use Rattle.sp_unrefused.proofs.Uses.{Used, used, types_none, count_none, spans_right, spans_length, ranges_same, SpansSpare, par_none}
 
