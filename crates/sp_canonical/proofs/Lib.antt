@@ -1,3 +1,4 @@
 pub mod Tallies
 pub mod Counts
 pub mod Limits
+pub mod Ascii

@@ -2,6 +2,7 @@ use Rattle.sp_canonical.proofs.Limits.{within_like}
 use Rattle.sp_canonical.proofs.canonical_texts_read_back.Goals as goal
 use Rattle.std.proofs.Common.{refl}
 use Rattle.sp_typed.specs.Programs.{program_of}
+use Rattle.sp_canonical.proofs.Ascii.{text_ascii, no_fault}
 
 -- src/lib.rt:12:1
 pub returns : goal.returns
