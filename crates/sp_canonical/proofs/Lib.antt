@@ -2,3 +2,5 @@ pub mod Tallies
 pub mod Counts
 pub mod Limits
 pub mod Ascii
+pub mod Few
+pub mod Narrow

@@ -1,11 +1,25 @@
 -- What the canonical text of a program is the text of.
-use Rattle.std.specs.Prelude.{◌≡◌}
-use Rattle.sp_grammar.specs.Laws.{IsWithinLimits}
+use Rattle.std.specs.Prelude.{◌≡◌, Bool, true, false, List, [], ◌∷◌}
+use Rattle.std.specs.Option.{option_map_or}
+use Rattle.std.specs.Str.{IsAscii}
 use Rattle.sp_printer.specs.Program.{canonical_text}
+use Rattle.sp_reader.specs.declared.token.Token.{Token}
+use Rattle.sp_reader.specs.Limits.{PlainCounts, taken}
+use Rattle.sp_reader.specs.Steps.{Text, kind_of}
+use Rattle.sp_reader.specs.Tokens.{tokens_of}
 use Rattle.sp_retyped.specs.BareBody.{bare_program}
 use Rattle.sp_source.specs.Texts.{Spells}
 use Rattle.sp_tree.specs.Invariant.{IsProgram}
 use Rattle.sp_tree.specs.PlainProgram.{PlainProgram}
+
+-- whether, from these counts on, a bracket or an operator stands deeper than the reader allows
+abbrev pub is_passed_from : PlainCounts → List Token → Bool
+is_passed_from c [] = false
+is_passed_from c (t ∷ ts) = option_map_or (λ more. is_passed_from more ts) (taken c t.kind (kind_of ts)) true
+
+-- at most 64 brackets are open at once, and at most 64 operators stand at one place
+abbrev pub IsShallow : Text → Type 0
+IsShallow text = is_passed_from (record { around = []; here = 0 }) (tokens_of text) ≡ false
 
 -- the canonical text of a program is read, keeps the rules of names and types, is within the limits of programs, and
 -- spells the program again, but for places
@@ -14,6 +28,10 @@ pub record IsReadBack (p : PlainProgram) : Type 0 where
   pub spelled : Spells (canonical_text p) read
   pub same : bare_program read ≡ bare_program p
 
--- of each program whose canonical text passes no limit of the reader
+-- of each program whose canonical text is shallow
 abbrev pub CanonicalTextsReadBack : Type 0
-CanonicalTextsReadBack = (p : PlainProgram) → IsProgram p → IsWithinLimits (canonical_text p) → IsReadBack p
+CanonicalTextsReadBack = (p : PlainProgram) → IsProgram p → IsShallow (canonical_text p) → IsReadBack p
+
+-- of each program
+abbrev pub CanonicalTextsAreAscii : Type 0
+CanonicalTextsAreAscii = (p : PlainProgram) → IsProgram p → IsAscii (canonical_text p)
