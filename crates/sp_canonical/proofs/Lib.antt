@@ -4,3 +4,4 @@ pub mod Limits
 pub mod Ascii
 pub mod Few
 pub mod Narrow
+pub mod Reprinted

@@ -21,7 +21,7 @@ use Rattle.sp_canonical.proofs.Counts.{same_nodes, same_lanes_in, same_pieces, s
 
 -- ---- memories
 
-bare_at : (mems : List PlainMem) (m : ℕ) → slice_index_or (map bare_mem mems) m no_mem ≡ bare_mem (slice_index_or mems m no_mem)
+pub bare_at : (mems : List PlainMem) (m : ℕ) → slice_index_or (map bare_mem mems) m no_mem ≡ bare_mem (slice_index_or mems m no_mem)
 bare_at [] zero = refl
 bare_at [] (suc m) = refl
 bare_at (x ∷ mems) zero = refl

@@ -22,11 +22,12 @@ abbrev pub IsShallow : Text → Type 0
 IsShallow text = is_passed_from (record { around = []; here = 0 }) (tokens_of text) ≡ false
 
 -- the canonical text of a program is read, keeps the rules of names and types, is within the limits of programs, and
--- spells the program again, but for places
+-- spells the program again, but for places, whose canonical text it is, too
 pub record IsReadBack (p : PlainProgram) : Type 0 where
   pub read : PlainProgram
   pub spelled : Spells (canonical_text p) read
   pub same : bare_program read ≡ bare_program p
+  pub again : canonical_text read ≡ canonical_text p
 
 -- of each program whose canonical text is shallow
 abbrev pub CanonicalTextsReadBack : Type 0
@@ -35,3 +36,7 @@ CanonicalTextsReadBack = (p : PlainProgram) → IsProgram p → IsShallow (canon
 -- of each program
 abbrev pub CanonicalTextsAreAscii : Type 0
 CanonicalTextsAreAscii = (p : PlainProgram) → IsProgram p → IsAscii (canonical_text p)
+
+-- programs that differ in places alone have one canonical text
+abbrev pub CanonicalTextsHaveNoPlaces : Type 0
+CanonicalTextsHaveNoPlaces = (p q : PlainProgram) → bare_program p ≡ bare_program q → canonical_text p ≡ canonical_text q

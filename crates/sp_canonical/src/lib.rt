@@ -1,7 +1,7 @@
 //! A program's canonical text is the text of the program. Each function does nothing: what it ensures is the law.
 #![tactic(auto)]
 
-ghost use Rattle.sp_canonical.specs.Laws.{CanonicalTextsAreAscii, CanonicalTextsReadBack};
+ghost use Rattle.sp_canonical.specs.Laws.{CanonicalTextsAreAscii, CanonicalTextsHaveNoPlaces, CanonicalTextsReadBack};
 
 use sp_printed::{canonical_texts_are_read, canonical_texts_spell};
 use sp_retyped::programs_come_back;
@@ -12,8 +12,13 @@ pub fn canonical_texts_are_ascii()
     ensures { CanonicalTextsAreAscii }
 {}
 
+/// Programs that differ in places alone have one canonical text.
+pub fn canonical_texts_have_no_places()
+    ensures { CanonicalTextsHaveNoPlaces }
+{}
+
 /// The program of a canonical text whose brackets and operators stand no deeper than the reader allows is the program that
-/// it was printed of, but for places.
+/// it was printed of, but for places, and prints the text again.
 pub fn canonical_texts_read_back()
     ensures { CanonicalTextsReadBack }
 {

@@ -13,6 +13,7 @@ use Rattle.sp_canonical.proofs.Ascii.{text_ascii, no_fault}
 use Rattle.sp_canonical.proofs.Few.{few_body}
 use Rattle.sp_canonical.proofs.Limits.{within_like}
 use Rattle.sp_canonical.proofs.Narrow.{program_narrow, none_passed}
+use Rattle.sp_canonical.proofs.Reprinted.{one_text}
 use Rattle.sp_canonical.proofs.canonical_texts_read_back.Goals as goal
 
 within : (p : PlainProgram) → IsProgram p → SpellsItsTree p → IsShallow (canonical_text p) → IsWithinLimits (canonical_text p)
@@ -31,4 +32,5 @@ returns c = λ p h shallow.
       read = program_of r.tree;
       spelled = record { tree = r.tree; is_read = r.is_read; is_right = record { unrefused = c.programs_are_unrefused.ensures p r.tree h r.is_tree; within = within_like p (program_of r.tree) same h.limits }; is_program = refl };
       same = same;
+      again = one_text (program_of r.tree) p same;
     }
