@@ -32,18 +32,21 @@ module _ (p : PlainProgram) where
   -- one declaration before the block
   port_right : (scope : Scope) (seen : Visible) (names : List (List ℕ × Meant)) (m n : ℕ) {d : tree_of.PlainDecl} → Placed p scope (place_of names) seen [] → IsPortTree (mem_at p m) d → IsDeclaration (mem_at p m) → m ≡ n → IsFresh p scope (mem_at p m).name
       → (declaration_refusals seen d.name (port_type d.kind) ≡ []) × Placed p (with_mem scope m) (place_of (given names d.name.text (port d.kind) n)) (declare seen d.name.text (port d.kind)) []
-  port_right scope seen names m n h (IsPortTree.an_arg {at = at} {i = i} {t = t} k text ty) d number fresh =
-      (two_none _ _ (twice_none p scope (place_of names) seen [] h i _ text fresh) (type_none ty),
-      placed_next p scope (with_mem scope m) (place_of names) (place_of (given names i.text (port (tree_of.arg_in t)) n)) seen [] h (mem_at p m).name i.text text fresh (port (tree_of.arg_in t)) (port (tree_of.arg_in t)) n refl refl
-      (port_shown p scope names m n h.shown (IsPortTree.an_arg {at = at} {i = i} k text ty) d number fresh) (λ a at. one_more m scope.mems a at))
-  port_right scope seen names m n h (IsPortTree.an_out {at = at} {i = i} {t = t} k text ty) d number fresh =
-      (two_none _ _ (twice_none p scope (place_of names) seen [] h i _ text fresh) (type_none ty),
-      placed_next p scope (with_mem scope m) (place_of names) (place_of (given names i.text (port (tree_of.arg_out t)) n)) seen [] h (mem_at p m).name i.text text fresh (port (tree_of.arg_out t)) (port (tree_of.arg_out t)) n refl refl
-      (port_shown p scope names m n h.shown (IsPortTree.an_out {at = at} {i = i} k text ty) d number fresh) (λ a at. one_more m scope.mems a at))
-  port_right scope seen names m n h (IsPortTree.a_dram {at = at} {i = i} {t = t} k text ty) d number fresh =
-      (two_none _ _ (twice_none p scope (place_of names) seen [] h i _ text fresh) (type_none ty),
-      placed_next p scope (with_mem scope m) (place_of names) (place_of (given names i.text (port (tree_of.dram t (mem_at p m).dims)) n)) seen [] h (mem_at p m).name i.text text fresh (port (tree_of.dram t (mem_at p m).dims)) (port (tree_of.dram t (mem_at p m).dims)) n refl refl
-      (port_shown p scope names m n h.shown (IsPortTree.a_dram {at = at} {i = i} k text ty) d number fresh) (λ a at. one_more m scope.mems a at))
+  port_right scope seen names m n h (IsPortTree.an_arg {at = at} {i = i} {t = t} k text ty) d number fresh = (
+    two_none _ _ (twice_none p scope (place_of names) seen [] h i _ text fresh) (type_none ty),
+    placed_next p scope (with_mem scope m) (place_of names) (place_of (given names i.text (port (tree_of.arg_in t)) n)) seen [] h (mem_at p m).name i.text text fresh (port (tree_of.arg_in t)) (port (tree_of.arg_in t)) n refl refl
+        (port_shown p scope names m n h.shown (IsPortTree.an_arg {at = at} {i = i} k text ty) d number fresh) (λ a at. one_more m scope.mems a at),
+  )
+  port_right scope seen names m n h (IsPortTree.an_out {at = at} {i = i} {t = t} k text ty) d number fresh = (
+    two_none _ _ (twice_none p scope (place_of names) seen [] h i _ text fresh) (type_none ty),
+    placed_next p scope (with_mem scope m) (place_of names) (place_of (given names i.text (port (tree_of.arg_out t)) n)) seen [] h (mem_at p m).name i.text text fresh (port (tree_of.arg_out t)) (port (tree_of.arg_out t)) n refl refl
+        (port_shown p scope names m n h.shown (IsPortTree.an_out {at = at} {i = i} k text ty) d number fresh) (λ a at. one_more m scope.mems a at),
+  )
+  port_right scope seen names m n h (IsPortTree.a_dram {at = at} {i = i} {t = t} k text ty) d number fresh = (
+    two_none _ _ (twice_none p scope (place_of names) seen [] h i _ text fresh) (type_none ty),
+    placed_next p scope (with_mem scope m) (place_of names) (place_of (given names i.text (port (tree_of.dram t (mem_at p m).dims)) n)) seen [] h (mem_at p m).name i.text text fresh (port (tree_of.dram t (mem_at p m).dims)) (port (tree_of.dram t (mem_at p m).dims)) n refl refl
+        (port_shown p scope names m n h.shown (IsPortTree.a_dram {at = at} {i = i} k text ty) d number fresh) (λ a at. one_more m scope.mems a at),
+  )
 
   ports_right : (before ms : List PlainMem) {decls : List tree_of.PlainDecl} (first n : ℕ) (scope : Scope) (seen : Visible) (names : List (List ℕ × Meant)) → p.mems ≡ before ++ ms → length before ≡ first → All IsDeclaration ms → ArePortTrees ms decls
       → PortsFresh p scope (numbers_of is_port first ms) → IsRun n (numbers_of is_port first ms) → Placed p scope (place_of names) seen []
