@@ -1,5 +1,5 @@
 -- A canonical text is ASCII.
-use Rattle.std.proofs.Common.{◌≡◌, ℕ, zero, suc, ◌+◌, ◌<◌, ◌≤◌, ◌==◌, eq-eqb, ◌&&◌, ◌/◌, ◌%◌, nat_lt, Bool, true, false, if◌then◌else◌, List, [], ◌∷◌, ◌++◌, map, length, slice_index, slice_index_or, Option, Some, None, All, codes, decimal, refl, sym, ap, subst, ◌∙◌, mod-lt, arith}
+use Rattle.std.proofs.Common.{◌≡◌, ℕ, zero, suc, ◌+◌, ◌<◌, ◌==◌, eq-eqb, ◌&&◌, ◌/◌, ◌%◌, nat_lt, Bool, true, false, if◌then◌else◌, List, [], ◌∷◌, ◌++◌, map, length, slice_index_or, Option, Some, None, All, codes, decimal, refl, ap, ◌∙◌, mod-lt, arith}
 use Rattle.std.specs.Fmt.{digits, digits_onto, digit_glyph}
 use Rattle.std.specs.List.{list_all}
 use Rattle.std.specs.Str.{IsAscii}
@@ -18,8 +18,8 @@ use Rattle.sp_words.specs.declared.kind.UnOp.TheVariants.{Neg, Not}
 use Rattle.sp_words.specs.declared.types.Ty.{Ty}
 use Rattle.sp_words.specs.declared.types.Ty.TheVariants.{Fix, Bit}
 use Rattle.sp_words.specs.Decimal.{AreDigits, text_of, with_point, whole_part, fraction_digits}
-use Rattle.sp_words.specs.Names.{IsName, is_name, is_letter, is_name_byte}
-use Rattle.sp_words.specs.Types.{fix_signed, fix_whole, fix_frac, width_of}
+use Rattle.sp_words.specs.Names.{IsName, is_letter, is_name_byte}
+use Rattle.sp_words.specs.Types.{fix_signed, fix_whole, fix_frac}
 use Rattle.sp_words.specs.Words.{IsWord, has_sign}
 use Rattle.sp_words.proofs.NumberTextLemmas.{printed, read_again}
 use Rattle.sp_reader.specs.Limits.{fault_of}
@@ -31,13 +31,13 @@ use Rattle.sp_tree.specs.Invariant.{IsProgram}
 use Rattle.sp_tree.specs.PlainExpression.{PlainExpr, PlainExprKind, PlainExprs, expr, literal, counter, value, get_reg, get_arg, get_sram, get_line, deq, one, two, shift, mux, cast, no_expr, more_expr}
 use Rattle.sp_tree.specs.PlainProgram.{PlainMem, no_mem, PlainProgram}
 use Rattle.sp_tree.specs.PlainStatement.{PlainSpan, single, range, PlainCounter, PlainStmtKind, PlainStmts, stmt, declare, name, set_reg, set_out, set_sram, enq, load_sram, load_line, store, gather, scatter, block, foreach, reduce, mem_reduce, fsm, branch, no_stmt, more_stmt}
-use Rattle.sp_printer.specs.Body.{deeper, acc_head, reduce_word, block_head, foreach_head, reduce_head, mem_reduce_head, end_text, comb_tail, reduce_tail, mem_reduce_tail, fsm_test, fsm_head, fsm_tail, if_head, else_text, is_empty, declare_text, body_text, stmt_text, slice_text, places_text}
-use Rattle.sp_printer.specs.Expressions.{op_sign, op_level, is_call, shift_sign, one_sign, operand_level, starts_with_digit, type_before_cast, parted, enclosed, level, expr_text, kind_text, list_text, whole_text}
+use Rattle.sp_printer.specs.Body.{deeper, acc_head, block_head, foreach_head, reduce_head, mem_reduce_head, end_text, comb_tail, reduce_tail, mem_reduce_tail, fsm_test, fsm_head, fsm_tail, if_head, else_text, is_empty, body_text, stmt_text, slice_text, places_text}
+use Rattle.sp_printer.specs.Expressions.{op_sign, op_level, is_call, one_sign, operand_level, starts_with_digit, type_before_cast, parted, enclosed, level, expr_text, kind_text, list_text, whole_text}
 use Rattle.sp_printer.specs.Names.{Names, names_in, mem_name, val_name, counter_name}
 use Rattle.sp_printer.specs.Pieces.{kind_word, numbers_text, dims_text, start_text, mem_type, mem_shape, mem_text, par_text, span_text, spans_text, is_zero, from_text, counter_text, counters_text, bound_names, binds_text, block_word, style_prefix, comb_text, loop_head}
 use Rattle.sp_printer.specs.Program.{ports_text, canonical_text}
-use Rattle.sp_printer.specs.Types.{is_int_fix, is_int, fix_text, type_text}
-use Rattle.sp_printer.specs.Words.{word_at, cast_text, type_after, literal_text}
+use Rattle.sp_printer.specs.Types.{is_int_fix, is_int, type_text}
+use Rattle.sp_printer.specs.Words.{word_at, cast_text, literal_text}
 use Rattle.sp_printed.proofs.Literals.{word_kept}
 
 -- ---- texts

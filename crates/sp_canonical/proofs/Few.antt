@@ -1,20 +1,19 @@
 -- The literals of a program's tree have at most 64 digits behind the point.
-use Rattle.std.proofs.Common.{◌≡◌, ◌≤◌, ℕ, List, [], ◌∷◌, length, Option, Some, None, sym, ap, subst, ◌∙◌, arith}
-use Rattle.sp_words.specs.declared.types.FixTy.{FixTy}
+use Rattle.std.proofs.Common.{◌≤◌, ℕ, List, [], ◌∷◌, length, Option, Some, None, sym, ap, subst}
 use Rattle.sp_words.specs.declared.types.Ty.{Ty}
 use Rattle.sp_words.specs.declared.types.Ty.TheVariants.{Fix}
 use Rattle.sp_words.specs.Decimal.{whole_part, fraction_digits}
 use Rattle.sp_words.specs.Words.{has_sign}
 use Rattle.sp_words.proofs.NumberTextLemmas.{printed, read_again}
-use Rattle.sp_reader.specs.PlainTree.{PlainIdent, PlainDigits, PlainLit, number_lit, truth_lit, PlainExpr, PlainExprKind, PlainExprs, expr, number, truth, name, deq, access, mux, min, max, one, two, shift, cast, no_expr, more_expr, row}
-use Rattle.sp_reader.specs.PlainStatement.{PlainSpan, single, range, PlainCounter, PlainComb, PlainHead, PlainStmt, PlainStmtKind, PlainStmts, stmt, reg, sram, fifo, line_buffer, bind, set, set_at, enq, load, store, gather, scatter, block, foreach, reduce, fold, mem_reduce, fsm, branch, no_stmt, more_stmt}
+use Rattle.sp_reader.specs.PlainTree.{PlainDigits, PlainLit, number_lit, truth_lit, PlainExpr, PlainExprKind, PlainExprs, expr, number, truth, name, deq, access, mux, min, max, one, two, shift, cast, no_expr, more_expr, row}
+use Rattle.sp_reader.specs.PlainStatement.{PlainSpan, single, range, PlainCounter, PlainStmt, PlainStmtKind, PlainStmts, stmt, reg, sram, fifo, line_buffer, bind, set, set_at, enq, load, store, gather, scatter, block, foreach, reduce, fold, mem_reduce, fsm, branch, no_stmt, more_stmt}
 use Rattle.sp_tree.specs.PlainExpression as program
 use Rattle.sp_tree.specs.PlainProgram.{PlainMem}
 use Rattle.sp_tree.specs.PlainStatement as program_of
 use Rattle.sp_printer.specs.Names.{Names}
 use Rattle.sp_printer.specs.Words.{word_at}
 use Rattle.sp_printed.specs.Trees.{IsLiteral, IsTree, AreTrees}
-use Rattle.sp_printed.specs.LoopTrees.{IsSpanTree, AreSpanTrees, IsFromTree, IsCounterTree, AreCounterTrees}
+use Rattle.sp_printed.specs.LoopTrees.{IsSpanTree, AreSpanTrees, IsFromTree, AreCounterTrees}
 use Rattle.sp_printed.specs.StatementTrees.{IsStartTree, IsDeclareTree, IsStmtTree, IsBodyTree}
 use Rattle.sp_printed.proofs.Literals.{word_kept}
 

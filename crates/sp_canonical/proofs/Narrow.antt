@@ -1,10 +1,9 @@
 -- No number of a text that is in the grammar is too wide, where no literal of its tree has more than 64 digits behind
 -- the point.
-use Rattle.std.proofs.Common.{◌≡◌, ◌≤◌, ◌<◌, ℕ, ◌+◌, nat_lt, if◌then◌else◌, ◌&&◌, ◌||◌, Bool, true, false, List, [], ◌∷◌, length, map, Option, Some, None, is_none, refl, sym, ap, ap₂, subst, ◌∙◌, arith}
+use Rattle.std.proofs.Common.{◌≡◌, ◌≤◌, ℕ, ◌+◌, nat_lt, if◌then◌else◌, ◌&&◌, ◌||◌, Bool, true, false, List, [], ◌∷◌, length, Option, Some, None, is_none, refl, sym, ap, subst, ◌∙◌, arith}
 use Rattle.std.specs.Option.{option_map_or}
 use Rattle.sp_words.specs.declared.kind.BinOp.{BinOp}
 use Rattle.sp_words.specs.declared.kind.Style.{Style}
-use Rattle.sp_reader.specs.declared.limits.Limit.{Limit}
 use Rattle.sp_reader.specs.declared.limits.Limit.TheVariants.{Deep, Wide}
 use Rattle.sp_reader.specs.declared.syntax.expression.SynTy.{SynTy}
 use Rattle.sp_reader.specs.declared.syntax.expression.SynUn.{SynUn}
@@ -13,7 +12,7 @@ use Rattle.sp_reader.specs.declared.token.TokenKind.{TokenKind}
 use Rattle.sp_reader.specs.declared.token.TokenKind.TheVariants as k
 use Rattle.sp_reader.specs.declared.token.Token.{Token}
 use Rattle.sp_reader.specs.Limits.{PlainCounts, taken, is_wide, passed_from}
-use Rattle.sp_reader.specs.Numbers.{whole, fraction, fraction_digits, has_point, is_too_wide}
+use Rattle.sp_reader.specs.Numbers.{whole, fraction, has_point, is_too_wide}
 use Rattle.sp_reader.specs.PlainTree.{PlainIdent, PlainDigits, PlainLit, PlainExpr, row}
 use Rattle.sp_reader.specs.PlainStatement.{PlainSpan, PlainCounter, PlainComb, PlainHead, PlainStmt, PlainStmtKind, PlainStmts, body, PlainDeclKind, PlainDecl, PlainSyntax}
 use Rattle.sp_reader.specs.Steps.{Text, is_name, kind_of, spelling_of, same_kind}

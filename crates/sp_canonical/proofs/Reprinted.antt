@@ -1,5 +1,5 @@
 -- The canonical text of a program doesn't look at places.
-use Rattle.std.proofs.Common.{◌≡◌, ℕ, zero, suc, ◌+◌, ◌==◌, nat_lt, Bool, true, false, if◌then◌else◌, List, [], ◌∷◌, ◌++◌, map, length, slice_index_or, codes, decimal, refl, ap, ap₂, sym, ◌∙◌}
+use Rattle.std.proofs.Common.{◌≡◌, ℕ, suc, ◌+◌, nat_lt, Bool, true, false, if◌then◌else◌, List, [], ◌∷◌, ◌++◌, map, length, slice_index_or, codes, decimal, refl, ap, sym, ◌∙◌}
 use Rattle.sp_words.specs.declared.types.Ty.{Ty}
 use Rattle.sp_words.specs.declared.kind.Style.{Style}
 use Rattle.sp_tree.specs.declared.statement.Comb.{Comb}

@@ -40,3 +40,7 @@ CanonicalTextsAreAscii = (p : PlainProgram) → IsProgram p → IsAscii (canonic
 -- programs that differ in places alone have one canonical text
 abbrev pub CanonicalTextsHaveNoPlaces : Type 0
 CanonicalTextsHaveNoPlaces = (p q : PlainProgram) → bare_program p ≡ bare_program q → canonical_text p ≡ canonical_text q
+
+-- the canonical text of the program that a text spells, where it is shallow, is a text of the same program
+abbrev pub FormattedTextsStay : Type 0
+FormattedTextsStay = (text : Text) (p : PlainProgram) → Spells text p → IsShallow (canonical_text p) → IsReadBack p

@@ -1,10 +1,12 @@
 //! A program's canonical text is the text of the program. Each function does nothing: what it ensures is the law.
 #![tactic(auto)]
 
-ghost use Rattle.sp_canonical.specs.Laws.{CanonicalTextsAreAscii, CanonicalTextsHaveNoPlaces, CanonicalTextsReadBack};
+ghost use Rattle.sp_canonical.specs.Laws.{CanonicalTextsAreAscii, CanonicalTextsHaveNoPlaces, CanonicalTextsReadBack, FormattedTextsStay};
 
 use sp_printed::{canonical_texts_are_read, canonical_texts_spell};
+use sp_read_trees::read_trees_keep_their_rules;
 use sp_retyped::programs_come_back;
+use sp_typing::right_trees_are_programs;
 use sp_unrefused::programs_are_unrefused;
 
 /// A canonical text is ASCII.
@@ -26,4 +28,14 @@ pub fn canonical_texts_read_back()
     canonical_texts_are_read();
     programs_come_back();
     programs_are_unrefused();
+}
+
+/// A text that is formatted, where what is printed is shallow, is a text of the same program, but for places, and is
+/// formatted to itself.
+pub fn formatted_texts_stay()
+    ensures { FormattedTextsStay }
+{
+    read_trees_keep_their_rules();
+    right_trees_are_programs();
+    canonical_texts_read_back();
 }
