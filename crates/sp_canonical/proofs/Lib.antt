@@ -5,3 +5,4 @@ pub mod Ascii
 pub mod Few
 pub mod Narrow
 pub mod Reprinted
+pub mod Depths

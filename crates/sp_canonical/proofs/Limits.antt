@@ -55,10 +55,10 @@ module _ (mems : List PlainMem) where
       let all = same_stages body in
       let own = same_fifos body in
       λ i. are i
-        && list_all (λ (s : StreamStage). not s.bounds.arrays) (all i)
-        && list_all (has_one_at_each_end (all i)) (own i)
-        && list_all (is_shared_unchanged (all i)) (filter (λ m. not (is_among m (own i))) (flat_map (λ (s : StreamStage). uses_of s.whole) (all i)))
-        && is_forest (flat_map (joined_by (all i)) (own i))
+      && list_all (λ (s : StreamStage). not s.bounds.arrays) (all i)
+      && list_all (has_one_at_each_end (all i)) (own i)
+      && list_all (is_shared_unchanged (all i)) (filter (λ m. not (is_among m (own i))) (flat_map (λ (s : StreamStage). uses_of s.whole) (all i)))
+      && is_forest (flat_map (joined_by (all i)) (own i))
 
   same_room_fifos : (style : Style) (body : PlainStmts) → fifos_with_room (map bare_mem mems) style (bare_body body) ≡ fifos_with_room mems style body
   same_room_fifos Stream body = let proper = same_proper body in let own = same_fifos body in λ i. if proper i then own i else []

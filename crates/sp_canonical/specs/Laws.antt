@@ -1,10 +1,11 @@
 -- What the canonical text of a program is the text of.
-use Rattle.std.specs.Prelude.{◌≡◌, Bool, true, false, List, [], ◌∷◌}
+use Rattle.std.specs.Prelude.{◌≡◌, Bool, true, false, List, [], ◌∷◌, Ok}
 use Rattle.std.specs.Option.{option_map_or}
 use Rattle.std.specs.Str.{IsAscii}
 use Rattle.sp_printer.specs.Program.{canonical_text}
 use Rattle.sp_reader.specs.declared.token.Token.{Token}
-use Rattle.sp_reader.specs.Limits.{PlainCounts, taken}
+use Rattle.sp_reader.specs.Limits.{PlainCounts, taken, read_of}
+use Rattle.sp_reader.specs.PlainStatement.{PlainSyntax}
 use Rattle.sp_reader.specs.Steps.{Text, kind_of}
 use Rattle.sp_reader.specs.Tokens.{tokens_of}
 use Rattle.sp_retyped.specs.BareBody.{bare_program}
@@ -44,3 +45,7 @@ CanonicalTextsHaveNoPlaces = (p q : PlainProgram) → bare_program p ≡ bare_pr
 -- the canonical text of the program that a text spells, where it is shallow, is a text of the same program
 abbrev pub FormattedTextsStay : Type 0
 FormattedTextsStay = (text : Text) (p : PlainProgram) → Spells text p → IsShallow (canonical_text p) → IsReadBack p
+
+-- no other text is read: what is read is shallow
+abbrev pub ReadTextsAreShallow : Type 0
+ReadTextsAreShallow = (text : Text) (tree : PlainSyntax) → read_of text ≡ Ok tree → IsShallow text

@@ -1,8 +1,10 @@
 //! A program's canonical text is the text of the program. Each function does nothing: what it ensures is the law.
 #![tactic(auto)]
 
-ghost use Rattle.sp_canonical.specs.Laws.{CanonicalTextsAreAscii, CanonicalTextsHaveNoPlaces, CanonicalTextsReadBack, FormattedTextsStay};
+ghost use Rattle.sp_canonical.specs.Laws.{CanonicalTextsAreAscii, CanonicalTextsHaveNoPlaces, CanonicalTextsReadBack, FormattedTextsStay, IsShallow, ReadTextsAreShallow};
+ghost use Rattle.sp_canonical.specs.Worked.{enclosed};
 
+use sp_grammar::texts_are_read;
 use sp_printed::{canonical_texts_are_read, canonical_texts_spell};
 use sp_read_trees::read_trees_keep_their_rules;
 use sp_retyped::programs_come_back;
@@ -39,3 +41,16 @@ pub fn formatted_texts_stay()
     right_trees_are_programs();
     canonical_texts_read_back();
 }
+
+/// A text that is read is shallow: a canonical text that isn't is refused.
+pub fn read_texts_are_shallow()
+    ensures { ReadTextsAreShallow }
+{
+    texts_are_read();
+}
+
+/// A block that writes 1 in 63 parentheses is shallow, and one in 64 isn't, since the block's bracket counts.
+pub fn worked_depths()
+    ensures shallow { IsShallow (enclosed 63) }
+    ensures deep { IsShallow (enclosed 64) → ⊥ }
+{}
