@@ -9,7 +9,9 @@ use Rattle.sp_reader.specs.PlainStatement.{PlainSyntax}
 use Rattle.sp_reader.specs.Steps.{Text, kind_of}
 use Rattle.sp_reader.specs.Tokens.{tokens_of}
 use Rattle.sp_retyped.specs.BareBody.{bare_program}
-use Rattle.sp_source.specs.Texts.{Spells}
+use Rattle.sp_source.specs.declared.error.SourceError.{SourceError}
+use Rattle.sp_source.specs.declared.error.SourceError.TheVariants.{Memory}
+use Rattle.sp_source.specs.Texts.{Spells, IsCauseOf}
 use Rattle.sp_tree.specs.Invariant.{IsProgram}
 use Rattle.sp_tree.specs.PlainProgram.{PlainProgram}
 
@@ -23,12 +25,15 @@ abbrev pub IsShallow : Text → Type 0
 IsShallow text = is_passed_from (record { around = []; here = 0 }) (tokens_of text) ≡ false
 
 -- the canonical text of a program is read, keeps the rules of names and types, is within the limits of programs, and
--- spells the program again, but for places, whose canonical text it is, too
+-- spells the program again, but for places, whose canonical text it is, too; it spells no other program, and may be
+-- refused for want of memory alone
 pub record IsReadBack (p : PlainProgram) : Type 0 where
   pub read : PlainProgram
   pub spelled : Spells (canonical_text p) read
   pub same : bare_program read ≡ bare_program p
   pub again : canonical_text read ≡ canonical_text p
+  pub no_other : (q : PlainProgram) → Spells (canonical_text p) q → bare_program q ≡ bare_program p
+  pub not_refused : (error : SourceError) → IsCauseOf (canonical_text p) error → error ≡ Memory
 
 -- of each program whose canonical text is shallow
 abbrev pub CanonicalTextsReadBack : Type 0

@@ -8,6 +8,7 @@ use sp_grammar::texts_are_read;
 use sp_printed::{canonical_texts_are_read, canonical_texts_spell};
 use sp_read_trees::read_trees_keep_their_rules;
 use sp_retyped::programs_come_back;
+use sp_source::{spelled_texts_are_not_refused, texts_spell_one_program};
 use sp_typing::right_trees_are_programs;
 use sp_unrefused::programs_are_unrefused;
 
@@ -30,6 +31,8 @@ pub fn canonical_texts_read_back()
     canonical_texts_are_read();
     programs_come_back();
     programs_are_unrefused();
+    texts_spell_one_program();
+    spelled_texts_are_not_refused();
 }
 
 /// A text that is formatted, where what is printed is shallow, is a text of the same program, but for places, and is
