@@ -1,7 +1,6 @@
 -- What is read is shallow, and a text that is deep.
-use Rattle.std.proofs.Common.{◌≡◌, ℕ, ◌+◌, Bool, true, false, if◌then◌else◌, List, [], ◌∷◌, Option, Some, None, refl, ap, sym, ◌∙◌}
+use Rattle.std.proofs.Common.{◌≡◌, ℕ, ◌+◌, Bool, true, false, if◌then◌else◌, List, [], ◌∷◌, Option, Some, None, refl}
 use Rattle.std.specs.Option.{option_map_or}
-use Rattle.sp_reader.specs.declared.limits.Limit.{Limit}
 use Rattle.sp_reader.specs.declared.limits.Limit.TheVariants.{Deep, Wide}
 use Rattle.sp_reader.specs.declared.token.Token.{Token}
 use Rattle.sp_reader.specs.Limits.{PlainCounts, taken, is_wide, passed_from, first_passed}

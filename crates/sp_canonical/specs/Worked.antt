@@ -1,5 +1,5 @@
 -- Texts with many brackets.
-use Rattle.std.specs.Prelude.{ℕ, zero, suc, List, [], ◌∷◌, ◌++◌, codes}
+use Rattle.std.specs.Prelude.{ℕ, zero, suc, [], ◌∷◌, ◌++◌, codes}
 use Rattle.sp_reader.specs.Steps.{Text}
 
 -- a byte so many times

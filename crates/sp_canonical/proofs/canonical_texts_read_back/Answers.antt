@@ -1,4 +1,4 @@
-use Rattle.std.proofs.Common.{◌≡◌, [], refl, ap, ◌∙◌}
+use Rattle.std.proofs.Common.{[], refl, ap, ◌∙◌}
 use Rattle.sp_reader.specs.Limits.{first_passed}
 use Rattle.sp_reader.specs.Tokens.{tokens_of}
 use Rattle.sp_grammar.specs.Laws.{IsWithinLimits}
@@ -25,7 +25,7 @@ within p h s shallow = record {
   within = none_passed (canonical_text p) (record { around = []; here = 0 }) 0 (tokens_of (canonical_text p)) (program_narrow (canonical_text p) s.spelled (few_body (names_in p) s.is_tree.block)) shallow;
 }
 
--- src/lib.rt:18:1
+-- src/lib.rt:27:1
 pub returns : goal.returns
 returns c = λ p h shallow.
     let r = c.canonical_texts_are_read.ensures p h (within p h (c.canonical_texts_spell.ensures p h) shallow) in

@@ -2,7 +2,7 @@ use Rattle.std.proofs.Common.{◌≡◌, true, false, sym, ◌∙◌}
 use Rattle.sp_canonical.proofs.Depths.{few_brackets, many_brackets}
 use Rattle.sp_canonical.proofs.worked_depths.Goals as goal
 
--- src/lib.rt:57:1
+-- src/lib.rt:56:1
 pub returns : goal.returns
 returns c = record {
   shallow = few_brackets;

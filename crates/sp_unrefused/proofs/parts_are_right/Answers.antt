@@ -5,7 +5,7 @@ use Rattle.sp_tree.specs.Structure.{counter_numbers, mems_in, vals_in, counters_
 use Rattle.sp_unrefused.proofs.Places.{as_run, placed_after, placed_binders}
 use Rattle.sp_unrefused.proofs.parts_are_right.Goals as goal
 
--- src/lib.rt:7:1
+-- src/lib.rt:8:1
 pub returns : goal.returns
 returns c = record {
   expressions = λ p scope here seen accs e x want still h t typed same spared calm. right_at p scope here seen accs h want still t typed same spared calm;
