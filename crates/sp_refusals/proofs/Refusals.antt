@@ -12,7 +12,7 @@ use Rattle.sp_grammar.proofs.AgainPrograms.{program_again}
 use Rattle.sp_grammar.proofs.Programs.{program_is}
 use Rattle.sp_refusals.specs.Laws.{SpellAlike, AreLike, EndWithin, without_last}
 use Rattle.std.specs.Prelude.{map}
-use Rattle.sp_refusals.proofs.Elsewhere.{program_like}
+use Rattle.sp_refusals.proofs.Elsewhere.{near, program_like}
 use Rattle.sp_refusals.proofs.ContinuedWords.{SmallNumber}
 use Rattle.sp_refusals.proofs.ContinuedPrograms.{goes_on}
 use Rattle.sp_refusals.proofs.Steady.{AtMost}
@@ -126,7 +126,7 @@ like_behind source other (t ∷ ts) (u ∷ front) rest within like = ((sym like.
 pub none_elsewhere : (source other : Text) (ts front rest : List Token) (behind : ℕ) (tree : PlainSyntax) → EndWithin source ts → AreLike source other (without_last behind ts) front → program source ts ≡ Err (suc behind) → IsProgram other (front ++ rest) tree → ⊥
 none_elsewhere source other ts front rest behind tree within like h is =
     let first = within_take source (length ts - behind) ts within in
-    let again = program_like other (source ++ other) is (like_behind source other (without_last behind ts) front rest first like) in
+    let again = program_like other (source ++ other) is (near other (source ++ other) (front ++ rest) (without_last behind ts ++ map (shifted (length source)) rest) (like_behind source other (without_last behind ts) front rest first like)) in
     none_go_on source (source ++ other) ts (map (shifted (length source)) rest) behind again.0 (alike_on source other (without_last behind ts) first) h again.1
 
 pub end_too_early : (source : Text) (ts : List Token) (tree : PlainSyntax) → program source ts ≡ Err 0 → IsProgram source ts tree → ⊥
