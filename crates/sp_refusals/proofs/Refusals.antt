@@ -20,7 +20,7 @@ use Rattle.sp_refusals.proofs.SteadyPrograms.{refused_again, whole, whole_go, va
 
 -- ---- tokens of two texts
 
-alike_back : (source other : Text) (ts : List Token) → SpellAlike source other ts → SpellAlike other source ts
+pub alike_back : (source other : Text) (ts : List Token) → SpellAlike source other ts → SpellAlike other source ts
 alike_back source other [] h = tt
 alike_back source other (t ∷ ts) h = (sym h.0, alike_back source other ts h.1)
 
@@ -51,7 +51,7 @@ spelled_on source more t le = go (nat_le t.at t.end) refl
     go true is = rw (first, other) (same (grind arith))
     go false is = refl
 
-alike_on : (source more : Text) (ts : List Token) → EndWithin source ts → SpellAlike source (source ++ more) ts
+pub alike_on : (source more : Text) (ts : List Token) → EndWithin source ts → SpellAlike source (source ++ more) ts
 alike_on source more [] h = tt
 alike_on source more (t ∷ ts) h = (spelled_on source more t h.0, alike_on source more ts h.1)
 

@@ -50,7 +50,7 @@ passed_within source c number (t ∷ ts) p e = go (is_wide source t) (taken c t.
     go false None more h = here Deep h
     go false (Some counts) more h = let far = more counts p h in omega (arith, far)
 
-passed_at : (source : Text) (p : ℕ × Limit) → first_passed source (tokens_of source) ≡ Some p → p.0 < 0 + length (tokens_of source)
+pub passed_at : (source : Text) (p : ℕ × Limit) → first_passed source (tokens_of source) ≡ Some p → p.0 < 0 + length (tokens_of source)
 unfolding first_passed
 passed_at source p is = passed_within source (record { around = []; here = 0 }) 0 (tokens_of source) p is
 

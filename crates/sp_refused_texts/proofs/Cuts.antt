@@ -1,8 +1,8 @@
 -- The tokens of a text that is cut behind one of them, with nothing or a blank behind.
-use Rattle.std.proofs.Common.{◌≡◌, ◌∙◌, ℕ, zero, suc, ◌+◌, ◌-◌, ◌≤◌, ◌<◌, ◌==◌, ◌||◌, Bool, true, false, List, [], ◌∷◌, ◌++◌, length, take, drop, length-append, length-take, length-drop, refl, sym, ap, subst, arith}
+use Rattle.std.proofs.Common.{◌≡◌, ◌∙◌, ◌⊎◌, inl, inr, nat_le, ℕ, zero, suc, ◌+◌, ◌-◌, ◌≤◌, ◌<◌, ◌==◌, ◌||◌, Bool, true, false, List, [], ◌∷◌, ◌++◌, length, take, drop, length-append, length-take, length-drop, refl, sym, ap, subst, arith}
 use Rattle.std.specs.Prelude.{slice_index}
 use Rattle.std.specs.List.{list_any}
-use Rattle.std.proofs.lemmas.List.{take-append-le, take-append-drop, take-take}
+use Rattle.std.proofs.lemmas.List.{take-append-drop, drop_all}
 use Rattle.sp_reader.specs.declared.scan.Piece.{Piece}
 use Rattle.sp_reader.specs.declared.scan.Piece.TheVariants as piece
 use Rattle.sp_reader.specs.declared.scan.Scanned.{Scanned}
@@ -52,26 +52,51 @@ some_byte (b ∷ z) p some is = subst (λ q. 1 ≤ len_of q (b ∷ z)) is (front
 
 -- ---- the order of tokens
 
--- each of these begins where the one before ends, or behind; one that stands in a rule has a byte
-abbrev pub AreOrdered : ℕ → List Scanned → Type 0
-AreOrdered at [] = Unit {0}
-AreOrdered at (s ∷ rest) = (at ≤ s.token.at) × (s.token.at ≤ s.token.end) × (is_written s.token.kind ≡ true → s.token.at < s.token.end) × AreOrdered s.token.end rest
+-- each of these begins where the one before ends, or behind, and ends within so many bytes; it has a byte, or it is a comment
+-- without its end
+abbrev pub AreOrdered : (total at : ℕ) → List Scanned → Type 0
+AreOrdered total at [] = Unit {0}
+AreOrdered total at (s ∷ rest) =
+    (at ≤ s.token.at) × (s.token.end ≤ total) × ((s.token.at < s.token.end) ⊎ ((s.token.at ≡ total) × (s.token.end ≡ total) × (rest ≡ []) × (is_written s.token.kind ≡ false))) × AreOrdered total s.token.end rest
 
-ordered_back : (a b : ℕ) (ss : List Scanned) → a ≤ b → AreOrdered b ss → AreOrdered a ss
-ordered_back a b [] le h = tt
-ordered_back a b (s ∷ ss) le h = (omega (arith, le, h.0), h.1, h.2, h.3)
+ordered_back : (total a b : ℕ) (ss : List Scanned) → a ≤ b → AreOrdered total b ss → AreOrdered total a ss
+ordered_back total a b [] le h = tt
+ordered_back total a b (s ∷ ss) le h = (omega (arith, le, h.0), h.1, h.2, h.3)
 
-pub scanned_ordered : (n at : ℕ) (breaks : Bool) (text : Text) → AreOrdered at (scan_from n at breaks text)
-scanned_ordered zero at breaks text = rw (scan_stopped at breaks text) tt
-scanned_ordered (suc n) at breaks [] = rw (scan_none (suc n) at breaks) tt
-scanned_ordered (suc n) at breaks (b ∷ z) = go (front (b ∷ z)) refl (λ at more text. scanned_ordered n at more text)
+scan_dropped : (n at len : ℕ) (breaks : Bool) (text : Text) → length text ≤ len → scan_from n at breaks (drop len text) ≡ []
+scan_dropped n at len breaks text le = ap (scan_from n at breaks) (drop_all len text le) ∙ scan_none n at breaks
+
+pub scanned_ordered : (n at : ℕ) (breaks : Bool) (text : Text) (total : ℕ) → at + length text ≡ total → AreOrdered total at (scan_from n at breaks text)
+scanned_ordered zero at breaks text total sum = rw (scan_stopped at breaks text) tt
+scanned_ordered (suc n) at breaks [] total sum = rw (scan_none (suc n) at breaks) tt
+scanned_ordered (suc n) at breaks (b ∷ z) total sum = go (front (b ∷ z)) refl (λ at more text total sum. scanned_ordered n at more text total sum)
   where
-    go : (p : Piece) → front (b ∷ z) ≡ p → ((at : ℕ) (more : Bool) (text : Text) → AreOrdered at (scan_from n at more text)) → AreOrdered at (scan_from (suc n) at breaks (b ∷ z))
-    go (piece.Gap len) is next = rw (scan_gap n at breaks (b ∷ z) len (omega arith) is) (ordered_back at (at + len) _ (omega arith) (next (at + len) (breaks_then breaks len (b ∷ z)) (drop len (b ∷ z))))
+    behind : (len : ℕ) (more c : Bool) → nat_le len (length (b ∷ z)) ≡ c → ((at : ℕ) (more : Bool) (text : Text) (total : ℕ) → at + length text ≡ total → AreOrdered total at (scan_from n at more text))
+        → AreOrdered total (at + len) (scan_from n (at + len) more (drop len (b ∷ z)))
+    behind len more true is next = let le : len ≤ length (b ∷ z) = grind arith in let d = length-drop len (b ∷ z) in next (at + len) more (drop len (b ∷ z)) total (omega (arith, sum, le, d))
+    behind len more false is next = rw (scan_dropped n (at + len) len more (b ∷ z) (let less : length (b ∷ z) < len = grind arith in omega (arith, less))) tt
+
+    go : (p : Piece) → front (b ∷ z) ≡ p → ((at : ℕ) (more : Bool) (text : Text) (total : ℕ) → at + length text ≡ total → AreOrdered total at (scan_from n at more text)) → AreOrdered total at (scan_from (suc n) at breaks (b ∷ z))
+    go (piece.Gap len) is next =
+        rw (scan_gap n at breaks (b ∷ z) len (omega arith) is)
+        (ordered_back total at (at + len) (scan_from n (at + len) (breaks_then breaks len (b ∷ z)) (drop len (b ∷ z))) (omega arith) (behind len (breaks_then breaks len (b ∷ z)) (nat_le len (length (b ∷ z))) refl next))
     go (piece.Token kind len) is next =
         let some = some_byte (b ∷ z) (piece.Token kind len) (omega arith) is in
-        rw (scan_token n at breaks (b ∷ z) kind len (omega arith) is) (omega arith, omega arith, λ _. omega (arith, some), next (at + len) false (drop len (b ∷ z)))
-    go piece.Open is next = rw (scan_open n at breaks (b ∷ z) (omega arith) is) (omega arith, omega arith, λ bad. absurd (cc), next (at + length (b ∷ z)) false (drop (length (b ∷ z)) (b ∷ z)))
+        let few : len ≤ length (b ∷ z) = subst (PieceWithin (length (b ∷ z))) is (front_within b z) in
+        rw (scan_token n at breaks (b ∷ z) kind len (omega arith) is) (omega arith, omega (arith, sum, few), inl (omega (arith, some)), behind len false (nat_le len (length (b ∷ z))) refl next)
+    go piece.Open is next =
+        rw (scan_open n at breaks (b ∷ z) (omega arith) is)
+        (omega arith, omega (arith, sum), inr (sum, sum, scan_dropped n (at + length (b ∷ z)) (length (b ∷ z)) false (b ∷ z) (omega arith), refl), behind (length (b ∷ z)) false (nat_le (length (b ∷ z)) (length (b ∷ z))) refl next)
+
+-- one that stands in a rule, or before another, has a byte
+pub real_some : {total at : ℕ} (s : Scanned) (rest : List Scanned) → AreOrdered total at (s ∷ rest) → is_written s.token.kind ≡ true → s.token.at < s.token.end
+real_some s rest h real = elim h.2 as (λ _. s.token.at < s.token.end) [ inl some ↦ some | inr end ↦ (let bad : true ≡ false = sym real ∙ end.3 in absurd (cc)) ]
+
+pub followed_some : {total at : ℕ} (s : Scanned) (rest : List Scanned) → AreOrdered total at (s ∷ rest) → 1 ≤ length rest → s.token.at < s.token.end
+followed_some s rest h more = elim h.2 as (λ _. s.token.at < s.token.end) [ inl some ↦ some | inr end ↦ (let none = ap (λ (l : List Scanned). length l) end.2 in absurd (omega (arith, none, more))) ]
+
+pub not_back : {total at : ℕ} (s : Scanned) (rest : List Scanned) → AreOrdered total at (s ∷ rest) → s.token.at ≤ s.token.end
+not_back s rest h = elim h.2 as (λ _. s.token.at ≤ s.token.end) [ inl some ↦ omega (arith, some) | inr end ↦ omega (arith, end.0, end.1) ]
 
 -- ---- a text that is cut
 
