@@ -1,102 +1,18 @@
--- The tokens of a text that is cut behind one of them, with nothing or a blank behind.
-use Rattle.std.proofs.Common.{◌≡◌, ◌∙◌, ◌⊎◌, inl, inr, nat_le, ℕ, zero, suc, ◌+◌, ◌-◌, ◌≤◌, ◌<◌, ◌==◌, ◌||◌, Bool, true, false, List, [], ◌∷◌, ◌++◌, length, take, drop, length-append, length-take, length-drop, refl, sym, ap, subst, arith}
+-- The tokens of a text that is cut behind one of them or before it, with nothing or a blank behind.
+use Rattle.std.proofs.Common.{◌≡◌, ◌∙◌, ◌⊎◌, inl, inr, ℕ, zero, suc, ◌+◌, ◌-◌, ◌≤◌, ◌<◌, ◌==◌, ◌||◌, not, nat_le, nat_lt, Bool, true, false, List, [], ◌∷◌, ◌++◌, length, take, drop, length-append, length-take, length-drop, refl, sym, ap, subst, arith}
 use Rattle.std.specs.Prelude.{slice_index}
 use Rattle.std.specs.List.{list_any}
-use Rattle.std.proofs.lemmas.List.{take-append-drop, drop_all}
+use Rattle.std.proofs.lemmas.List.{take-append-drop}
 use Rattle.sp_reader.specs.declared.scan.Piece.{Piece}
 use Rattle.sp_reader.specs.declared.scan.Piece.TheVariants as piece
 use Rattle.sp_reader.specs.declared.scan.Scanned.{Scanned}
 use Rattle.sp_reader.specs.declared.token.TokenKind.{TokenKind}
 use Rattle.sp_reader.specs.declared.token.TokenKind.TheVariants as k
 use Rattle.sp_reader.specs.Steps.{Text}
-use Rattle.sp_reader.specs.Tokens.{front, len_of, token_of, tokens_of_piece, breaks_after, scan_from, scanned}
+use Rattle.sp_reader.specs.Tokens.{front, token_of, scan_from, scanned}
 use Rattle.sp_refusals.proofs.Within.{PieceWithin, front_within}
-use Rattle.sp_refused_texts.proofs.Fronts.{Fits, Kin, is_written, front_again, front_some}
-
--- ---- one piece
-
--- whether a line end stands before what follows a gap
-abbrev breaks_then : Bool → ℕ → Text → Bool
-breaks_then breaks len text = breaks || list_any (λ b. b == 10) (take len text)
-
-scan_gap : (n at : ℕ) (breaks : Bool) (text : Text) (len : ℕ) → 1 ≤ length text → front text ≡ piece.Gap len → scan_from (suc n) at breaks text ≡ scan_from n (at + len) (breaks_then breaks len text) (drop len text)
-unfolding scan_from
-scan_gap n at breaks [] len some is = absurd (omega (arith, some))
-scan_gap n at breaks (b ∷ z) len some is = rw is refl
-
-scan_token : (n at : ℕ) (breaks : Bool) (text : Text) (kind : TokenKind) (len : ℕ) → 1 ≤ length text → front text ≡ piece.Token kind len
-    → scan_from (suc n) at breaks text ≡ token_of kind at (at + len) breaks ∷ scan_from n (at + len) false (drop len text)
-unfolding scan_from
-scan_token n at breaks [] kind len some is = absurd (omega (arith, some))
-scan_token n at breaks (b ∷ z) kind len some is = rw is refl
-
-scan_open : (n at : ℕ) (breaks : Bool) (text : Text) → 1 ≤ length text → front text ≡ piece.Open
-    → scan_from (suc n) at breaks text ≡ token_of k.Other (at + length text) (at + length text) breaks ∷ scan_from n (at + length text) false (drop (length text) text)
-unfolding scan_from
-scan_open n at breaks [] some is = absurd (omega (arith, some))
-scan_open n at breaks (b ∷ z) some is = rw is refl
-
-scan_none : (n at : ℕ) (breaks : Bool) → scan_from n at breaks [] ≡ []
-unfolding scan_from
-scan_none zero at breaks = refl
-scan_none (suc n) at breaks = refl
-
-scan_stopped : (at : ℕ) (breaks : Bool) (text : Text) → scan_from zero at breaks text ≡ []
-unfolding scan_from
-scan_stopped at breaks text = refl
-
--- a piece has a byte
-some_byte : (text : Text) (p : Piece) → 1 ≤ length text → front text ≡ p → 1 ≤ len_of p text
-some_byte [] p some is = absurd (omega (arith, some))
-some_byte (b ∷ z) p some is = subst (λ q. 1 ≤ len_of q (b ∷ z)) is (front_some b z)
-
--- ---- the order of tokens
-
--- each of these begins where the one before ends, or behind, and ends within so many bytes; it has a byte, or it is a comment
--- without its end
-abbrev pub AreOrdered : (total at : ℕ) → List Scanned → Type 0
-AreOrdered total at [] = Unit {0}
-AreOrdered total at (s ∷ rest) =
-    (at ≤ s.token.at) × (s.token.end ≤ total) × ((s.token.at < s.token.end) ⊎ ((s.token.at ≡ total) × (s.token.end ≡ total) × (rest ≡ []) × (is_written s.token.kind ≡ false))) × AreOrdered total s.token.end rest
-
-ordered_back : (total a b : ℕ) (ss : List Scanned) → a ≤ b → AreOrdered total b ss → AreOrdered total a ss
-ordered_back total a b [] le h = tt
-ordered_back total a b (s ∷ ss) le h = (omega (arith, le, h.0), h.1, h.2, h.3)
-
-scan_dropped : (n at len : ℕ) (breaks : Bool) (text : Text) → length text ≤ len → scan_from n at breaks (drop len text) ≡ []
-scan_dropped n at len breaks text le = ap (scan_from n at breaks) (drop_all len text le) ∙ scan_none n at breaks
-
-pub scanned_ordered : (n at : ℕ) (breaks : Bool) (text : Text) (total : ℕ) → at + length text ≡ total → AreOrdered total at (scan_from n at breaks text)
-scanned_ordered zero at breaks text total sum = rw (scan_stopped at breaks text) tt
-scanned_ordered (suc n) at breaks [] total sum = rw (scan_none (suc n) at breaks) tt
-scanned_ordered (suc n) at breaks (b ∷ z) total sum = go (front (b ∷ z)) refl (λ at more text total sum. scanned_ordered n at more text total sum)
-  where
-    behind : (len : ℕ) (more c : Bool) → nat_le len (length (b ∷ z)) ≡ c → ((at : ℕ) (more : Bool) (text : Text) (total : ℕ) → at + length text ≡ total → AreOrdered total at (scan_from n at more text))
-        → AreOrdered total (at + len) (scan_from n (at + len) more (drop len (b ∷ z)))
-    behind len more true is next = let le : len ≤ length (b ∷ z) = grind arith in let d = length-drop len (b ∷ z) in next (at + len) more (drop len (b ∷ z)) total (omega (arith, sum, le, d))
-    behind len more false is next = rw (scan_dropped n (at + len) len more (b ∷ z) (let less : length (b ∷ z) < len = grind arith in omega (arith, less))) tt
-
-    go : (p : Piece) → front (b ∷ z) ≡ p → ((at : ℕ) (more : Bool) (text : Text) (total : ℕ) → at + length text ≡ total → AreOrdered total at (scan_from n at more text)) → AreOrdered total at (scan_from (suc n) at breaks (b ∷ z))
-    go (piece.Gap len) is next =
-        rw (scan_gap n at breaks (b ∷ z) len (omega arith) is)
-        (ordered_back total at (at + len) (scan_from n (at + len) (breaks_then breaks len (b ∷ z)) (drop len (b ∷ z))) (omega arith) (behind len (breaks_then breaks len (b ∷ z)) (nat_le len (length (b ∷ z))) refl next))
-    go (piece.Token kind len) is next =
-        let some = some_byte (b ∷ z) (piece.Token kind len) (omega arith) is in
-        let few : len ≤ length (b ∷ z) = subst (PieceWithin (length (b ∷ z))) is (front_within b z) in
-        rw (scan_token n at breaks (b ∷ z) kind len (omega arith) is) (omega arith, omega (arith, sum, few), inl (omega (arith, some)), behind len false (nat_le len (length (b ∷ z))) refl next)
-    go piece.Open is next =
-        rw (scan_open n at breaks (b ∷ z) (omega arith) is)
-        (omega arith, omega (arith, sum), inr (sum, sum, scan_dropped n (at + length (b ∷ z)) (length (b ∷ z)) false (b ∷ z) (omega arith), refl), behind (length (b ∷ z)) false (nat_le (length (b ∷ z)) (length (b ∷ z))) refl next)
-
--- one that stands in a rule, or before another, has a byte
-pub real_some : {total at : ℕ} (s : Scanned) (rest : List Scanned) → AreOrdered total at (s ∷ rest) → is_written s.token.kind ≡ true → s.token.at < s.token.end
-real_some s rest h real = elim h.2 as (λ _. s.token.at < s.token.end) [ inl some ↦ some | inr end ↦ (let bad : true ≡ false = sym real ∙ end.3 in absurd (cc)) ]
-
-pub followed_some : {total at : ℕ} (s : Scanned) (rest : List Scanned) → AreOrdered total at (s ∷ rest) → 1 ≤ length rest → s.token.at < s.token.end
-followed_some s rest h more = elim h.2 as (λ _. s.token.at < s.token.end) [ inl some ↦ some | inr end ↦ (let none = ap (λ (l : List Scanned). length l) end.2 in absurd (omega (arith, none, more))) ]
-
-pub not_back : {total at : ℕ} (s : Scanned) (rest : List Scanned) → AreOrdered total at (s ∷ rest) → s.token.at ≤ s.token.end
-not_back s rest h = elim h.2 as (λ _. s.token.at ≤ s.token.end) [ inl some ↦ omega (arith, some) | inr end ↦ omega (arith, end.0, end.1) ]
+use Rattle.sp_refused_texts.proofs.Fronts.{Fits, NoLineEnd, Kin, is_written, fits_upto, front_again}
+use Rattle.sp_refused_texts.proofs.Order.{breaks_then, scan_gap, scan_token, scan_open, scan_none, scan_stopped, scan_dropped, some_byte, AreOrdered, scanned_ordered, before_one}
 
 -- ---- a text that is cut
 
@@ -122,30 +38,37 @@ cut_length : (count : ℕ) (text z : Text) → count ≤ length text → length 
 cut_length count text z few = let a = length-append (take count text) z in let b = length-take count text in omega (arith, a, b, few)
 
 -- a piece of a text is one of the text that is cut behind it
-cut_front : (b : ℕ) (t : Text) (count : ℕ) (z : Text) → slice_index z 0 ≤ 32 → 1 ≤ count → count ≤ length (b ∷ t) → Fits count (front (b ∷ t)) → Kin (front (b ∷ t)) (front (take count (b ∷ t) ++ z))
+cut_front : (b : ℕ) (t : Text) (count : ℕ) (z : Text) → slice_index z 0 ≤ 32 → 1 ≤ count → count ≤ length (b ∷ t) → Fits count (drop count (b ∷ t)) (front (b ∷ t)) → Kin (front (b ∷ t)) (front (take count (b ∷ t) ++ z))
 cut_front b t zero z edge some few fits = absurd (omega (arith, some))
 cut_front b t (suc count) z edge some few fits =
     let whole = take-append-drop count t in
     let many : length (b ∷ take count t) ≡ suc count = (let l = length-take count t in omega (arith, l, few)) in
-    let fit : Fits (length (b ∷ take count t)) (front (b ∷ (take count t ++ drop count t))) = rw (whole, many) fits in
+    let fit : Fits (length (b ∷ take count t)) (drop count t) (front (b ∷ (take count t ++ drop count t))) = rw (whole, many) fits in
     subst (λ x. Kin (front (b ∷ x)) (front (b ∷ (take count t ++ z)))) whole (front_again b (take count t) (drop count t) z edge fit)
 
-cut_piece : (b : ℕ) (t : Text) (count : ℕ) (z : Text) (p : Piece) → front (b ∷ t) ≡ p → slice_index z 0 ≤ 32 → 1 ≤ count → count ≤ length (b ∷ t) → Fits count p → Kin p (front (take count (b ∷ t) ++ z))
-cut_piece b t count z p is edge some few fits = subst (λ q. Kin q (front (take count (b ∷ t) ++ z))) is (cut_front b t count z edge some few (subst (Fits count) (sym is) fits))
+cut_piece : (b : ℕ) (t : Text) (count : ℕ) (z : Text) (p : Piece) → front (b ∷ t) ≡ p → slice_index z 0 ≤ 32 → 1 ≤ count → count ≤ length (b ∷ t) → Fits count (drop count (b ∷ t)) p → Kin p (front (take count (b ∷ t) ++ z))
+cut_piece b t count z p is edge some few fits = subst (λ q. Kin q (front (take count (b ∷ t) ++ z))) is (cut_front b t count z edge some few (subst (Fits count (drop count (b ∷ t))) (sym is) fits))
 
-lead_gap : (at : ℕ) (breaks : Bool) (b : ℕ) (t : Text) (count len : ℕ) (found : List Scanned) (Told : Text → List Scanned → Type 0) → front (b ∷ t) ≡ piece.Gap len → len < count → count ≤ length (b ∷ t)
+lead_gap : (at : ℕ) (breaks : Bool) (b : ℕ) (t : Text) (count len : ℕ) (found : List Scanned) (Told : Text → List Scanned → Type 0) → front (b ∷ t) ≡ piece.Gap len → Fits count (drop count (b ∷ t)) (piece.Gap len) → count ≤ length (b ∷ t)
     → Leads (at + len) (breaks_then breaks len (b ∷ t)) (drop len (b ∷ t)) (count - len) found Told → Leads at breaks (b ∷ t) count found Told
-lead_gap at breaks b t count len found Told is less few inner z zero edge enough = absurd (let l = cut_length count (b ∷ t) z few in omega (arith, l, enough, less))
-lead_gap at breaks b t count len found Told is less few inner z (suc n) edge enough =
+lead_gap at breaks b t count len found Told is fits few inner z zero edge enough =
+    absurd (let l = cut_length count (b ∷ t) z few in let some : 1 ≤ len = some_byte (b ∷ t) (piece.Gap len) (omega arith) is in let le = fits_upto count len (drop count (b ∷ t)) fits in omega (arith, l, enough, le, some))
+lead_gap at breaks b t count len found Told is fits few inner z (suc n) edge enough =
     let l = cut_length count (b ∷ t) z few in
-    let again : front (take count (b ∷ t) ++ z) ≡ piece.Gap len = cut_piece b t count z (piece.Gap len) is edge (omega (arith, less)) few less in
+    let le : len ≤ count = fits_upto count len (drop count (b ∷ t)) fits in
     let some : 1 ≤ len = some_byte (b ∷ t) (piece.Gap len) (omega arith) is in
-    let left = drop_cut len count (b ∷ t) z (omega (arith, less)) few in
-    let passed = take_cut len count (b ∷ t) z (omega (arith, less)) few in
-    let m = cut_length (count - len) (drop len (b ∷ t)) z (let d = length-drop len (b ∷ t) in omega (arith, d, few, less)) in
-    let on = inner z n edge (omega (arith, m, l, enough, less, some)) in
-    let step = scan_gap n at breaks (take count (b ∷ t) ++ z) len (omega (arith, l, less)) again in
-    (on.0, step ∙ ap (λ x. scan_from n (at + len) (breaks || list_any (λ c. c == 10) x) (drop len (take count (b ∷ t) ++ z))) passed ∙ ap (scan_from n (at + len) (breaks_then breaks len (b ∷ t))) left ∙ on.1, on.2)
+    let again : front (take count (b ∷ t) ++ z) ≡ piece.Gap len = cut_piece b t count z (piece.Gap len) is edge (omega (arith, le, some)) few fits in
+    let left = drop_cut len count (b ∷ t) z le few in
+    let passed = take_cut len count (b ∷ t) z le few in
+    let m = cut_length (count - len) (drop len (b ∷ t)) z (let d = length-drop len (b ∷ t) in omega (arith, d, few, le)) in
+    let on = inner z n edge (omega (arith, m, l, enough, le, some)) in
+    let step = scan_gap n at breaks (take count (b ∷ t) ++ z) len (omega (arith, l, le, some)) again in
+    (on.0, joined step passed left on.1, on.2)
+  where
+    -- the gap is passed
+    joined : {ss : List Scanned} → scan_from (suc n) at breaks (take count (b ∷ t) ++ z) ≡ scan_from n (at + len) (breaks_then breaks len (take count (b ∷ t) ++ z)) (drop len (take count (b ∷ t) ++ z)) → take len (take count (b ∷ t) ++ z) ≡ take len (b ∷ t)
+        → drop len (take count (b ∷ t) ++ z) ≡ take (count - len) (drop len (b ∷ t)) ++ z → scan_from n (at + len) (breaks_then breaks len (b ∷ t)) (take (count - len) (drop len (b ∷ t)) ++ z) ≡ ss → scan_from (suc n) at breaks (take count (b ∷ t) ++ z) ≡ ss
+    joined step passed left on = step ∙ rw (passed, left) on
 
 lead_token : (at : ℕ) (breaks : Bool) (b : ℕ) (t : Text) (count : ℕ) (kind : TokenKind) (len : ℕ) (found : List Scanned) (Told : Text → List Scanned → Type 0) → front (b ∷ t) ≡ piece.Token kind len → is_written kind ≡ true → len ≤ count → count ≤ length (b ∷ t)
     → Leads (at + len) false (drop len (b ∷ t)) (count - len) found Told → Leads at breaks (b ∷ t) count (token_of kind at (at + len) breaks ∷ found) Told
@@ -223,7 +146,7 @@ cut_gap at breaks b t len found s is some c =
     record {
       first = omega (arith, low);
       last = omega (arith, d, low, high, some);
-      leads = lead_gap at breaks b t (s.token.end - at) len found (Found s) is less few (subst (λ m. Leads (at + len) (breaks_then breaks len (b ∷ t)) (drop len (b ∷ t)) m found (Found s)) same c.leads);
+      leads = lead_gap at breaks b t (s.token.end - at) len found (Found s) is (inl less) few (subst (λ m. Leads (at + len) (breaks_then breaks len (b ∷ t)) (drop len (b ∷ t)) m found (Found s)) same c.leads);
     }
 
 cut_token : (at : ℕ) (breaks : Bool) (b : ℕ) (t : Text) (kind : TokenKind) (len : ℕ) (found : List Scanned) (s : Scanned) → front (b ∷ t) ≡ piece.Token kind len → is_written kind ≡ true → s.token.at < s.token.end
@@ -251,7 +174,7 @@ cut_last at breaks b t kind len is =
       leads = subst (λ m. Leads at breaks (b ∷ t) m [] (Found (token_of kind at (at + len) breaks))) same (lead_last at breaks b t kind len is few);
     }
 
-heads : (x y : Scanned) (xs ys : List Scanned) → ◌≡◌ {A = List Scanned} (x ∷ xs) (y ∷ ys) → (x ≡ y) × (xs ≡ ys)
+pub heads : (x y : Scanned) (xs ys : List Scanned) → ◌≡◌ {A = List Scanned} (x ∷ xs) (y ∷ ys) → (x ≡ y) × (xs ≡ ys)
 heads x y xs ys e = (cc, cc)
 
 is_cut : (n at : ℕ) (breaks : Bool) (text : Text) (found : List Scanned) (s : Scanned) (back : List Scanned) → scan_from n at breaks text ≡ found ++ s ∷ back → AreReal found → s.token.at < s.token.end → IsCut at breaks text found s
@@ -284,6 +207,119 @@ is_cut (suc n) at breaks (b ∷ t) found s back e real some = go (front (b ∷ t
             let bad : false ≡ true = ap (λ (x : Scanned). is_written x.token.kind) h.0 ∙ real.0 in
             absurd (cc)
 
+-- ---- before a token
+
+-- these are the tokens of what stands at the place of a token
+abbrev pub Rest : Scanned → Text → List Scanned → Type 0
+Rest s z ss = (n : ℕ) × (length z ≤ n) × (ss ≡ scan_from n s.token.at s.breaks z)
+
+-- the text up to a token begins with those before
+record IsBefore (at : ℕ) (breaks : Bool) (text : Text) (found : List Scanned) (s : Scanned) : Type 0 where
+  first : at ≤ s.token.at
+  last : s.token.at ≤ at + length text
+  leads : Leads at breaks text (s.token.at - at) found (Rest s)
+
+line_end_gap : (c : ℕ) (w : Text) → (c == 10) ≡ true → front (c ∷ w) ≡ piece.Gap 1
+unfolding front
+line_end_gap c w is = let ten : c ≡ 10 = grind arith in rw ten refl
+
+-- what begins with a token begins with no line end
+no_line_end : (n at : ℕ) (breaks : Bool) (w : Text) (found : List Scanned) (s : Scanned) (back : List Scanned) → scan_from n at breaks w ≡ found ++ s ∷ back → s.token.at ≡ at → NoLineEnd w
+no_line_end zero at breaks w found s back e here = absurd (none_there found s back (sym (scan_stopped at breaks w) ∙ e))
+no_line_end (suc n) at breaks [] found s back e here = absurd (none_there found s back (sym (scan_none (suc n) at breaks) ∙ e))
+no_line_end (suc n) at breaks (c ∷ w) found s back e here = go (c == 10) refl
+  where
+    go : (b : Bool) → (c == 10) ≡ b → not b ≡ true
+    go true is =
+        let passed = scan_gap n at breaks (c ∷ w) 1 (omega arith) (line_end_gap c w is) in
+        let ordered = scanned_ordered n (at + 1) (breaks_then breaks 1 (c ∷ w)) w (at + 1 + length w) refl in
+        let low = (before_one (at + 1 + length w) (at + 1) found s back (subst (AreOrdered (at + 1 + length w) (at + 1)) (sym passed ∙ e) ordered)).0 in
+        absurd (omega (arith, low, here))
+    go false is = refl
+
+before_gap : (at : ℕ) (breaks : Bool) (b : ℕ) (t : Text) (len : ℕ) (found : List Scanned) (s : Scanned) → front (b ∷ t) ≡ piece.Gap len → (s.token.at ≡ at + len → NoLineEnd (drop len (b ∷ t)))
+    → IsBefore (at + len) (breaks_then breaks len (b ∷ t)) (drop len (b ∷ t)) found s → length (drop len (b ∷ t)) ≡ length (b ∷ t) - len → len ≤ length (b ∷ t) → IsBefore at breaks (b ∷ t) found s
+before_gap at breaks b t len found s is line c d within = record {
+  first = omega (arith, c.first);
+  last = omega (arith, d, c.first, c.last, within);
+  leads = lead_gap at breaks b t (s.token.at - at) len found (Rest s) is (fits (nat_lt len (s.token.at - at)) refl) few (subst (λ m. Leads (at + len) (breaks_then breaks len (b ∷ t)) (drop len (b ∷ t)) m found (Rest s)) same c.leads);
+}
+  where
+    few : s.token.at - at ≤ length (b ∷ t)
+    few = omega (arith, d, c.first, c.last, within)
+
+    same : s.token.at - (at + len) ≡ (s.token.at - at) - len
+    same = omega arith
+
+    fits : (less : Bool) → nat_lt len (s.token.at - at) ≡ less → (len < s.token.at - at) ⊎ ((len ≤ s.token.at - at) × NoLineEnd (drop (s.token.at - at) (b ∷ t)))
+    fits true lt = inl (grind arith)
+    fits false lt =
+        let least : s.token.at - at ≤ len = grind arith in
+        let equal : len ≡ s.token.at - at = omega (arith, least, c.first) in
+        inr (omega (arith, equal), subst (λ m. NoLineEnd (drop m (b ∷ t))) equal (line (omega (arith, equal, c.first))))
+
+before_token : (at : ℕ) (breaks : Bool) (b : ℕ) (t : Text) (kind : TokenKind) (len : ℕ) (found : List Scanned) (s : Scanned) → front (b ∷ t) ≡ piece.Token kind len → is_written kind ≡ true
+    → IsBefore (at + len) false (drop len (b ∷ t)) found s → IsBefore at breaks (b ∷ t) (token_of kind at (at + len) breaks ∷ found) s
+before_token at breaks b t kind len found s is real c =
+    let d = length-drop len (b ∷ t) in
+    let within : len ≤ length (b ∷ t) = subst (PieceWithin (length (b ∷ t))) is (front_within b t) in
+    let low = c.first in
+    let high = c.last in
+    let less : len ≤ s.token.at - at = omega (arith, low) in
+    let few : s.token.at - at ≤ length (b ∷ t) = omega (arith, d, low, high, within) in
+    let same : s.token.at - (at + len) ≡ (s.token.at - at) - len = omega arith in
+    record {
+      first = omega (arith, low);
+      last = omega (arith, d, low, high, within);
+      leads = lead_token at breaks b t (s.token.at - at) kind len found (Rest s) is real less few (subst (λ m. Leads (at + len) false (drop len (b ∷ t)) m found (Rest s)) same c.leads);
+    }
+
+before_here : (at : ℕ) (breaks : Bool) (text : Text) (kind : TokenKind) (len : ℕ) → IsBefore at breaks text [] (token_of kind at (at + len) breaks)
+before_here at breaks text kind len = record {
+  first = omega arith;
+  last = omega arith;
+  leads = let none : 0 ≡ at - at = omega arith in subst (λ m. Leads at breaks text m [] (Rest (token_of kind at (at + len) breaks))) none (λ z n edge enough. (scan_from n at breaks z, refl, (n, enough, refl)));
+}
+
+is_before : (n at : ℕ) (breaks : Bool) (text : Text) (found : List Scanned) (s : Scanned) (back : List Scanned) → scan_from n at breaks text ≡ found ++ s ∷ back → AreReal found → s.token.at < s.token.end → IsBefore at breaks text found s
+is_before zero at breaks text found s back e real some = absurd (none_there found s back (sym (scan_stopped at breaks text) ∙ e))
+is_before (suc n) at breaks [] found s back e real some = absurd (none_there found s back (sym (scan_none (suc n) at breaks) ∙ e))
+is_before (suc n) at breaks (b ∷ t) found s back e real some = go (front (b ∷ t)) refl (λ at more text found h real. is_before n at more text found s back h real some)
+  where
+    go : (p : Piece) → front (b ∷ t) ≡ p → ((at : ℕ) (more : Bool) (text : Text) (found : List Scanned) → scan_from n at more text ≡ found ++ s ∷ back → AreReal found → IsBefore at more text found s) → IsBefore at breaks (b ∷ t) found s
+    go (piece.Gap len) is next = by (nat_le len (length (b ∷ t))) refl
+      where
+        left : scan_from n (at + len) (breaks_then breaks len (b ∷ t)) (drop len (b ∷ t)) ≡ found ++ s ∷ back
+        left = sym (scan_gap n at breaks (b ∷ t) len (omega arith) is) ∙ e
+
+        by : (c : Bool) → nat_le len (length (b ∷ t)) ≡ c → IsBefore at breaks (b ∷ t) found s
+        by true le =
+            before_gap at breaks b t len found s is (no_line_end n (at + len) (breaks_then breaks len (b ∷ t)) (drop len (b ∷ t)) found s back left)
+            (next (at + len) (breaks_then breaks len (b ∷ t)) (drop len (b ∷ t)) found left real) (length-drop len (b ∷ t)) (grind arith)
+        by false le = absurd (none_there found s back (sym (scan_dropped n (at + len) len (breaks_then breaks len (b ∷ t)) (b ∷ t) (let less : length (b ∷ t) < len = grind arith in omega (arith, less))) ∙ left))
+    go (piece.Token kind len) is next = by found e real
+      where
+        by : (found : List Scanned) → scan_from (suc n) at breaks (b ∷ t) ≡ found ++ s ∷ back → AreReal found → IsBefore at breaks (b ∷ t) found s
+        by [] e real =
+            let h = heads (token_of kind at (at + len) breaks) s _ back (sym (scan_token n at breaks (b ∷ t) kind len (omega arith) is) ∙ e) in
+            subst (IsBefore at breaks (b ∷ t) []) h.0 (before_here at breaks (b ∷ t) kind len)
+        by (f ∷ found) e real =
+            let h = heads (token_of kind at (at + len) breaks) f _ (found ++ s ∷ back) (sym (scan_token n at breaks (b ∷ t) kind len (omega arith) is) ∙ e) in
+            let kind_real : is_written kind ≡ true = ap (λ (x : Scanned). is_written x.token.kind) h.0 ∙ real.0 in
+            subst (λ x. IsBefore at breaks (b ∷ t) (x ∷ found) s) h.0 (before_token at breaks b t kind len found s is kind_real (next (at + len) false (drop len (b ∷ t)) found h.1 real.1))
+    go piece.Open is next = by found e real
+      where
+        by : (found : List Scanned) → scan_from (suc n) at breaks (b ∷ t) ≡ found ++ s ∷ back → AreReal found → IsBefore at breaks (b ∷ t) found s
+        by [] e real =
+            let h = heads (token_of k.Other (at + length (b ∷ t)) (at + length (b ∷ t)) breaks) s _ back (sym (scan_open n at breaks (b ∷ t) (omega arith) is) ∙ e) in
+            let first : at + length (b ∷ t) ≡ s.token.at = ap (λ (x : Scanned). x.token.at) h.0 in
+            let last : at + length (b ∷ t) ≡ s.token.end = ap (λ (x : Scanned). x.token.end) h.0 in
+            absurd (omega (arith, first, last, some))
+        by (f ∷ found) e real =
+            let h = heads (token_of k.Other (at + length (b ∷ t)) (at + length (b ∷ t)) breaks) f _ (found ++ s ∷ back) (sym (scan_open n at breaks (b ∷ t) (omega arith) is) ∙ e) in
+            let bad : false ≡ true = ap (λ (x : Scanned). is_written x.token.kind) h.0 ∙ real.0 in
+            absurd (cc)
+
 -- ---- of a whole text
 
 -- what is cut behind a token
@@ -295,3 +331,13 @@ cut_behind source found s back e real some =
     let leads : Leads 0 false source s.token.end found (Found s) = subst (λ m. Leads 0 false source m found (Found s)) same c.leads in
     let high = c.last in
     (omega (arith, high), λ z edge. leads z (length (take s.token.end source ++ z)) edge (omega arith))
+
+-- what is cut before a token
+pub cut_before : (source : Text) (found : List Scanned) (s : Scanned) (back : List Scanned) → scanned source ≡ found ++ s ∷ back → AreReal found → s.token.at < s.token.end
+    → (s.token.at ≤ length source) × ((z : Text) → slice_index z 0 ≤ 32 → (n : ℕ) × (length z ≤ n) × (scanned (take s.token.at source ++ z) ≡ found ++ scan_from n s.token.at s.breaks z))
+cut_before source found s back e real some =
+    let c = is_before (length source) 0 false source found s back e real some in
+    let same : s.token.at - 0 ≡ s.token.at = omega arith in
+    let leads : Leads 0 false source s.token.at found (Rest s) = subst (λ m. Leads 0 false source m found (Rest s)) same c.leads in
+    let high = c.last in
+    (omega (arith, high), λ z edge. let l = leads z (length (take s.token.at source ++ z)) edge (omega arith) in (l.2.0, l.2.1, l.1 ∙ ap (λ ss. found ++ ss) l.2.2))

@@ -1,5 +1,5 @@
 -- What stands at the front of a text stands there too where the text is cut behind it, with nothing or a blank behind.
-use Rattle.std.proofs.Common.{◌≡◌, ◌∙◌, ℕ, zero, suc, ◌+◌, ◌-◌, ◌≤◌, ◌<◌, ◌==◌, ◌&&◌, ◌||◌, Bool, true, false, nat_le, nat_lt, nat_eq, min, List, [], ◌∷◌, ◌++◌, length, take, drop, length-drop, Option, Some, None, refl, sym, ap, subst, arith, if◌then◌else◌}
+use Rattle.std.proofs.Common.{◌≡◌, ◌∙◌, ◌⊎◌, inl, inr, ℕ, zero, suc, ◌+◌, ◌-◌, ◌≤◌, ◌<◌, ◌==◌, ◌&&◌, ◌||◌, Bool, true, false, nat_le, nat_lt, nat_eq, min, List, [], ◌∷◌, ◌++◌, length, take, drop, length-drop, Option, Some, None, refl, sym, ap, subst, arith, if◌then◌else◌}
 use Rattle.std.specs.Prelude.{slice_index}
 use Rattle.std.specs.Char.{is_ascii_digit, is_ascii_hexdigit, is_ascii_alphabetic}
 use Rattle.std.specs.List.{starts_with, prefix_len, list_all}
@@ -176,32 +176,37 @@ hex_same (x ∷ y ∷ []) w z some edge far =
         absurd (omega (arith, l, more)))
 hex_same (x ∷ y ∷ t ∷ u) w z some edge far = refl
 
--- a token of at most so many bytes, or a gap of less
-abbrev pub Fits : ℕ → Piece → Type 0
-Fits n (piece.Gap len) = len < n
-Fits n (piece.Token kind len) = len ≤ n
-Fits n piece.Open = ⊥
+-- some bytes that don't begin with a line end
+abbrev pub NoLineEnd : Text → Type 0
+NoLineEnd [] = ⊥
+NoLineEnd (b ∷ w) = is_in Line b ≡ true
 
-number_again : (u w z : Text) → 1 ≤ length u → slice_index z 0 ≤ 32 → Fits (length u) (a_number (u ++ w)) → a_number (u ++ z) ≡ a_number (u ++ w)
+-- a piece of at most so many bytes, with others behind it that a `//` comment doesn't end with
+abbrev pub Fits : ℕ → Text → Piece → Type 0
+Fits n w (piece.Gap len) = (len < n) ⊎ ((len ≤ n) × NoLineEnd w)
+Fits n w (piece.Token kind len) = len ≤ n
+Fits n w piece.Open = ⊥
+
+number_again : (u w z : Text) → 1 ≤ length u → slice_index z 0 ≤ 32 → Fits (length u) w (a_number (u ++ w)) → a_number (u ++ z) ≡ a_number (u ++ w)
 number_again u w z some edge fits = rw (hex_same u w z some edge (λ e. hexed e fits)) (go (is_hex_at (u ++ w)) refl fits)
   where
-    hexed : is_hex_at (u ++ w) ≡ true → Fits (length u) (a_number (u ++ w)) → past Hex (u ++ w) 2 ≤ length u
+    hexed : is_hex_at (u ++ w) ≡ true → Fits (length u) w (a_number (u ++ w)) → past Hex (u ++ w) 2 ≤ length u
     hexed e f = rw e at f
 
     hex_far : is_hex_at (u ++ w) ≡ true → past Hex (u ++ w) 2 ≤ length u → 2 ≤ length u
     hex_far e f = omega (arith, f)
 
-    go : (b : Bool) → is_hex_at (u ++ w) ≡ b → Fits (length u) (if b then piece.Token k.Number (past Hex (u ++ w) 2) else piece.Token k.Number (number_end (u ++ w)))
+    go : (b : Bool) → is_hex_at (u ++ w) ≡ b → Fits (length u) w (if b then piece.Token k.Number (past Hex (u ++ w) 2) else piece.Token k.Number (number_end (u ++ w)))
         → (if b then piece.Token k.Number (past Hex (u ++ z) 2) else piece.Token k.Number (number_end (u ++ z))) ≡ (if b then piece.Token k.Number (past Hex (u ++ w) 2) else piece.Token k.Number (number_end (u ++ w)))
     go true is f = ap (piece.Token k.Number) (past_upto Hex u w z 2 (hex_far is f) f (stops_at (is_in Hex) no_hex z edge))
     go false is f = ap (piece.Token k.Number) (end_again u w z edge f)
 
-underscore_again : (u w z : Text) → 1 ≤ length u → slice_index z 0 ≤ 32 → Fits (length u) (an_underscore (u ++ w)) → an_underscore (u ++ z) ≡ an_underscore (u ++ w)
+underscore_again : (u w z : Text) → 1 ≤ length u → slice_index z 0 ≤ 32 → Fits (length u) w (an_underscore (u ++ w)) → an_underscore (u ++ z) ≡ an_underscore (u ++ w)
 underscore_again u w z some edge fits =
     let few : past Digit (u ++ w) 1 ≤ length u = go (past Digit (u ++ w) 1 == 1) refl fits in
     ap (λ n. if n == 1 then piece.Token k.Wild 1 else piece.Token k.Width n) (past_upto Digit u w z 1 some few (stops_at (is_in Digit) no_digit z edge))
   where
-    go : (b : Bool) → (past Digit (u ++ w) 1 == 1) ≡ b → Fits (length u) (if b then piece.Token k.Wild 1 else piece.Token k.Width (past Digit (u ++ w) 1)) → past Digit (u ++ w) 1 ≤ length u
+    go : (b : Bool) → (past Digit (u ++ w) 1 == 1) ≡ b → Fits (length u) w (if b then piece.Token k.Wild 1 else piece.Token k.Width (past Digit (u ++ w) 1)) → past Digit (u ++ w) 1 ≤ length u
     go true is f = let one : past Digit (u ++ w) 1 ≡ 1 = grind arith in omega (arith, one, some)
     go false is f = f
 
@@ -234,15 +239,19 @@ comment_inside before (b ∷ v) w z len is le = go (b == 42) v is (omega (arith,
         by true is = is
         by false is = more is le
 
-slash_alone : (x : ℕ) (w : Text) → Fits 1 (a_slash (x ∷ w)) → a_slash (x ∷ w) ≡ piece.Token k.Slash 1
+pub fits_upto : (n len : ℕ) (w : Text) → (len < n) ⊎ ((len ≤ n) × NoLineEnd w) → len ≤ n
+fits_upto n len w (inl less) = omega (arith, less)
+fits_upto n len w (inr h) = h.0
+
+slash_alone : (x : ℕ) (w : Text) → Fits 1 w (a_slash (x ∷ w)) → a_slash (x ∷ w) ≡ piece.Token k.Slash 1
 slash_alone x [] fits = refl
 slash_alone x (b ∷ w) fits = go (b == 47) (b == 42) (comment_from 0 w) fits
   where
-    go : (c d : Bool) (o : Option ℕ) → Fits 1 (if c then piece.Gap (past Line (x ∷ b ∷ w) (min 2 (length (x ∷ b ∷ w)))) else (if d then block_comment o else piece.Token k.Slash 1))
+    go : (c d : Bool) (o : Option ℕ) → Fits 1 (b ∷ w) (if c then piece.Gap (past Line (x ∷ b ∷ w) (min 2 (length (x ∷ b ∷ w)))) else (if d then block_comment o else piece.Token k.Slash 1))
         → (if c then piece.Gap (past Line (x ∷ b ∷ w) (min 2 (length (x ∷ b ∷ w)))) else (if d then block_comment o else piece.Token k.Slash 1)) ≡ piece.Token k.Slash 1
-    go true d o f = absurd (omega (arith, f))
+    go true d o f = let few = fits_upto 1 (past Line (x ∷ b ∷ w) (min 2 (length (x ∷ b ∷ w)))) (b ∷ w) f in absurd (omega (arith, few))
     go false true None f = absurd f
-    go false true (Some len) f = absurd (omega (arith, f))
+    go false true (Some len) f = let few = fits_upto 1 (len + 2) (b ∷ w) f in absurd (omega (arith, few))
     go false false o f = refl
 
 slash_apart : (x : ℕ) (z : Text) → slice_index z 0 ≤ 32 → a_slash (x ∷ z) ≡ piece.Token k.Slash 1
@@ -251,25 +260,43 @@ slash_apart x z edge =
     let star : (slice_index z 0 == 42) ≡ false = grind arith in
     rw (line, star) refl
 
-line_again : (x y : ℕ) (v w z : Text) → past Line (x ∷ y ∷ (v ++ w)) (min 2 (length (x ∷ y ∷ (v ++ w)))) < length (x ∷ y ∷ v)
+-- a run doesn't end before what is of its class
+prefix_on : (p : ℕ → Bool) (v : Text) (b : ℕ) (w : Text) → p b ≡ true → prefix_len p (v ++ b ∷ w) ≡ length v → ⊥
+prefix_on p [] b w e is = absurd (let some : 1 ≤ prefix_len p (b ∷ w) = rw e (omega arith) in omega (arith, some, is))
+prefix_on p (x ∷ v) b w e is = go (p x) is (prefix_on p v b w e)
+  where
+    go : (c : Bool) → (if c then 1 + prefix_len p (v ++ b ∷ w) else 0) ≡ length (x ∷ v) → (prefix_len p (v ++ b ∷ w) ≡ length v → ⊥) → ⊥
+    go true is more = more (omega (arith, is))
+    go false is more = absurd (omega (arith, is))
+
+line_ends : (v w : Text) → (2 + prefix_len (is_in Line) (v ++ w) < suc (suc (length v))) ⊎ ((2 + prefix_len (is_in Line) (v ++ w) ≤ suc (suc (length v))) × NoLineEnd w) → prefix_len (is_in Line) (v ++ w) < length v
+line_ends v w (inl less) = omega (arith, less)
+line_ends v [] (inr h) = absurd (h.1)
+line_ends v (b ∷ w) (inr h) = go (nat_lt (prefix_len (is_in Line) (v ++ b ∷ w)) (length v)) refl
+  where
+    go : (c : Bool) → nat_lt (prefix_len (is_in Line) (v ++ b ∷ w)) (length v) ≡ c → prefix_len (is_in Line) (v ++ b ∷ w) < length v
+    go true is = grind arith
+    go false is = let le : length v ≤ prefix_len (is_in Line) (v ++ b ∷ w) = grind arith in absurd (prefix_on (is_in Line) v b w h.1 (omega (arith, le, h.0)))
+
+line_again : (x y : ℕ) (v w z : Text) → Fits (length (x ∷ y ∷ v)) w (piece.Gap (past Line (x ∷ y ∷ (v ++ w)) (min 2 (length (x ∷ y ∷ (v ++ w))))))
     → past Line (x ∷ y ∷ (v ++ z)) (min 2 (length (x ∷ y ∷ (v ++ z)))) ≡ past Line (x ∷ y ∷ (v ++ w)) (min 2 (length (x ∷ y ∷ (v ++ w))))
 line_again x y v w z fits =
     let a : min 2 (length (x ∷ y ∷ (v ++ w))) ≡ 2 = omega arith in
     let b : min 2 (length (x ∷ y ∷ (v ++ z))) ≡ 2 = omega arith in
-    let here : 2 + prefix_len (is_in Line) (v ++ w) < length (x ∷ y ∷ v) = rw a at fits in
-    let same = prefix_inside (is_in Line) v w z (omega (arith, here)) in
+    let here : Fits (length (x ∷ y ∷ v)) w (piece.Gap (2 + prefix_len (is_in Line) (v ++ w))) = rw a at fits in
+    let same = prefix_inside (is_in Line) v w z (line_ends v w here) in
     rw (a, b, same) refl
 
-slash_again : (u w z : Text) → 1 ≤ length u → slice_index z 0 ≤ 32 → Fits (length u) (a_slash (u ++ w)) → a_slash (u ++ z) ≡ a_slash (u ++ w)
+slash_again : (u w z : Text) → 1 ≤ length u → slice_index z 0 ≤ 32 → Fits (length u) w (a_slash (u ++ w)) → a_slash (u ++ z) ≡ a_slash (u ++ w)
 slash_again [] w z some edge fits = absurd (omega (arith, some))
 slash_again (x ∷ []) w z some edge fits = slash_apart x z edge ∙ sym (slash_alone x w fits)
 slash_again (x ∷ y ∷ v) w z some edge fits = go (y == 47) (y == 42) fits
   where
-    starred : (o : Option ℕ) → comment_from 0 (v ++ w) ≡ o → Fits (length (x ∷ y ∷ v)) (block_comment o) → block_comment (comment_from 0 (v ++ z)) ≡ block_comment o
+    starred : (o : Option ℕ) → comment_from 0 (v ++ w) ≡ o → Fits (length (x ∷ y ∷ v)) w (block_comment o) → block_comment (comment_from 0 (v ++ z)) ≡ block_comment o
     starred None is f = absurd f
-    starred (Some len) is f = ap block_comment (comment_inside 0 v w z len is (omega (arith, f)))
+    starred (Some len) is f = let few = fits_upto (length (x ∷ y ∷ v)) (len + 2) w f in ap block_comment (comment_inside 0 v w z len is (omega (arith, few)))
 
-    go : (c d : Bool) → Fits (length (x ∷ y ∷ v)) (if c then piece.Gap (past Line (x ∷ y ∷ (v ++ w)) (min 2 (length (x ∷ y ∷ (v ++ w))))) else (if d then block_comment (comment_from 0 (v ++ w)) else piece.Token k.Slash 1))
+    go : (c d : Bool) → Fits (length (x ∷ y ∷ v)) w (if c then piece.Gap (past Line (x ∷ y ∷ (v ++ w)) (min 2 (length (x ∷ y ∷ (v ++ w))))) else (if d then block_comment (comment_from 0 (v ++ w)) else piece.Token k.Slash 1))
         → (if c then piece.Gap (past Line (x ∷ y ∷ (v ++ z)) (min 2 (length (x ∷ y ∷ (v ++ z))))) else (if d then block_comment (comment_from 0 (v ++ z)) else piece.Token k.Slash 1))
         ≡ (if c then piece.Gap (past Line (x ∷ y ∷ (v ++ w)) (min 2 (length (x ∷ y ∷ (v ++ w))))) else (if d then block_comment (comment_from 0 (v ++ w)) else piece.Token k.Slash 1))
     go true d f = ap piece.Gap (line_again x y v w z f)
@@ -367,11 +394,11 @@ abbrev front_by : ℕ → Text → (blank slash letter digit underscore low : Bo
 front_by x text c d e f g h = if c then piece.Gap 1 else (if d then a_slash text else (if e then a_word text else (if f then a_number text else (if g then an_underscore text
     else (if h then a_sign (sign_of text) else piece.Token k.Other (min (char_len x) (length text)))))))
 
-pub front_again : (x : ℕ) (v w z : Text) → slice_index z 0 ≤ 32 → Fits (length (x ∷ v)) (front (x ∷ (v ++ w))) → Kin (front (x ∷ (v ++ w))) (front (x ∷ (v ++ z)))
+pub front_again : (x : ℕ) (v w z : Text) → slice_index z 0 ≤ 32 → Fits (length (x ∷ v)) w (front (x ∷ (v ++ w))) → Kin (front (x ∷ (v ++ w))) (front (x ∷ (v ++ z)))
 unfolding front
 front_again x v w z edge fits = go (is_blank x) (x == 47) (is_ascii_alphabetic x) (is_ascii_digit x) (x == 95) (nat_lt x 128) fits
   where
-    go : (c d e f g h : Bool) → Fits (length (x ∷ v)) (front_by x (x ∷ (v ++ w)) c d e f g h) → Kin (front_by x (x ∷ (v ++ w)) c d e f g h) (front_by x (x ∷ (v ++ z)) c d e f g h)
+    go : (c d e f g h : Bool) → Fits (length (x ∷ v)) w (front_by x (x ∷ (v ++ w)) c d e f g h) → Kin (front_by x (x ∷ (v ++ w)) c d e f g h) (front_by x (x ∷ (v ++ z)) c d e f g h)
     go true d e f g h fit = refl
     go false true e f g h fit = same_kin _ _ (slash_again (x ∷ v) w z (omega arith) edge fit)
     go false false true f g h fit = same_kin _ _ (word_again (x ∷ v) w z edge fit)

@@ -1,6 +1,7 @@
 -- The tokens of a text, with the `;` that line ends insert, up to a place.
 use Rattle.std.proofs.Common.{◌≡◌, ◌∙◌, ℕ, zero, suc, ◌+◌, ◌-◌, ◌≤◌, ◌<◌, ◌&&◌, Bool, true, false, nat_lt, List, [], ◌∷◌, ◌++◌, length, length-append, take, append_assoc, refl, sym, ap, subst, arith, if◌then◌else◌}
-use Rattle.std.proofs.lemmas.List.{append-nil}
+use Rattle.std.specs.Prelude.{slice_index_or}
+use Rattle.std.specs.List.{Contains}
 use Rattle.sp_reader.specs.declared.scan.Scanned.{Scanned}
 use Rattle.sp_reader.specs.declared.token.Token.{Token}
 use Rattle.sp_reader.specs.declared.token.TokenKind.{TokenKind}
@@ -9,10 +10,11 @@ use Rattle.sp_reader.specs.Limits.{place_in}
 use Rattle.sp_reader.specs.Steps.{Text}
 use Rattle.sp_reader.specs.Tokens.{opened, inserts, with_separator, separated}
 use Rattle.sp_refusals.specs.Laws.{EndWithin}
-use Rattle.sp_refused_texts.specs.Laws.{end_before}
+use Rattle.sp_refused_texts.specs.Laws.{end_of}
 use Rattle.sp_refused_texts.proofs.Fronts.{is_written}
 use Rattle.sp_refused_texts.proofs.Written.{AreWritten}
-use Rattle.sp_refused_texts.proofs.Cuts.{AreOrdered, AreReal, real_some, followed_some, not_back}
+use Rattle.sp_refused_texts.proofs.Order.{AreOrdered, AreBefore, real_some, not_back, before_one}
+use Rattle.sp_refused_texts.proofs.Cuts.{AreReal, heads}
 
 -- the kind of the last of these, or the one before
 abbrev pub kind_after : TokenKind → List Scanned → TokenKind
@@ -126,37 +128,18 @@ abbrev pub last_end : ℕ → List Scanned → ℕ
 last_end last [] = last
 last_end last (s ∷ rest) = last_end s.token.end rest
 
--- these begin before a place
-abbrev pub AreBefore : ℕ → List Scanned → Type 0
-AreBefore place [] = Unit {0}
-AreBefore place (s ∷ rest) = (s.token.at < place) × AreBefore place rest
+pub end_found : (last : ℕ) (before : TokenKind) (brackets : List TokenKind) (found : List Scanned) → end_of last (separated before brackets found) ≡ last_end last found
+end_found last before brackets [] = refl
+end_found last before brackets (s ∷ found) = go (inserts before brackets s) (end_found s.token.end s.token.kind (opened brackets s.token.kind) found)
+  where
+    go : (b : Bool) → end_of s.token.end (separated s.token.kind (opened brackets s.token.kind) found) ≡ last_end s.token.end found
+        → end_of last ((if b then semi s ∷ s.token ∷ [] else s.token ∷ []) ++ separated s.token.kind (opened brackets s.token.kind) found) ≡ last_end s.token.end found
+    go true e = e
+    go false e = e
 
--- the first of these doesn't
-abbrev IsBehind : ℕ → List Scanned → Type 0
-IsBehind place [] = Unit {0}
-IsBehind place (s ∷ rest) = place ≤ s.token.at
-
-stops_there : (last place : ℕ) (back : List Scanned) → IsBehind place back → end_before last place back ≡ last
-stops_there last place [] h = refl
-stops_there last place (s ∷ rest) h = let no : nat_lt s.token.at place ≡ false = grind arith in rw no refl
-
-pub ends_before : (last place : ℕ) (found back : List Scanned) → AreBefore place found → IsBehind place back → end_before last place (found ++ back) ≡ last_end last found
-ends_before last place [] back h b = stops_there last place back b
-ends_before last place (s ∷ found) back h b = let yes : nat_lt s.token.at place ≡ true = grind (arith, h.0) in rw yes (ends_before s.token.end place found back h.1 b)
-
--- tokens before one of a list in order begin before it
-pub before_one : (total at : ℕ) (found : List Scanned) (s : Scanned) (back : List Scanned) → AreOrdered total at (found ++ s ∷ back) → (at ≤ s.token.at) × AreBefore s.token.at found
-before_one total at [] s back h = (h.0, tt)
-before_one total at (f ∷ found) s back h =
-    let more = before_one total f.token.end found s back h.3 in
-    let l = length-append found (s ∷ back) in
-    let some = followed_some f (found ++ s ∷ back) h (omega (arith, l)) in
-    (omega (arith, h.0, some, more.0), (omega (arith, some, more.0), more.1))
-
--- those that stand in a rule begin before the end of the text
-pub before_all : (total at : ℕ) (found : List Scanned) → AreOrdered total at found → AreReal found → AreBefore total found
-before_all total at [] h real = tt
-before_all total at (f ∷ found) h real = let some = real_some f found h real.0 in (omega (arith, h.1, some), before_all total f.token.end found h.3 real.1)
+pub end_last : (last : ℕ) (ts : List Token) (t : Token) → end_of last (ts ++ t ∷ []) ≡ t.end
+end_last last [] t = refl
+end_last last (u ∷ ts) t = end_last u.end ts t
 
 -- each of these ends before the last does
 pub ends_upto : (total at : ℕ) (found back : List Scanned) → AreOrdered total at (found ++ back) → at ≤ last_end at found
@@ -166,6 +149,15 @@ ends_upto total at (f ∷ found) back h = let more = ends_upto total f.token.end
 pub last_within : (total at : ℕ) (found back : List Scanned) → at ≤ total → AreOrdered total at (found ++ back) → last_end at found ≤ total
 last_within total at [] back le h = le
 last_within total at (f ∷ found) back le h = last_within total f.token.end found back h.1 h.3
+
+pub last_upto : (total at : ℕ) (found : List Scanned) (s : Scanned) (back : List Scanned) → AreOrdered total at (found ++ s ∷ back) → last_end at found ≤ s.token.at
+last_upto total at [] s back h = h.0
+last_upto total at (f ∷ found) s back h = last_upto total f.token.end found s back h.3
+
+-- of one of a list
+pub ordered_at : (total at : ℕ) (found : List Scanned) (s : Scanned) (back : List Scanned) → AreOrdered total at (found ++ s ∷ back) → (start : ℕ) × AreOrdered total start (s ∷ back)
+ordered_at total at [] s back h = (at, h)
+ordered_at total at (f ∷ found) s back h = ordered_at total f.token.end found s back h.3
 
 -- the tokens of these end within what ends with the last
 pub tokens_end : (total at : ℕ) (before : TokenKind) (brackets : List TokenKind) (found back : List Scanned) (text : Text) → AreOrdered total at (found ++ back) → last_end at found ≤ length text → EndWithin text (separated before brackets found)
@@ -181,9 +173,6 @@ tokens_end total at before brackets (f ∷ found) back text h le =
     go false first last more = (last, more)
 
 -- ---- the token at a place
-
-heads : (x y : Scanned) (xs ys : List Scanned) → ◌≡◌ {A = List Scanned} (x ∷ xs) (y ∷ ys) → (x ≡ y) × (xs ≡ ys)
-heads x y xs ys e = (cc, cc)
 
 -- the first of the others stands behind those before
 place_upto : (source : Text) (at : ℕ) (found back : List Scanned) → at ≤ length source → AreOrdered (length source) at (found ++ back) → at ≤ first_place source back
@@ -207,3 +196,28 @@ same_split source at (f ∷ found) back (g ∷ first) behind s e h some place =
     let parts = heads f g (found ++ back) (first ++ s ∷ behind) e in
     let more = same_split source f.token.end found back first behind s parts.1 h.3 some place in
     (ap (λ x. x ∷ found) parts.0 ∙ ap (λ l. g ∷ l) more.0, more.1)
+
+-- ---- the last of some tokens
+
+pub record IsLast (all : List Scanned) : Type 0 where
+  pub before : List Scanned
+  pub last : Scanned
+  pub is : all ≡ before ++ last ∷ []
+  pub ends : (at : ℕ) → last_end at all ≡ last.token.end
+
+pub last_of : (f : Scanned) (found : List Scanned) → IsLast (f ∷ found)
+last_of f [] = record { before = []; last = f; is = refl; ends = λ at. refl }
+last_of f (g ∷ found) = let l = last_of g found in record { before = f ∷ l.before; last = l.last; is = ap (λ x. f ∷ x) l.is; ends = λ at. l.ends f.token.end }
+
+pub real_parts : (found : List Scanned) (s : Scanned) → AreReal (found ++ s ∷ []) → AreReal found × (is_written s.token.kind ≡ true)
+real_parts [] s h = (tt, h.0)
+real_parts (f ∷ found) s h = let more = real_parts found s h.1 in ((h.0, more.0), more.1)
+
+-- where one of a list stands
+pub split_at : (xs : List Scanned) (x : Scanned) → Contains xs x → (first : List Scanned) × (behind : List Scanned) × (xs ≡ first ++ x ∷ behind)
+split_at xs x c = go xs c.0 c.1 c.2
+  where
+    go : (xs : List Scanned) (n : ℕ) → n < length xs → slice_index_or xs n x ≡ x → (first : List Scanned) × (behind : List Scanned) × (xs ≡ first ++ x ∷ behind)
+    go [] n less is = absurd (omega (arith, less))
+    go (y ∷ xs) zero less is = ([], xs, ap (λ z. z ∷ xs) is)
+    go (y ∷ xs) (suc n) less is = let more = go xs n (omega (arith, less)) is in (y ∷ more.0, more.1, ap (λ l. y ∷ l) more.2)

@@ -12,7 +12,7 @@ use Rattle.sp_refused_texts.proofs.Fronts.{is_written}
 use Rattle.sp_refused_texts.proofs.Written.{AreWritten}
 
 -- a spelling of each kind of token that stands in a rule
-abbrev spelled_as : TokenKind → Text
+abbrev pub spelled_as : TokenKind → Text
 spelled_as k.Name = codes "x"
 spelled_as k.To = codes "to"
 spelled_as k.Value = codes "value"
@@ -94,7 +94,7 @@ spelled_as k.Store = codes "store"
 spelled_as k.Other = []
 spelled_as k.End = []
 
-spelled_front : (kind : TokenKind) (rest : Text) → is_written kind ≡ true → front (spelled_as kind ++ 32 ∷ rest) ≡ piece.Token kind (length (spelled_as kind))
+pub spelled_front : (kind : TokenKind) (rest : Text) → is_written kind ≡ true → front (spelled_as kind ++ 32 ∷ rest) ≡ piece.Token kind (length (spelled_as kind))
 unfolding front word_kind sign_of
 spelled_front k.Other rest e = absurd (cc)
 spelled_front k.End rest e = absurd (cc)
@@ -114,7 +114,7 @@ AreOnes other [] (u ∷ us) = ⊥
 AreOnes other (t ∷ ts) [] = ⊥
 AreOnes other (t ∷ ts) (u ∷ us) = ((t.kind ≡ u.kind) × (t.kind ≡ k.Number → spelling_of other u ≡ 49 ∷ [])) × AreOnes other ts us
 
-some_spelled : (kind : TokenKind) → is_written kind ≡ true → 1 ≤ length (spelled_as kind)
+pub some_spelled : (kind : TokenKind) → is_written kind ≡ true → 1 ≤ length (spelled_as kind)
 some_spelled k.Other e = absurd (cc)
 some_spelled k.End e = absurd (cc)
 some_spelled _ e = omega arith

@@ -1,48 +1,56 @@
--- Where a text is refused, told of texts: with the refused token no text is in the grammar, and what stands before it begins one.
-use Rattle.std.specs.Prelude.{◌≡◌, ◌≤◌, ◌<◌, ◌⊎◌, ℕ, nat_lt, if◌then◌else◌, true, List, [], ◌∷◌, ◌++◌, length, take, Contains, Err}
+-- Where a text is refused, told of texts: what stands before the refused token begins one in the grammar, and with it none does.
+use Rattle.std.specs.Prelude.{◌≡◌, ◌≤◌, ◌<◌, ◌⊎◌, ℕ, Bool, true, false, List, [], ◌∷◌, ◌++◌, length, take, Some, Err}
+use Rattle.std.specs.List.{Contains}
 use Rattle.sp_reader.specs.declared.error.ReadError.TheVariants.{NoParse}
 use Rattle.sp_reader.specs.declared.limits.Limit.{Limit}
 use Rattle.sp_reader.specs.declared.scan.Scanned.{Scanned}
-use Rattle.sp_reader.specs.Limits.{refusal_of, read_of}
+use Rattle.sp_reader.specs.declared.token.Token.{Token}
+use Rattle.sp_reader.specs.Limits.{first_passed, place_in, refusal_of, read_of}
 use Rattle.sp_reader.specs.PlainStatement.{PlainSyntax}
 use Rattle.sp_reader.specs.Steps.{Text}
 use Rattle.sp_reader.specs.Tokens.{is_blank, scanned, tokens_of}
 use Rattle.sp_grammar.specs.Statements.{IsProgram}
+use Rattle.sp_refusals.specs.Texts.{IsFirstRefused}
 
 -- a text whose tokens are in the grammar. It may pass a limit.
 abbrev pub IsInGrammar : Text → Type 0
 IsInGrammar text = (tree : PlainSyntax) × IsProgram text (tokens_of text) tree
+
+-- with a blank and others behind, these bytes are a text in the grammar
+abbrev pub GoesOn : Text → Type 0
+GoesOn bytes = (more : Text) × IsInGrammar (bytes ++ 32 ∷ more)
 
 -- nothing, or what begins with a blank
 abbrev pub StandsApart : Text → Type 0
 StandsApart [] = Unit {0}
 StandsApart (b ∷ more) = is_blank b ≡ true
 
--- the end of the last token of these that begins before a place, or `last` where none does
-abbrev pub end_before : (last place : ℕ) → List Scanned → ℕ
-end_before last place [] = last
-end_before last place (s ∷ rest) = if nat_lt s.token.at place then end_before s.token.end place rest else last
+-- where the last of these tokens ends, or `last` where there are none. A `;` that a line end inserts ends at the token behind it.
+abbrev pub end_of : (last : ℕ) → List Token → ℕ
+end_of last [] = last
+end_of last (t ∷ ts) = end_of t.end ts
 
--- the bytes up to the end of the last token that is written before a place
-abbrev pub text_before : Text → ℕ → Text
-text_before source place = take (end_before 0 place (scanned source)) source
-
--- with a blank and others behind, these bytes are a text in the grammar
-abbrev pub GoesOn : Text → Type 0
-GoesOn bytes = (more : Text) × IsInGrammar (bytes ++ 32 ∷ more)
-
--- a token of a text that is written at a place. A comment without its end has no byte.
+-- a token that is written at a place of a text. A comment without its end has no byte, and isn't one.
 pub record IsWrittenAt (source : Text) (place : ℕ) (s : Scanned) : Type 0 where
   pub one : Contains (scanned source) s
   pub begins : s.token.at ≡ place
   pub some : s.token.at < s.token.end
 
--- the place is that of a token, or the end; what stands before it goes on to a text in the grammar, with a blank behind the last
--- token; no text that begins with what goes up to the end of the token there, with a blank behind, or with nothing, is in the
--- grammar, and the text itself isn't
+-- what stands before the token of a number goes on to a text in the grammar: up to the end of the token before it, and up to the
+-- one that is written at its place, where no line end stands between
+pub record GoesOnBefore (source : Text) (number : ℕ) : Type 0 where
+  pub behind : GoesOn (take (end_of 0 (take number (tokens_of source))) source)
+  pub up_to : (s : Scanned) → IsWrittenAt source (place_in source (tokens_of source) number) s → s.breaks ≡ false → GoesOn (take s.token.at source)
+
+-- the place is that of the first refused token, or the end. What stands before it goes on to a text in the grammar; up to the end of
+-- the token that is written there it begins none, be it over or followed by a blank; and the text isn't one
 pub record IsRefusedAt (source : Text) (place : ℕ) : Type 0 where
-  pub stands : ((s : Scanned) × IsWrittenAt source place s) ⊎ (place ≡ length source)
-  pub before : GoesOn (text_before source place)
+  pub number : ℕ
+  pub among : number ≤ length (tokens_of source)
+  pub stands : place ≡ place_in source (tokens_of source) number
+  pub written : ((s : Scanned) × IsWrittenAt source place s) ⊎ (place ≡ length source)
+  pub first : IsFirstRefused source (tokens_of source) number
+  pub before : GoesOnBefore source number
   pub with_it : (s : Scanned) (more : Text) → IsWrittenAt source place s → StandsApart more → IsInGrammar (take s.token.end source ++ more) → ⊥
   pub itself : IsInGrammar source → ⊥
 
@@ -50,6 +58,7 @@ pub record IsRefusedAt (source : Text) (place : ℕ) : Type 0 where
 abbrev pub RefusedTexts : Type 0
 RefusedTexts = (source : Text) (place : ℕ) → read_of source ≡ Err (NoParse place) → IsRefusedAt source place
 
--- where a token passes a limit, what stands before it goes on to a text in the grammar
+-- what stands before the first token that passes a limit goes on to a text in the grammar
 abbrev pub PassedTexts : Type 0
-PassedTexts = (source : Text) (place : ℕ) (limit : Limit) → read_of source ≡ Err (refusal_of limit place) → GoesOn (text_before source place)
+PassedTexts = (source : Text) (place : ℕ) (limit : Limit) → read_of source ≡ Err (refusal_of limit place)
+    → (number : ℕ) × (first_passed source (tokens_of source) ≡ Some (number, limit)) × (place ≡ place_in source (tokens_of source) number) × GoesOnBefore source number
