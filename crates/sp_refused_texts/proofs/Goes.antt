@@ -106,7 +106,7 @@ module _ (front : Text) (found : List Scanned) (breaks : Bool) (cut : IsCutAt fr
 nothing_found : IsCutAt [] [] false
 nothing_found = record { scans = λ z edge. (length z, omega arith, refl) }
 
-cut_length : (n : ℕ) (source : Text) → n ≤ length source → length (take n source) ≡ n
+pub cut_length : (n : ℕ) (source : Text) → n ≤ length source → length (take n source) ≡ n
 cut_length n source le = let l = length-take n source in omega (arith, l, le)
 
 -- a token that was found, and what stands behind
@@ -114,7 +114,7 @@ joined : (all before ss rest more : List Scanned) (s one : Scanned) (scan : List
 joined all before ss rest more s one scan whole is first same left =
     is ∙ ap (λ x. before ++ x) (first ∙ ap (λ x. x ∷ rest) same ∙ ap (λ x. s ∷ x) left) ∙ sym (append_assoc before (s ∷ []) more) ∙ ap (λ x. x ++ more) (sym whole)
 
-found_behind : (source : Text) (found back : List Scanned) → scanned source ≡ found ++ back → AreOrdered (length source) 0 (found ++ back) → AreReal found → IsCutAt (take (last_end 0 found) source) found false
+pub found_behind : (source : Text) (found back : List Scanned) → scanned source ≡ found ++ back → AreOrdered (length source) 0 (found ++ back) → AreReal found → IsCutAt (take (last_end 0 found) source) found false
 found_behind source [] back e ordered real = nothing_found
 found_behind source (f ∷ found) back e ordered real =
     let l = last_of f found in
@@ -128,7 +128,7 @@ found_behind source (f ∷ found) back e ordered real =
         let same = g.2.same parts.1 in
         (same.1, same.2, joined (f ∷ found) l.before g.0 g.2.rest (scan_from same.1 (length (take l.last.token.end source)) false z) l.last g.2.one (scanned (take l.last.token.end source ++ z)) l.is g.1 g.2.is same.0 (same.3 ∙ ap (λ n. scan_from same.1 n false z) (sym many))) })
 
-found_before : (source : Text) (found : List Scanned) (s : Scanned) (back : List Scanned) → scanned source ≡ found ++ s ∷ back → AreReal found → s.token.at < s.token.end → IsCutAt (take s.token.at source) found s.breaks
+pub found_before : (source : Text) (found : List Scanned) (s : Scanned) (back : List Scanned) → scanned source ≡ found ++ s ∷ back → AreReal found → s.token.at < s.token.end → IsCutAt (take s.token.at source) found s.breaks
 found_before source found s back e real some =
     let c = cut_before source found s back e real some in
     let many = cut_length s.token.at source c.0 in

@@ -5,3 +5,4 @@ pub mod Cuts
 pub mod Parts
 pub mod Spelled
 pub mod Goes
+pub mod Before
