@@ -37,7 +37,7 @@ inserted : (before : TokenKind) (brackets : List TokenKind) (s : Scanned) → in
 inserted before brackets s e = begins_first s.breaks (may_end before) (may_begin s.token.kind) _ e
 
 module _ (source : Text) where
-  ordered : (found back : List Scanned) → scanned source ≡ found ++ back → AreOrdered (length source) 0 (found ++ back)
+  pub ordered : (found back : List Scanned) → scanned source ≡ found ++ back → AreOrdered (length source) 0 (found ++ back)
   ordered found back e = subst (AreOrdered (length source) 0) e (scanned_ordered (length source) 0 false source (length source) (omega arith))
 
   -- the first of the tokens, with what is behind them in a text that goes on

@@ -31,7 +31,7 @@ alike_then a b c [] h g = tt
 alike_then a b c (t ∷ ts) h g = (h.0 ∙ g.0, alike_then a b c ts h.1 g.1)
 
 -- tokens that end within what two texts begin with spell the same in both
-both_begin : (front source other : Text) (ts : List Token) → EndWithin front ts → SpellAlike (front ++ source) (front ++ other) ts
+pub both_begin : (front source other : Text) (ts : List Token) → EndWithin front ts → SpellAlike (front ++ source) (front ++ other) ts
 both_begin front source other ts h = alike_then (front ++ source) front (front ++ other) ts (alike_back front (front ++ source) ts (alike_on front source ts h)) (alike_on front other ts h)
 
 -- the same ones, and behind them others, of which numbers spell 1

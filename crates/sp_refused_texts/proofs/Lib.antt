@@ -6,3 +6,4 @@ pub mod Parts
 pub mod Spelled
 pub mod Goes
 pub mod Before
+pub mod Refused

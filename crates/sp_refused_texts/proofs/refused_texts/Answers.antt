@@ -1,4 +1,5 @@
+use Rattle.sp_refused_texts.proofs.Refused.{refused}
 use Rattle.sp_refused_texts.proofs.refused_texts.Goals as goal
 
 pub returns : goal.returns
-returns c = ?
+returns c = refused
