@@ -68,7 +68,7 @@ past_upto class u w z at le fits stop =
     omega (arith, a, b, same)
 
 -- a byte that is of a class is one of its run
-seen_prefix : (p : ℕ → Bool) → p 0 ≡ false → (t : Text) (n : ℕ) → p (slice_index t n) ≡ true → 1 ≤ prefix_len p (drop n t)
+pub seen_prefix : (p : ℕ → Bool) → p 0 ≡ false → (t : Text) (n : ℕ) → p (slice_index t n) ≡ true → 1 ≤ prefix_len p (drop n t)
 seen_prefix p none [] n e = let bad : true ≡ false = sym e ∙ none in absurd (cc)
 seen_prefix p none (b ∷ t) zero e = rw e (omega arith)
 seen_prefix p none (b ∷ t) (suc n) e = seen_prefix p none t n e
@@ -84,7 +84,7 @@ word_again u w z edge fits =
     word_piece (past Word (u ++ z) 0) (past Word (u ++ w) 0) (u ++ z) (u ++ w) same (take-append-le (past Word (u ++ w) 0) u z fits ∙ sym (take-append-le (past Word (u ++ w) 0) u w fits))
 
 -- a point, and a digit behind it
-abbrev has_point_at : Text → ℕ → Bool
+abbrev pub has_point_at : Text → ℕ → Bool
 has_point_at text q = slice_index text q == 46 && is_ascii_digit (slice_index text (suc q))
 
 falsely : (b : Bool) → (b ≡ true → ⊥) → false ≡ b
@@ -105,10 +105,10 @@ point_same (x ∷ []) w z zero edge le far =
 point_same (x ∷ y ∷ u) w z zero edge le far = refl
 point_same (x ∷ u) w z (suc q) edge le far = point_same u w z q edge (omega (arith, le)) (λ e. let l = far e in omega (arith, l))
 
-abbrev end_by : Text → ℕ → ℕ
+abbrev pub end_by : Text → ℕ → ℕ
 end_by text q = if has_point_at text q then past Digit text (suc q) else q
 
-end_is : (text : Text) → number_end text ≡ end_by text (past Digit text 0)
+pub end_is : (text : Text) → number_end text ≡ end_by text (past Digit text 0)
 end_is text = let on : past Digit text 0 + 1 ≡ suc (past Digit text 0) = omega arith in rw on refl
 
 least_end : (text : Text) (q : ℕ) → q ≤ end_by text q
@@ -145,10 +145,10 @@ end_again u w z edge fits =
     end_is (u ++ z) ∙ ap (end_by (u ++ z)) same ∙ end_by_again u w z (past Digit (u ++ w) 0) edge few all ∙ sym old
 
 -- `0x` and a digit of it
-abbrev is_hex_at : Text → Bool
+abbrev pub is_hex_at : Text → Bool
 is_hex_at text = slice_index text 0 == 48 && slice_index text 1 == 120 && is_ascii_hexdigit (slice_index text 2)
 
-third : (a b c : Bool) → (a && b && c) ≡ true → c ≡ true
+pub third : (a b c : Bool) → (a && b && c) ≡ true → c ≡ true
 third true true c e = e
 third true false c e = absurd (cc)
 third false b c e = absurd (cc)
@@ -212,7 +212,7 @@ underscore_again u w z some edge fits =
 
 -- ---- comments
 
-comment_past : (before : ℕ) (w : Text) (len : ℕ) → comment_from before w ≡ Some len → len ≤ before → ⊥
+pub comment_past : (before : ℕ) (w : Text) (len : ℕ) → comment_from before w ≡ Some len → len ≤ before → ⊥
 comment_past before [] len is le = absurd (cc)
 comment_past before (b ∷ w) len is le = go (b == 42 && slice_index w 0 == 47) is (comment_past (before + 1) w len)
   where
@@ -305,11 +305,11 @@ slash_again (x ∷ y ∷ v) w z some edge fits = go (y == 47) (y == 42) fits
 
 -- ---- signs
 
-both_left : (a b : Bool) → (a && b) ≡ true → a ≡ true
+pub both_left : (a b : Bool) → (a && b) ≡ true → a ≡ true
 both_left true b e = refl
 both_left false b e = absurd (cc)
 
-both_right : (a b : Bool) → (a && b) ≡ true → b ≡ true
+pub both_right : (a b : Bool) → (a && b) ≡ true → b ≡ true
 both_right true b e = e
 both_right false b e = absurd (cc)
 
@@ -390,7 +390,7 @@ same_kin (piece.Token kind len) q e = (len, e, λ _. refl)
 same_kin piece.Open q e = e
 
 -- what is told of a text by its first byte
-abbrev front_by : ℕ → Text → (blank slash letter digit underscore low : Bool) → Piece
+abbrev pub front_by : ℕ → Text → (blank slash letter digit underscore low : Bool) → Piece
 front_by x text c d e f g h = if c then piece.Gap 1 else (if d then a_slash text else (if e then a_word text else (if f then a_number text else (if g then an_underscore text
     else (if h then a_sign (sign_of text) else piece.Token k.Other (min (char_len x) (length text)))))))
 

@@ -7,3 +7,4 @@ pub mod Spelled
 pub mod Goes
 pub mod Before
 pub mod Refused
+pub mod Low
