@@ -2,7 +2,7 @@
 use Rattle.std.proofs.Common.{◌≡◌, ◌∙◌, ◌⊎◌, inl, inr, ℕ, zero, suc, ◌+◌, ◌-◌, ◌≤◌, ◌<◌, ◌==◌, ◌||◌, not, nat_le, nat_lt, Bool, true, false, List, [], ◌∷◌, ◌++◌, length, take, drop, length-append, length-take, length-drop, refl, sym, ap, subst, arith}
 use Rattle.std.specs.Prelude.{slice_index}
 use Rattle.std.specs.List.{list_any}
-use Rattle.std.proofs.lemmas.List.{take-append-drop}
+use Rattle.std.proofs.lemmas.List.{take-append-drop, get_or-drop}
 use Rattle.sp_reader.specs.declared.scan.Piece.{Piece}
 use Rattle.sp_reader.specs.declared.scan.Piece.TheVariants as piece
 use Rattle.sp_reader.specs.declared.scan.Scanned.{Scanned}
@@ -12,6 +12,7 @@ use Rattle.sp_reader.specs.Steps.{Text}
 use Rattle.sp_reader.specs.Tokens.{front, token_of, scan_from, scanned}
 use Rattle.sp_refusals.proofs.Within.{PieceWithin, front_within}
 use Rattle.sp_refused_texts.proofs.Fronts.{Fits, NoLineEnd, Kin, is_written, fits_upto, front_again}
+use Rattle.sp_refused_texts.proofs.Low.{IsLow, EndsLow, ends_low}
 use Rattle.sp_refused_texts.proofs.Order.{breaks_then, scan_gap, scan_token, scan_open, scan_none, scan_stopped, scan_dropped, some_byte, AreOrdered, scanned_ordered, before_one}
 
 -- ---- a text that is cut
@@ -128,7 +129,16 @@ AreReal (s ∷ rest) = (is_written s.token.kind ≡ true) × AreReal rest
 record IsCut (at : ℕ) (breaks : Bool) (text : Text) (found : List Scanned) (s : Scanned) : Type 0 where
   first : at ≤ s.token.at
   last : s.token.end ≤ at + length text
+  low : is_written s.token.kind ≡ true → IsLow text (s.token.end - at)
   leads : Leads at breaks text (s.token.end - at) found (Found s)
+
+-- the byte before a place behind a piece
+low_on : (len count : ℕ) (text : Text) → len < count → IsLow (drop len text) (count - len) → IsLow text count
+low_on len count text less h m e =
+    let here = h (m - len) (omega (arith, e, less)) in
+    let there = get_or-drop len text (m - len) 0 in
+    let same : len + (m - len) ≡ m = omega (arith, e, less) in
+    subst (λ b. b < 128) (there ∙ ap (slice_index text) same) here
 
 none_there : (found : List Scanned) (s : Scanned) (back : List Scanned) → ◌≡◌ {A = List Scanned} [] (found ++ s ∷ back) → ⊥
 none_there [] s back e = absurd (cc)
@@ -146,6 +156,7 @@ cut_gap at breaks b t len found s is some c =
     record {
       first = omega (arith, low);
       last = omega (arith, d, low, high, some);
+      low = λ real. low_on len (s.token.end - at) (b ∷ t) less (subst (IsLow (drop len (b ∷ t))) same (c.low real));
       leads = lead_gap at breaks b t (s.token.end - at) len found (Found s) is (inl less) few (subst (λ m. Leads (at + len) (breaks_then breaks len (b ∷ t)) (drop len (b ∷ t)) m found (Found s)) same c.leads);
     }
 
@@ -161,6 +172,7 @@ cut_token at breaks b t kind len found s is real some c =
     record {
       first = omega (arith, low);
       last = omega (arith, d, low, high, some);
+      low = λ real. low_on len (s.token.end - at) (b ∷ t) (omega (arith, low, some)) (subst (IsLow (drop len (b ∷ t))) same (c.low real));
       leads = lead_token at breaks b t (s.token.end - at) kind len found (Found s) is real less few (subst (λ m. Leads (at + len) false (drop len (b ∷ t)) m found (Found s)) same c.leads);
     }
 
@@ -171,6 +183,7 @@ cut_last at breaks b t kind len is =
     record {
       first = omega arith;
       last = omega (arith, few);
+      low = subst (λ m. is_written kind ≡ true → IsLow (b ∷ t) m) same (subst (EndsLow (b ∷ t)) is (ends_low b t));
       leads = subst (λ m. Leads at breaks (b ∷ t) m [] (Found (token_of kind at (at + len) breaks))) same (lead_last at breaks b t kind len is few);
     }
 
@@ -217,6 +230,7 @@ Rest s z ss = (n : ℕ) × (length z ≤ n) × (ss ≡ scan_from n s.token.at s.
 record IsBefore (at : ℕ) (breaks : Bool) (text : Text) (found : List Scanned) (s : Scanned) : Type 0 where
   first : at ≤ s.token.at
   last : s.token.at ≤ at + length text
+  low : IsLow text (s.token.at - at)
   leads : Leads at breaks text (s.token.at - at) found (Rest s)
 
 line_end_gap : (c : ℕ) (w : Text) → (c == 10) ≡ true → front (c ∷ w) ≡ piece.Gap 1
@@ -242,6 +256,7 @@ before_gap : (at : ℕ) (breaks : Bool) (b : ℕ) (t : Text) (len : ℕ) (found 
 before_gap at breaks b t len found s is line c d within = record {
   first = omega (arith, c.first);
   last = omega (arith, d, c.first, c.last, within);
+  low = ends (nat_lt len (s.token.at - at)) refl;
   leads = lead_gap at breaks b t (s.token.at - at) len found (Rest s) is (fits (nat_lt len (s.token.at - at)) refl) few (subst (λ m. Leads (at + len) (breaks_then breaks len (b ∷ t)) (drop len (b ∷ t)) m found (Rest s)) same c.leads);
 }
   where
@@ -258,6 +273,14 @@ before_gap at breaks b t len found s is line c d within = record {
         let equal : len ≡ s.token.at - at = omega (arith, least, c.first) in
         inr (omega (arith, equal), subst (λ m. NoLineEnd (drop m (b ∷ t))) equal (line (omega (arith, equal, c.first))))
 
+    ends : (less : Bool) → nat_lt len (s.token.at - at) ≡ less → IsLow (b ∷ t) (s.token.at - at)
+    ends true lt = low_on len (s.token.at - at) (b ∷ t) (grind arith) (subst (IsLow (drop len (b ∷ t))) same c.low)
+    ends false lt =
+        let least : s.token.at - at ≤ len = grind arith in
+        let equal : len ≡ s.token.at - at = omega (arith, least, c.first) in
+        let gap : EndsLow (b ∷ t) (piece.Gap len) = subst (EndsLow (b ∷ t)) is (ends_low b t) in
+        subst (IsLow (b ∷ t)) equal (gap (line (omega (arith, equal, c.first))))
+
 before_token : (at : ℕ) (breaks : Bool) (b : ℕ) (t : Text) (kind : TokenKind) (len : ℕ) (found : List Scanned) (s : Scanned) → front (b ∷ t) ≡ piece.Token kind len → is_written kind ≡ true
     → IsBefore (at + len) false (drop len (b ∷ t)) found s → IsBefore at breaks (b ∷ t) (token_of kind at (at + len) breaks ∷ found) s
 before_token at breaks b t kind len found s is real c =
@@ -271,13 +294,27 @@ before_token at breaks b t kind len found s is real c =
     record {
       first = omega (arith, low);
       last = omega (arith, d, low, high, within);
+      low = ends (nat_lt len (s.token.at - at)) refl;
       leads = lead_token at breaks b t (s.token.at - at) kind len found (Rest s) is real less few (subst (λ m. Leads (at + len) false (drop len (b ∷ t)) m found (Rest s)) same c.leads);
     }
+  where
+    ends : (less : Bool) → nat_lt len (s.token.at - at) ≡ less → IsLow (b ∷ t) (s.token.at - at)
+    ends true lt =
+        let low = c.first in
+        let same : s.token.at - (at + len) ≡ (s.token.at - at) - len = omega arith in
+        low_on len (s.token.at - at) (b ∷ t) (grind arith) (subst (IsLow (drop len (b ∷ t))) same c.low)
+    ends false lt =
+        let low = c.first in
+        let least : s.token.at - at ≤ len = grind arith in
+        let equal : len ≡ s.token.at - at = omega (arith, least, low) in
+        let token : EndsLow (b ∷ t) (piece.Token kind len) = subst (EndsLow (b ∷ t)) is (ends_low b t) in
+        subst (IsLow (b ∷ t)) equal (token real)
 
 before_here : (at : ℕ) (breaks : Bool) (text : Text) (kind : TokenKind) (len : ℕ) → IsBefore at breaks text [] (token_of kind at (at + len) breaks)
 before_here at breaks text kind len = record {
   first = omega arith;
   last = omega arith;
+  low = λ m e. absurd (omega (arith, e));
   leads = let none : 0 ≡ at - at = omega arith in subst (λ m. Leads at breaks text m [] (Rest (token_of kind at (at + len) breaks))) none (λ z n edge enough. (scan_from n at breaks z, refl, (n, enough, refl)));
 }
 
@@ -324,20 +361,20 @@ is_before (suc n) at breaks (b ∷ t) found s back e real some = go (front (b �
 
 -- what is cut behind a token
 pub cut_behind : (source : Text) (found : List Scanned) (s : Scanned) (back : List Scanned) → scanned source ≡ found ++ s ∷ back → AreReal found → s.token.at < s.token.end
-    → (s.token.end ≤ length source) × ((z : Text) → slice_index z 0 ≤ 32 → (ss : List Scanned) × (scanned (take s.token.end source ++ z) ≡ found ++ ss) × Found s z ss)
+    → (s.token.end ≤ length source) × (is_written s.token.kind ≡ true → IsLow source s.token.end) × ((z : Text) → slice_index z 0 ≤ 32 → (ss : List Scanned) × (scanned (take s.token.end source ++ z) ≡ found ++ ss) × Found s z ss)
 cut_behind source found s back e real some =
     let c = is_cut (length source) 0 false source found s back e real some in
     let same : s.token.end - 0 ≡ s.token.end = omega arith in
     let leads : Leads 0 false source s.token.end found (Found s) = subst (λ m. Leads 0 false source m found (Found s)) same c.leads in
     let high = c.last in
-    (omega (arith, high), λ z edge. leads z (length (take s.token.end source ++ z)) edge (omega arith))
+    (omega (arith, high), subst (λ m. is_written s.token.kind ≡ true → IsLow source m) same c.low, λ z edge. leads z (length (take s.token.end source ++ z)) edge (omega arith))
 
 -- what is cut before a token
 pub cut_before : (source : Text) (found : List Scanned) (s : Scanned) (back : List Scanned) → scanned source ≡ found ++ s ∷ back → AreReal found → s.token.at < s.token.end
-    → (s.token.at ≤ length source) × ((z : Text) → slice_index z 0 ≤ 32 → (n : ℕ) × (length z ≤ n) × (scanned (take s.token.at source ++ z) ≡ found ++ scan_from n s.token.at s.breaks z))
+    → (s.token.at ≤ length source) × IsLow source s.token.at × ((z : Text) → slice_index z 0 ≤ 32 → (n : ℕ) × (length z ≤ n) × (scanned (take s.token.at source ++ z) ≡ found ++ scan_from n s.token.at s.breaks z))
 cut_before source found s back e real some =
     let c = is_before (length source) 0 false source found s back e real some in
     let same : s.token.at - 0 ≡ s.token.at = omega arith in
     let leads : Leads 0 false source s.token.at found (Rest s) = subst (λ m. Leads 0 false source m found (Rest s)) same c.leads in
     let high = c.last in
-    (omega (arith, high), λ z edge. let l = leads z (length (take s.token.at source ++ z)) edge (omega arith) in (l.2.0, l.2.1, l.1 ∙ ap (λ ss. found ++ ss) l.2.2))
+    (omega (arith, high), subst (IsLow source) same c.low, λ z edge. let l = leads z (length (take s.token.at source ++ z)) edge (omega arith) in (l.2.0, l.2.1, l.1 ∙ ap (λ ss. found ++ ss) l.2.2))

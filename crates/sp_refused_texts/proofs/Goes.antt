@@ -124,7 +124,7 @@ found_behind source (f ∷ found) back e ordered real =
     let c = cut_behind source l.before l.last back whole parts.0 (real_some l.last back one.1 parts.1) in
     let many = cut_length l.last.token.end source c.0 in
     subst (λ n. IsCutAt (take n source) (f ∷ found) false) (sym (l.ends 0)) (record { scans = λ z edge.
-        let g = c.1 z edge in
+        let g = c.2 z edge in
         let same = g.2.same parts.1 in
         (same.1, same.2, joined (f ∷ found) l.before g.0 g.2.rest (scan_from same.1 (length (take l.last.token.end source)) false z) l.last g.2.one (scanned (take l.last.token.end source ++ z)) l.is g.1 g.2.is same.0 (same.3 ∙ ap (λ n. scan_from same.1 n false z) (sym many))) })
 
@@ -132,4 +132,4 @@ pub found_before : (source : Text) (found : List Scanned) (s : Scanned) (back : 
 found_before source found s back e real some =
     let c = cut_before source found s back e real some in
     let many = cut_length s.token.at source c.0 in
-    record { scans = λ z edge. let l = c.1 z edge in (l.0, l.1, l.2 ∙ ap (λ n. found ++ scan_from l.0 n s.breaks z) (sym many)) }
+    record { scans = λ z edge. let l = c.2 z edge in (l.0, l.1, l.2 ∙ ap (λ n. found ++ scan_from l.0 n s.breaks z) (sym many)) }

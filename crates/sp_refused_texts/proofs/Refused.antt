@@ -144,7 +144,7 @@ module _ (source : Text) (number : ℕ) (among : number ≤ length (tokens_of so
           let real = real_first source p.found p.back (take number (tokens_of source)) p.first first.before in
           let whole : scanned source ≡ p.found ++ s ∷ there.0 = p.whole ∙ ap (λ x. p.found ++ x) there.1 in
           let cut = cut_behind source p.found s there.0 whole real w.some in
-          let c = cut.1 more (edge_low more apart) in
+          let c = cut.2 more (edge_low more apart) in
           let far = reaches k.End [] p.found p.back s (take number (tokens_of source)) p.first there.0 there.1 in
           let count : length (take number (tokens_of source)) ≡ number = (let l = length-take number (tokens_of source) in omega (arith, l, among)) in
           refused_by (take s.token.end source ++ more) _ _ _ _ is.0 (upto_one source p.found s there.0 whole) (upto_one (take s.token.end source ++ more) p.found c.2.one c.2.rest (c.1 ∙ ap (λ x. p.found ++ x) c.2.is))
