@@ -1,5 +1,6 @@
 -- What stands before a token of a text goes on to a text in the grammar where the tokens before it go on.
 use Rattle.std.proofs.Common.{◌≡◌, ◌∙◌, ◌⊎◌, inl, inr, ℕ, zero, suc, ◌+◌, ◌≤◌, ◌<◌, ◌&&◌, Bool, true, false, List, [], ◌∷◌, ◌++◌, length, take, drop, append_assoc, refl, sym, ap, subst, arith}
+use Rattle.std.specs.Str.{IsUtf8}
 use Rattle.std.proofs.lemmas.List.{take-append-drop}
 use Rattle.sp_reader.specs.declared.scan.Scanned.{Scanned}
 use Rattle.sp_reader.specs.declared.token.Token.{Token}
@@ -15,6 +16,7 @@ use Rattle.sp_refusals.specs.Texts.{GoOn}
 use Rattle.sp_refused_texts.specs.Laws.{GoesOn, end_of, IsWrittenAt, GoesOnBefore}
 use Rattle.sp_refused_texts.proofs.Fronts.{is_written}
 use Rattle.sp_refused_texts.proofs.Written.{written_left, program_written}
+use Rattle.sp_refused_texts.proofs.Utf8.{cut_utf8}
 use Rattle.sp_refused_texts.proofs.Order.{AreOrdered, scanned_ordered, real_some}
 use Rattle.sp_refused_texts.proofs.Cuts.{AreReal, heads}
 use Rattle.sp_refused_texts.proofs.Parts.{kind_after, open_after, semi, first_place, AreFirst, IsParted, parted, real_found, last_end, end_found, end_last, tokens_end, last_within, last_upto, ordered_at, split_at, same_split}
@@ -41,7 +43,7 @@ module _ (source : Text) where
   ordered found back e = subst (AreOrdered (length source) 0) e (scanned_ordered (length source) 0 false source (length source) (omega arith))
 
   -- the first of the tokens, with what is behind them in a text that goes on
-  module _ (found back : List Scanned) (whole : scanned source ≡ found ++ back) (real : AreReal found) (more : Text) (rest : List Token) (tree : PlainSyntax) (is : IsProgram (source ++ more) (separated k.End [] found ++ rest) tree) where
+  module _ (valid : IsUtf8 source) (found back : List Scanned) (whole : scanned source ≡ found ++ back) (real : AreReal found) (more : Text) (rest : List Token) (tree : PlainSyntax) (is : IsProgram (source ++ more) (separated k.End [] found ++ rest) tree) where
     beyond : ℕ → Text
     beyond n = drop n source ++ more
 
@@ -53,7 +55,8 @@ module _ (source : Text) where
     goes_behind =
         let few = last_within (length source) 0 found back (omega arith) (ordered found back whole) in
         let many = cut_length (last_end 0 found) source few in
-        goes (take (last_end 0 found) source) found false (found_behind source found back whole (ordered found back whole) real) (beyond (last_end 0 found)) rest tree
+        let cut = found_behind source found back whole (ordered found back whole) real in
+        goes (take (last_end 0 found) source) found false cut.0 (beyond (last_end 0 found)) rest tree (cut_utf8 source (last_end 0 found) valid few cut.1)
         (tokens_end (length source) 0 k.End [] found back (take (last_end 0 found) source) (ordered found back whole) (omega (arith, many))) (again (last_end 0 found)) (inl refl)
 
     goes_upto : (s : Scanned) (behind : List Scanned) → back ≡ s ∷ behind → s.token.at < s.token.end → (s.breaks ≡ false) ⊎ NoneBefore rest → GoesOn (take s.token.at source)
@@ -64,7 +67,8 @@ module _ (source : Text) where
         let few : s.token.at ≤ length source = (let high = at.1.1 in omega (arith, high, some)) in
         let many = cut_length s.token.at source few in
         let upto = last_upto (length source) 0 found s behind o in
-        goes (take s.token.at source) found s.breaks (found_before source found s behind one real some) (beyond s.token.at) rest tree
+        let cut = found_before source found s behind one real some in
+        goes (take s.token.at source) found s.breaks cut.0 (beyond s.token.at) rest tree (cut_utf8 source s.token.at valid few cut.1)
         (tokens_end (length source) 0 k.End [] found (s ∷ behind) (take s.token.at source) o (omega (arith, many, upto))) (again s.token.at) first
 
   -- what is written at the place of the first of the others is that first one
@@ -73,14 +77,14 @@ module _ (source : Text) where
       let c = split_at (scanned source) s w.one in
       (c.1, (same_split source 0 found back c.0 c.1 s (sym whole ∙ c.2) (ordered found back whole) w.some (sym first ∙ sym w.begins)).1)
 
-  module _ (number : ℕ) (on : GoOn source (take number (tokens_of source))) (found back : List Scanned) (whole : scanned source ≡ found ++ back) (place : place_in source (tokens_of source) number ≡ first_place source back) where
+  module _ (valid : IsUtf8 source) (number : ℕ) (on : GoOn source (take number (tokens_of source))) (found back : List Scanned) (whole : scanned source ≡ found ++ back) (place : place_in source (tokens_of source) number ≡ first_place source back) where
     plainly : take number (tokens_of source) ≡ separated k.End [] found → GoesOnBefore source number
     plainly e =
         let is : IsProgram (source ++ on.0) (separated k.End [] found ++ on.1) on.2 = subst (λ ts. IsProgram (source ++ on.0) (ts ++ on.1) on.2) e on.3 in
         let real = real_found k.End [] found (written_left (separated k.End [] found) on.1 (program_written (source ++ on.0) is)) in
         record {
-          behind = subst (λ n. GoesOn (take n source)) (sym (ap (end_of 0) e ∙ end_found 0 k.End [] found)) (goes_behind found back whole real on.0 on.1 on.2 is);
-          up_to = λ s w flat. let h = at_place (place_in source (tokens_of source) number) found back whole place s w in goes_upto found back whole real on.0 on.1 on.2 is s h.0 h.1 w.some (inl flat);
+          behind = subst (λ n. GoesOn (take n source)) (sym (ap (end_of 0) e ∙ end_found 0 k.End [] found)) (goes_behind valid found back whole real on.0 on.1 on.2 is);
+          up_to = λ s w flat. let h = at_place (place_in source (tokens_of source) number) found back whole place s w in goes_upto valid found back whole real on.0 on.1 on.2 is s h.0 h.1 w.some (inl flat);
         }
 
     behind_semi : (s : Scanned) (rest : List Scanned) → back ≡ s ∷ rest → inserts (kind_after k.End found) (open_after [] found) s ≡ true → take number (tokens_of source) ≡ separated k.End [] found ++ semi s ∷ [] → GoesOnBefore source number
@@ -92,7 +96,7 @@ module _ (source : Text) where
         let o = ordered_at (length source) 0 found s rest (ordered found (s ∷ rest) (whole ∙ ap (λ x. found ++ x) first)) in
         let some = real_some s rest o.1 (begins_written s.token.kind begun.1) in
         record {
-          behind = subst (λ n. GoesOn (take n source)) (sym (ap (end_of 0) e ∙ end_last 0 (separated k.End [] found) (semi s))) (goes_upto found back whole real on.0 (semi s ∷ on.1) on.2 is s rest first some (inr refl));
+          behind = subst (λ n. GoesOn (take n source)) (sym (ap (end_of 0) e ∙ end_last 0 (separated k.End [] found) (semi s))) (goes_upto valid found back whole real on.0 (semi s ∷ on.1) on.2 is s rest first some (inr refl));
           up_to = λ t w flat.
               let h = at_place (place_in source (tokens_of source) number) found back whole place t w in
               let same = (heads s t rest h.0 (sym first ∙ h.1)).0 in
@@ -100,13 +104,13 @@ module _ (source : Text) where
               absurd (cc);
         }
 
-  pub goes_before : (number : ℕ) → number ≤ length (tokens_of source) → GoOn source (take number (tokens_of source)) → GoesOnBefore source number
+  pub goes_before : IsUtf8 source → (number : ℕ) → number ≤ length (tokens_of source) → GoOn source (take number (tokens_of source)) → GoesOnBefore source number
   unfolding tokens_of
-  goes_before number among on = by (parted source k.End [] (scanned source) number among)
+  goes_before valid number among on = by (parted source k.End [] (scanned source) number among)
     where
       by : IsParted source k.End [] (scanned source) number → GoesOnBefore source number
       by p = go p.first
         where
           go : AreFirst k.End [] p.found p.back (take number (separated k.End [] (scanned source))) → GoesOnBefore source number
-          go (AreFirst.plain e) = plainly number on p.found p.back p.whole p.place e
-          go (AreFirst.with_semi s rest is ins e) = behind_semi number on p.found p.back p.whole p.place s rest is ins e
+          go (AreFirst.plain e) = plainly valid number on p.found p.back p.whole p.place e
+          go (AreFirst.with_semi s rest is ins e) = behind_semi valid number on p.found p.back p.whole p.place s rest is ins e

@@ -1,6 +1,8 @@
 -- Tokens that go on in the grammar stand in a text that goes on in it.
 use Rattle.std.proofs.Common.{◌≡◌, ◌∙◌, ◌⊎◌, inl, inr, ℕ, zero, suc, ◌+◌, ◌-◌, ◌≤◌, ◌<◌, ◌&&◌, Bool, true, false, List, [], ◌∷◌, ◌++◌, length, take, drop, length-append, length-take, append_assoc, refl, sym, ap, subst, arith, if◌then◌else◌}
 use Rattle.std.specs.Prelude.{slice_index}
+use Rattle.std.specs.Str.{IsUtf8}
+use Rattle.std.proofs.lemmas.Str.{IsUtf8-append}
 use Rattle.std.proofs.lemmas.List.{append-nil, take-append-drop}
 use Rattle.sp_reader.specs.declared.scan.Scanned.{Scanned}
 use Rattle.sp_reader.specs.declared.token.Token.{Token}
@@ -19,6 +21,8 @@ use Rattle.sp_scanned.proofs.Steps.{blank_step, broken, unbroken, as_unbroken}
 use Rattle.sp_refused_texts.specs.Laws.{IsInGrammar, GoesOn, end_of, IsWrittenAt, GoesOnBefore}
 use Rattle.sp_refused_texts.proofs.Fronts.{is_written}
 use Rattle.sp_refused_texts.proofs.Written.{AreWritten, written_left, written_right, program_written}
+use Rattle.sp_refused_texts.proofs.Low.{IsLow}
+use Rattle.sp_refused_texts.proofs.Utf8.{no_fault, spelled_utf8}
 use Rattle.sp_refused_texts.proofs.Order.{AreOrdered, scanned_ordered, real_some, followed_some, not_back}
 use Rattle.sp_refused_texts.proofs.Cuts.{AreReal, cut_behind, cut_before}
 use Rattle.sp_refused_texts.proofs.Parts.{kind_after, open_after, last_upto, ordered_at, last_of, real_parts, split_at, same_split, separated_on, semi, AreFirst, IsParted, parted, real_found, last_end, end_found, end_last, tokens_end, last_within, ends_upto}
@@ -92,14 +96,14 @@ module _ (front : Text) (found : List Scanned) (breaks : Bool) (cut : IsCutAt fr
   from z edge = let c = cut.scans z edge in record { done = front; joined = refl; at = length front; place = refl; turns = c.0; enough = c.1; are = refl }
 
   -- where the tokens that were found go on, the text does
-  pub goes : (beyond : Text) (rest : List Token) (tree : PlainSyntax) → EndWithin front (separated k.End [] found) → IsProgram (front ++ beyond) (separated k.End [] found ++ rest) tree → (breaks ≡ false) ⊎ NoneBefore rest → GoesOn front
-  goes beyond rest tree within is first =
+  pub goes : (beyond : Text) (rest : List Token) (tree : PlainSyntax) → IsUtf8 front → EndWithin front (separated k.End [] found) → IsProgram (front ++ beyond) (separated k.End [] found ++ rest) tree → (breaks ≡ false) ⊎ NoneBefore rest → GoesOn front
+  goes beyond rest tree valid within is first =
       let real = program_written (front ++ beyond) is in
       let edge : slice_index (32 ∷ spelled rest) 0 ≤ 32 = omega arith in
       let ones = spelled_again (front ++ 32 ∷ spelled rest) breaks (kind_after k.End found) (open_after [] found) rest (behind (32 ∷ spelled rest) edge) (written_right (separated k.End [] found) rest real) first (blank_step (spelled rest) (from (32 ∷ spelled rest) edge)) in
       let near = near_behind (front ++ beyond) (front ++ 32 ∷ spelled rest) (separated k.End [] found) rest (behind (32 ∷ spelled rest) edge) (both_begin front beyond (32 ∷ spelled rest) (separated k.End [] found) within) ones in
       let again = program_like (front ++ beyond) (front ++ 32 ∷ spelled rest) is near in
-      (spelled rest, (again.0, subst (λ ts. IsProgram (front ++ 32 ∷ spelled rest) ts again.0) (sym (all (32 ∷ spelled rest) edge)) again.1))
+      (spelled rest, no_fault (front ++ 32 ∷ spelled rest) (IsUtf8-append front (32 ∷ spelled rest) valid (spelled_utf8 rest)), (again.0, subst (λ ts. IsProgram (front ++ 32 ∷ spelled rest) ts again.0) (sym (all (32 ∷ spelled rest) edge)) again.1))
 
 -- ---- the first tokens of a text
 
@@ -114,8 +118,8 @@ joined : (all before ss rest more : List Scanned) (s one : Scanned) (scan : List
 joined all before ss rest more s one scan whole is first same left =
     is ∙ ap (λ x. before ++ x) (first ∙ ap (λ x. x ∷ rest) same ∙ ap (λ x. s ∷ x) left) ∙ sym (append_assoc before (s ∷ []) more) ∙ ap (λ x. x ++ more) (sym whole)
 
-pub found_behind : (source : Text) (found back : List Scanned) → scanned source ≡ found ++ back → AreOrdered (length source) 0 (found ++ back) → AreReal found → IsCutAt (take (last_end 0 found) source) found false
-found_behind source [] back e ordered real = nothing_found
+pub found_behind : (source : Text) (found back : List Scanned) → scanned source ≡ found ++ back → AreOrdered (length source) 0 (found ++ back) → AreReal found → IsCutAt (take (last_end 0 found) source) found false × IsLow source (last_end 0 found)
+found_behind source [] back e ordered real = (nothing_found, λ m bad. absurd (omega (arith, bad)))
 found_behind source (f ∷ found) back e ordered real =
     let l = last_of f found in
     let parts = real_parts l.before l.last (subst AreReal l.is real) in
@@ -123,13 +127,13 @@ found_behind source (f ∷ found) back e ordered real =
     let one = ordered_at (length source) 0 l.before l.last back (subst (AreOrdered (length source) 0) (sym e ∙ whole) ordered) in
     let c = cut_behind source l.before l.last back whole parts.0 (real_some l.last back one.1 parts.1) in
     let many = cut_length l.last.token.end source c.0 in
-    subst (λ n. IsCutAt (take n source) (f ∷ found) false) (sym (l.ends 0)) (record { scans = λ z edge.
+    subst (λ n. IsCutAt (take n source) (f ∷ found) false × IsLow source n) (sym (l.ends 0)) (record { scans = λ z edge.
         let g = c.2 z edge in
         let same = g.2.same parts.1 in
-        (same.1, same.2, joined (f ∷ found) l.before g.0 g.2.rest (scan_from same.1 (length (take l.last.token.end source)) false z) l.last g.2.one (scanned (take l.last.token.end source ++ z)) l.is g.1 g.2.is same.0 (same.3 ∙ ap (λ n. scan_from same.1 n false z) (sym many))) })
+        (same.1, same.2, joined (f ∷ found) l.before g.0 g.2.rest (scan_from same.1 (length (take l.last.token.end source)) false z) l.last g.2.one (scanned (take l.last.token.end source ++ z)) l.is g.1 g.2.is same.0 (same.3 ∙ ap (λ n. scan_from same.1 n false z) (sym many))) }, c.1 parts.1)
 
-pub found_before : (source : Text) (found : List Scanned) (s : Scanned) (back : List Scanned) → scanned source ≡ found ++ s ∷ back → AreReal found → s.token.at < s.token.end → IsCutAt (take s.token.at source) found s.breaks
+pub found_before : (source : Text) (found : List Scanned) (s : Scanned) (back : List Scanned) → scanned source ≡ found ++ s ∷ back → AreReal found → s.token.at < s.token.end → IsCutAt (take s.token.at source) found s.breaks × IsLow source s.token.at
 found_before source found s back e real some =
     let c = cut_before source found s back e real some in
     let many = cut_length s.token.at source c.0 in
-    record { scans = λ z edge. let l = c.2 z edge in (l.0, l.1, l.2 ∙ ap (λ n. found ++ scan_from l.0 n s.breaks z) (sym many)) }
+    (record { scans = λ z edge. let l = c.2 z edge in (l.0, l.1, l.2 ∙ ap (λ n. found ++ scan_from l.0 n s.breaks z) (sym many)) }, c.1)

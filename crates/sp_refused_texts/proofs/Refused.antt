@@ -1,16 +1,19 @@
 -- No text that begins with a refused token and what stands before it is in the grammar.
-use Rattle.std.proofs.Common.{◌≡◌, ◌∙◌, ◌⊎◌, inl, inr, ℕ, zero, suc, ◌+◌, ◌≤◌, ◌<◌, ◌&&◌, Bool, true, false, nat_lt, List, [], ◌∷◌, ◌++◌, length, take, drop, length-append, length-take, append_assoc, Err, Some, refl, sym, ap, subst, arith, if◌then◌else◌}
+use Rattle.std.proofs.Common.{◌≡◌, ◌∙◌, ◌⊎◌, inl, inr, ℕ, zero, suc, ◌+◌, ◌≤◌, ◌<◌, ◌&&◌, Bool, true, false, nat_lt, List, [], ◌∷◌, ◌++◌, length, take, drop, length-append, length-take, append_assoc, Err, Option, Some, None, refl, sym, ap, subst, arith, if◌then◌else◌}
 use Rattle.std.specs.Prelude.{slice_index}
 use Rattle.std.specs.List.{Contains}
+use Rattle.std.specs.Str.{IsUtf8}
 use Rattle.std.proofs.lemmas.List.{append-nil, take-append-drop, take-append-le}
 use Rattle.std.proofs.lemmas.List.Elements.{Contains-append_right}
-use Rattle.sp_reader.specs.declared.error.ReadError.TheVariants.{NoParse}
+use Rattle.sp_reader.specs.declared.error.ReadError.{ReadError}
+use Rattle.sp_reader.specs.declared.error.ReadError.TheVariants.{NoParse, NotText}
 use Rattle.sp_reader.specs.declared.limits.Limit.{Limit}
+use Rattle.sp_reader.specs.declared.limits.Limit.TheVariants.{Deep, Wide}
 use Rattle.sp_reader.specs.declared.scan.Scanned.{Scanned}
 use Rattle.sp_reader.specs.declared.token.Token.{Token}
 use Rattle.sp_reader.specs.declared.token.TokenKind.{TokenKind}
 use Rattle.sp_reader.specs.declared.token.TokenKind.TheVariants as k
-use Rattle.sp_reader.specs.Limits.{first_passed, place_in, refusal_of, read_of}
+use Rattle.sp_reader.specs.Limits.{first_passed, place_in, refusal_of, fault_of, read_past, read_of}
 use Rattle.sp_reader.specs.PlainStatement.{PlainSyntax}
 use Rattle.sp_reader.specs.Steps.{Text, spelling_of, is_name}
 use Rattle.sp_reader.specs.Tokens.{is_blank, scanned, separated, tokens_of, inserts, may_begin, may_end, may_split, opened, with_separator}
@@ -21,6 +24,7 @@ use Rattle.sp_refusals.proofs.TextRefusals.{refused_first, passed_first, passed_
 use Rattle.sp_refused_texts.specs.Laws.{IsInGrammar, GoesOn, StandsApart, end_of, IsWrittenAt, GoesOnBefore, IsRefusedAt}
 use Rattle.sp_refused_texts.proofs.Fronts.{is_written}
 use Rattle.sp_refused_texts.proofs.Written.{written_left, program_written}
+use Rattle.sp_refused_texts.proofs.Utf8.{utf8_of}
 use Rattle.sp_refused_texts.proofs.Order.{AreOrdered, scanned_ordered, real_some}
 use Rattle.sp_refused_texts.proofs.Cuts.{AreReal, Found, cut_behind, heads}
 use Rattle.sp_refused_texts.proofs.Parts.{kind_after, open_after, separated_on, semi, first_place, AreFirst, IsParted, parted, real_found, last_end, tokens_end, last_upto, ordered_at}
@@ -175,6 +179,19 @@ module _ (source : Text) (number : ℕ) (among : number ≤ length (tokens_of so
 
 -- ---- the laws
 
+-- a text that is refused otherwise is UTF-8
+is_utf8 : (source : Text) (e : ReadError) → ((at : ℕ) → e ≡ NotText at → ⊥) → read_of source ≡ Err e → IsUtf8 source
+unfolding read_of
+is_utf8 source e other h = utf8_of source (go (fault_of source) h)
+  where
+    go : (o : Option ℕ) → read_past source o ≡ Err e → o ≡ None
+    go None h = refl
+    go (Some at) h = absurd (other at (cc))
+
+no_text : (limit : Limit) (place at : ℕ) → refusal_of limit place ≡ NotText at → ⊥
+no_text Deep place at e = absurd (cc)
+no_text Wide place at e = absurd (cc)
+
 pub refused : (source : Text) (place : ℕ) → read_of source ≡ Err (NoParse place) → IsRefusedAt source place
 refused source place h =
     let r = refused_first source place h in
@@ -184,7 +201,7 @@ refused source place h =
       stands = refl;
       written = written source r.0 r.1 r.3;
       first = r.3;
-      before = goes_before source r.0 r.1 r.3.before;
+      before = goes_before source (is_utf8 source (NoParse place) (λ at e. absurd (cc)) h) r.0 r.1 r.3.before;
       with_it = with_it source r.0 r.1 r.3;
       itself = itself source r.0 r.1 r.3;
     })
@@ -194,4 +211,4 @@ pub passed : (source : Text) (place : ℕ) (limit : Limit) → read_of source �
 passed source place limit h =
     let r = passed_first source place limit h in
     let far = passed_at source (r.0, limit) r.1 in
-    (r.0, r.1, r.2, goes_before source r.0 (omega (arith, far)) r.3)
+    (r.0, r.1, r.2, goes_before source (is_utf8 source (refusal_of limit place) (no_text limit place) h) r.0 (omega (arith, far)) r.3)

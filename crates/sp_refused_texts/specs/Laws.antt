@@ -1,11 +1,11 @@
 -- Where a text is refused, told of texts: what stands before the refused token begins one in the grammar, and with it none does.
-use Rattle.std.specs.Prelude.{◌≡◌, ◌≤◌, ◌<◌, ◌⊎◌, ℕ, Bool, true, false, List, [], ◌∷◌, ◌++◌, length, take, Some, Err}
+use Rattle.std.specs.Prelude.{◌≡◌, ◌≤◌, ◌<◌, ◌⊎◌, ℕ, Bool, true, false, List, [], ◌∷◌, ◌++◌, length, take, None, Some, Err}
 use Rattle.std.specs.List.{Contains}
 use Rattle.sp_reader.specs.declared.error.ReadError.TheVariants.{NoParse}
 use Rattle.sp_reader.specs.declared.limits.Limit.{Limit}
 use Rattle.sp_reader.specs.declared.scan.Scanned.{Scanned}
 use Rattle.sp_reader.specs.declared.token.Token.{Token}
-use Rattle.sp_reader.specs.Limits.{first_passed, place_in, refusal_of, read_of}
+use Rattle.sp_reader.specs.Limits.{first_passed, place_in, refusal_of, fault_of, read_of}
 use Rattle.sp_reader.specs.PlainStatement.{PlainSyntax}
 use Rattle.sp_reader.specs.Steps.{Text}
 use Rattle.sp_reader.specs.Tokens.{is_blank, scanned, tokens_of}
@@ -16,9 +16,9 @@ use Rattle.sp_refusals.specs.Texts.{IsFirstRefused}
 abbrev pub IsInGrammar : Text → Type 0
 IsInGrammar text = (tree : PlainSyntax) × IsProgram text (tokens_of text) tree
 
--- with a blank and others behind, these bytes are a text in the grammar
+-- with a blank and others behind, these bytes are a text in the grammar, which is UTF-8
 abbrev pub GoesOn : Text → Type 0
-GoesOn bytes = (more : Text) × IsInGrammar (bytes ++ 32 ∷ more)
+GoesOn bytes = (more : Text) × (fault_of (bytes ++ 32 ∷ more) ≡ None) × IsInGrammar (bytes ++ 32 ∷ more)
 
 -- nothing, or what begins with a blank
 abbrev pub StandsApart : Text → Type 0
