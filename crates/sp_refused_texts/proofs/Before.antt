@@ -1,5 +1,5 @@
 -- What stands before a token of a text goes on to a text in the grammar where the tokens before it go on.
-use Rattle.std.proofs.Common.{◌≡◌, ◌∙◌, ◌⊎◌, inl, inr, ℕ, zero, suc, ◌+◌, ◌≤◌, ◌<◌, ◌&&◌, Bool, true, false, List, [], ◌∷◌, ◌++◌, length, take, drop, append_assoc, refl, sym, ap, subst, arith}
+use Rattle.std.proofs.Common.{◌≡◌, ◌∙◌, ◌⊎◌, inl, inr, ℕ, ◌≤◌, ◌<◌, ◌&&◌, Bool, true, false, List, [], ◌∷◌, ◌++◌, length, take, drop, append_assoc, refl, sym, ap, subst, arith}
 use Rattle.std.specs.Str.{IsUtf8}
 use Rattle.std.proofs.lemmas.List.{take-append-drop}
 use Rattle.sp_reader.specs.declared.scan.Scanned.{Scanned}
@@ -8,10 +8,9 @@ use Rattle.sp_reader.specs.declared.token.TokenKind.{TokenKind}
 use Rattle.sp_reader.specs.declared.token.TokenKind.TheVariants as k
 use Rattle.sp_reader.specs.Limits.{place_in}
 use Rattle.sp_reader.specs.PlainStatement.{PlainSyntax}
-use Rattle.sp_reader.specs.Steps.{Text, is_name}
-use Rattle.sp_reader.specs.Tokens.{scanned, separated, tokens_of, inserts, may_begin, may_end, may_split}
+use Rattle.sp_reader.specs.Steps.{Text}
+use Rattle.sp_reader.specs.Tokens.{scanned, separated, tokens_of, inserts, may_begin, may_end}
 use Rattle.sp_grammar.specs.Statements.{IsProgram}
-use Rattle.sp_refusals.specs.Laws.{EndWithin}
 use Rattle.sp_refusals.specs.Texts.{GoOn}
 use Rattle.sp_refused_texts.specs.Laws.{GoesOn, end_of, IsWrittenAt, GoesOnBefore}
 use Rattle.sp_refused_texts.proofs.Fronts.{is_written}
@@ -20,7 +19,7 @@ use Rattle.sp_refused_texts.proofs.Utf8.{cut_utf8}
 use Rattle.sp_refused_texts.proofs.Order.{AreOrdered, scanned_ordered, real_some}
 use Rattle.sp_refused_texts.proofs.Cuts.{AreReal, heads}
 use Rattle.sp_refused_texts.proofs.Parts.{kind_after, open_after, semi, first_place, AreFirst, IsParted, parted, real_found, last_end, end_found, end_last, tokens_end, last_within, last_upto, ordered_at, split_at, same_split}
-use Rattle.sp_refused_texts.proofs.Goes.{IsCutAt, NoneBefore, goes, cut_length, found_behind, found_before}
+use Rattle.sp_refused_texts.proofs.Goes.{NoneBefore, goes, cut_length, found_behind, found_before}
 
 -- a token before which a line end may insert a `;` stands in a rule
 begins_written : (kind : TokenKind) → may_begin kind ≡ true → is_written kind ≡ true
@@ -90,7 +89,7 @@ module _ (source : Text) where
     behind_semi : (s : Scanned) (rest : List Scanned) → back ≡ s ∷ rest → inserts (kind_after k.End found) (open_after [] found) s ≡ true → take number (tokens_of source) ≡ separated k.End [] found ++ semi s ∷ [] → GoesOnBefore source number
     behind_semi s rest first ins e =
         let is : IsProgram (source ++ on.0) (separated k.End [] found ++ semi s ∷ on.1) on.2 =
-            (subst (λ ts. IsProgram (source ++ on.0) ts on.2) (append_assoc (separated k.End [] found) (semi s ∷ []) on.1) (subst (λ ts. IsProgram (source ++ on.0) (ts ++ on.1) on.2) e on.3)) in
+        (subst (λ ts. IsProgram (source ++ on.0) ts on.2) (append_assoc (separated k.End [] found) (semi s ∷ []) on.1) (subst (λ ts. IsProgram (source ++ on.0) (ts ++ on.1) on.2) e on.3)) in
         let real = real_found k.End [] found (written_left (separated k.End [] found) (semi s ∷ on.1) (program_written (source ++ on.0) is)) in
         let begun = inserted (kind_after k.End found) (open_after [] found) s ins in
         let o = ordered_at (length source) 0 found s rest (ordered found (s ∷ rest) (whole ∙ ap (λ x. found ++ x) first)) in

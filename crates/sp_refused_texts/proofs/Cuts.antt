@@ -1,7 +1,6 @@
 -- The tokens of a text that is cut behind one of them or before it, with nothing or a blank behind.
-use Rattle.std.proofs.Common.{◌≡◌, ◌∙◌, ◌⊎◌, inl, inr, ℕ, zero, suc, ◌+◌, ◌-◌, ◌≤◌, ◌<◌, ◌==◌, ◌||◌, not, nat_le, nat_lt, Bool, true, false, List, [], ◌∷◌, ◌++◌, length, take, drop, length-append, length-take, length-drop, refl, sym, ap, subst, arith}
+use Rattle.std.proofs.Common.{◌≡◌, ◌∙◌, ◌⊎◌, inl, inr, ℕ, zero, suc, ◌+◌, ◌-◌, ◌≤◌, ◌<◌, ◌==◌, not, nat_le, nat_lt, Bool, true, false, List, [], ◌∷◌, ◌++◌, length, take, drop, length-append, length-take, length-drop, refl, sym, ap, subst, arith}
 use Rattle.std.specs.Prelude.{slice_index}
-use Rattle.std.specs.List.{list_any}
 use Rattle.std.proofs.lemmas.List.{take-append-drop, get_or-drop}
 use Rattle.sp_reader.specs.declared.scan.Piece.{Piece}
 use Rattle.sp_reader.specs.declared.scan.Piece.TheVariants as piece
@@ -64,12 +63,12 @@ lead_gap at breaks b t count len found Told is fits few inner z (suc n) edge eno
     let m = cut_length (count - len) (drop len (b ∷ t)) z (let d = length-drop len (b ∷ t) in omega (arith, d, few, le)) in
     let on = inner z n edge (omega (arith, m, l, enough, le, some)) in
     let step = scan_gap n at breaks (take count (b ∷ t) ++ z) len (omega (arith, l, le, some)) again in
-    (on.0, joined step passed left on.1, on.2)
+    (on.0, joined (found ++ on.0) step passed left on.1, on.2)
   where
     -- the gap is passed
-    joined : {ss : List Scanned} → scan_from (suc n) at breaks (take count (b ∷ t) ++ z) ≡ scan_from n (at + len) (breaks_then breaks len (take count (b ∷ t) ++ z)) (drop len (take count (b ∷ t) ++ z)) → take len (take count (b ∷ t) ++ z) ≡ take len (b ∷ t)
+    joined : (ss : List Scanned) → scan_from (suc n) at breaks (take count (b ∷ t) ++ z) ≡ scan_from n (at + len) (breaks_then breaks len (take count (b ∷ t) ++ z)) (drop len (take count (b ∷ t) ++ z)) → take len (take count (b ∷ t) ++ z) ≡ take len (b ∷ t)
         → drop len (take count (b ∷ t) ++ z) ≡ take (count - len) (drop len (b ∷ t)) ++ z → scan_from n (at + len) (breaks_then breaks len (b ∷ t)) (take (count - len) (drop len (b ∷ t)) ++ z) ≡ ss → scan_from (suc n) at breaks (take count (b ∷ t) ++ z) ≡ ss
-    joined step passed left on = step ∙ rw (passed, left) on
+    joined ss step passed left on = step ∙ rw (passed, left) on
 
 lead_token : (at : ℕ) (breaks : Bool) (b : ℕ) (t : Text) (count : ℕ) (kind : TokenKind) (len : ℕ) (found : List Scanned) (Told : Text → List Scanned → Type 0) → front (b ∷ t) ≡ piece.Token kind len → is_written kind ≡ true → len ≤ count → count ≤ length (b ∷ t)
     → Leads (at + len) false (drop len (b ∷ t)) (count - len) found Told → Leads at breaks (b ∷ t) count (token_of kind at (at + len) breaks ∷ found) Told
@@ -106,17 +105,20 @@ lead_last at breaks b t kind len is few z (suc n) edge enough =
     let l = cut_length len (b ∷ t) z few in
     let some : 1 ≤ len = some_byte (b ∷ t) (piece.Token kind len) (omega arith) is in
     let kin = cut_piece b t len z (piece.Token kind len) is edge some few (omega arith) in
-    let step = scan_token n at breaks (take len (b ∷ t) ++ z) kind kin.0 (omega (arith, l, some)) kin.1 in
-    (_, step, record {
-      one = token_of kind at (at + kin.0) breaks;
-      rest = scan_from n (at + kin.0) false (drop kin.0 (take len (b ∷ t) ++ z));
-      is = refl;
-      of_kind = refl;
-      breaks = refl;
-      same = λ real.
-          let e = kin.2 real in
-          (ap (λ m. token_of kind at (at + m) breaks) e, n, omega (arith, l, enough, some), ap (λ m. scan_from n (at + m) false (drop m (take len (b ∷ t) ++ z))) e ∙ ap (scan_from n (at + len) false) (no_bytes len (b ∷ t) z few));
-    })
+    let step = scan_token n at breaks (take len (b ∷ t) ++ z) kind kin.0 (omega (arith, l, some)) kin.1 in (
+      _,
+      step,
+      record {
+        one = token_of kind at (at + kin.0) breaks;
+        rest = scan_from n (at + kin.0) false (drop kin.0 (take len (b ∷ t) ++ z));
+        is = refl;
+        of_kind = refl;
+        breaks = refl;
+        same = λ real.
+            let e = kin.2 real in
+            (ap (λ m. token_of kind at (at + m) breaks) e, n, omega (arith, l, enough, some), ap (λ m. scan_from n (at + m) false (drop m (take len (b ∷ t) ++ z))) e ∙ ap (scan_from n (at + len) false) (no_bytes len (b ∷ t) z few));
+      },
+    )
 
 -- ---- behind a token
 

@@ -1,5 +1,5 @@
 -- What stands at the front of a text stands there too where the text is cut behind it, with nothing or a blank behind.
-use Rattle.std.proofs.Common.{◌≡◌, ◌∙◌, ◌⊎◌, inl, inr, ℕ, zero, suc, ◌+◌, ◌-◌, ◌≤◌, ◌<◌, ◌==◌, ◌&&◌, ◌||◌, Bool, true, false, nat_le, nat_lt, nat_eq, min, List, [], ◌∷◌, ◌++◌, length, take, drop, length-drop, Option, Some, None, refl, sym, ap, subst, arith, if◌then◌else◌}
+use Rattle.std.proofs.Common.{◌≡◌, ◌∙◌, ◌⊎◌, inl, inr, ℕ, zero, suc, ◌+◌, ◌≤◌, ◌<◌, ◌==◌, ◌&&◌, Bool, true, false, nat_le, nat_lt, nat_eq, min, List, [], ◌∷◌, ◌++◌, length, take, drop, length-drop, Option, Some, None, refl, sym, ap, arith, if◌then◌else◌}
 use Rattle.std.specs.Prelude.{slice_index}
 use Rattle.std.specs.Char.{is_ascii_digit, is_ascii_hexdigit, is_ascii_alphabetic}
 use Rattle.std.specs.List.{starts_with, prefix_len, list_all}
@@ -171,9 +171,9 @@ hex_same (x ∷ []) w z some edge far =
 hex_same (x ∷ y ∷ []) w z some edge far =
     let none : is_ascii_hexdigit (slice_index z 0) ≡ false = no_hex (slice_index z 0) edge in
     no_third (x == 48) (y == 120) (is_ascii_hexdigit (slice_index z 0)) none ∙ falsely (is_hex_at (x ∷ y ∷ w)) (λ e.
-        let l = far e in
-        let more = seen_prefix (is_in Hex) refl (x ∷ y ∷ w) 2 (third (x == 48) (y == 120) (is_ascii_hexdigit (slice_index w 0)) e) in
-        absurd (omega (arith, l, more)))
+    let l = far e in
+    let more = seen_prefix (is_in Hex) refl (x ∷ y ∷ w) 2 (third (x == 48) (y == 120) (is_ascii_hexdigit (slice_index w 0)) e) in
+    absurd (omega (arith, l, more)))
 hex_same (x ∷ y ∷ t ∷ u) w z some edge far = refl
 
 -- some bytes that don't begin with a line end

@@ -1,31 +1,28 @@
 -- Tokens that go on in the grammar stand in a text that goes on in it.
-use Rattle.std.proofs.Common.{◌≡◌, ◌∙◌, ◌⊎◌, inl, inr, ℕ, zero, suc, ◌+◌, ◌-◌, ◌≤◌, ◌<◌, ◌&&◌, Bool, true, false, List, [], ◌∷◌, ◌++◌, length, take, drop, length-append, length-take, append_assoc, refl, sym, ap, subst, arith, if◌then◌else◌}
+use Rattle.std.proofs.Common.{◌≡◌, ◌∙◌, ◌⊎◌, inl, inr, ℕ, ◌≤◌, ◌<◌, ◌&&◌, Bool, true, false, List, [], ◌∷◌, ◌++◌, length, take, length-append, length-take, append_assoc, refl, sym, ap, subst, arith, if◌then◌else◌}
 use Rattle.std.specs.Prelude.{slice_index}
 use Rattle.std.specs.Str.{IsUtf8}
 use Rattle.std.proofs.lemmas.Str.{IsUtf8-append}
-use Rattle.std.proofs.lemmas.List.{append-nil, take-append-drop}
 use Rattle.sp_reader.specs.declared.scan.Scanned.{Scanned}
 use Rattle.sp_reader.specs.declared.token.Token.{Token}
 use Rattle.sp_reader.specs.declared.token.TokenKind.{TokenKind}
 use Rattle.sp_reader.specs.declared.token.TokenKind.TheVariants as k
 use Rattle.sp_reader.specs.PlainStatement.{PlainSyntax}
-use Rattle.sp_reader.specs.Steps.{Text, spelling_of, is_name}
-use Rattle.sp_reader.specs.Tokens.{scan_from, scanned, separated, tokens_of, inserts, may_begin, may_end, opened, with_separator}
+use Rattle.sp_reader.specs.Steps.{Text}
+use Rattle.sp_reader.specs.Tokens.{scan_from, scanned, separated, tokens_of, may_begin, may_end}
 use Rattle.sp_grammar.specs.Statements.{IsProgram}
 use Rattle.sp_refusals.specs.Laws.{EndWithin, SpellAlike}
-use Rattle.sp_refusals.specs.Texts.{GoOn}
 use Rattle.sp_refusals.proofs.Elsewhere.{AreNear, program_like}
 use Rattle.sp_refusals.proofs.Refusals.{alike_on, alike_back}
 use Rattle.sp_scanned.specs.From.{From, splits}
 use Rattle.sp_scanned.proofs.Steps.{blank_step, broken, unbroken, as_unbroken}
-use Rattle.sp_refused_texts.specs.Laws.{IsInGrammar, GoesOn, end_of, IsWrittenAt, GoesOnBefore}
-use Rattle.sp_refused_texts.proofs.Fronts.{is_written}
-use Rattle.sp_refused_texts.proofs.Written.{AreWritten, written_left, written_right, program_written}
+use Rattle.sp_refused_texts.specs.Laws.{GoesOn}
+use Rattle.sp_refused_texts.proofs.Written.{AreWritten, written_right, program_written}
 use Rattle.sp_refused_texts.proofs.Low.{IsLow}
 use Rattle.sp_refused_texts.proofs.Utf8.{no_fault, spelled_utf8}
-use Rattle.sp_refused_texts.proofs.Order.{AreOrdered, scanned_ordered, real_some, followed_some, not_back}
+use Rattle.sp_refused_texts.proofs.Order.{AreOrdered, real_some}
 use Rattle.sp_refused_texts.proofs.Cuts.{AreReal, cut_behind, cut_before}
-use Rattle.sp_refused_texts.proofs.Parts.{kind_after, open_after, last_upto, ordered_at, last_of, real_parts, split_at, same_split, separated_on, semi, AreFirst, IsParted, parted, real_found, last_end, end_found, end_last, tokens_end, last_within, ends_upto}
+use Rattle.sp_refused_texts.proofs.Parts.{kind_after, open_after, ordered_at, last_of, real_parts, separated_on, last_end}
 use Rattle.sp_refused_texts.proofs.Spelled.{spelled_as, spelled_front, some_spelled, spelled, AreOnes, scanned_again}
 
 -- ---- tokens of two texts
@@ -127,10 +124,15 @@ found_behind source (f ∷ found) back e ordered real =
     let one = ordered_at (length source) 0 l.before l.last back (subst (AreOrdered (length source) 0) (sym e ∙ whole) ordered) in
     let c = cut_behind source l.before l.last back whole parts.0 (real_some l.last back one.1 parts.1) in
     let many = cut_length l.last.token.end source c.0 in
-    subst (λ n. IsCutAt (take n source) (f ∷ found) false × IsLow source n) (sym (l.ends 0)) (record { scans = λ z edge.
-        let g = c.2 z edge in
-        let same = g.2.same parts.1 in
-        (same.1, same.2, joined (f ∷ found) l.before g.0 g.2.rest (scan_from same.1 (length (take l.last.token.end source)) false z) l.last g.2.one (scanned (take l.last.token.end source ++ z)) l.is g.1 g.2.is same.0 (same.3 ∙ ap (λ n. scan_from same.1 n false z) (sym many))) }, c.1 parts.1)
+    subst (λ n. IsCutAt (take n source) (f ∷ found) false × IsLow source n) (sym (l.ends 0)) (
+      record {
+        scans = λ z edge.
+            let g = c.2 z edge in
+            let same = g.2.same parts.1 in
+            (same.1, same.2, joined (f ∷ found) l.before g.0 g.2.rest (scan_from same.1 (length (take l.last.token.end source)) false z) l.last g.2.one (scanned (take l.last.token.end source ++ z)) l.is g.1 g.2.is same.0 (same.3 ∙ ap (λ n. scan_from same.1 n false z) (sym many)));
+      },
+      c.1 parts.1,
+    )
 
 pub found_before : (source : Text) (found : List Scanned) (s : Scanned) (back : List Scanned) → scanned source ≡ found ++ s ∷ back → AreReal found → s.token.at < s.token.end → IsCutAt (take s.token.at source) found s.breaks × IsLow source s.token.at
 found_before source found s back e real some =

@@ -1,5 +1,5 @@
 -- The last byte of a token that stands in a rule is ASCII, and so is that of a gap before a token.
-use Rattle.std.proofs.Common.{◌≡◌, ◌∙◌, ◌⊎◌, inl, inr, ℕ, zero, suc, ◌+◌, ◌-◌, ◌≤◌, ◌<◌, ◌==◌, ◌&&◌, Bool, true, false, nat_lt, nat_eq, min, List, [], ◌∷◌, ◌++◌, length, take, drop, length-drop, Option, Some, None, refl, sym, ap, subst, arith, if◌then◌else◌}
+use Rattle.std.proofs.Common.{◌≡◌, ◌∙◌, ℕ, zero, suc, ◌+◌, ◌-◌, ◌≤◌, ◌<◌, ◌==◌, ◌&&◌, Bool, true, false, nat_lt, nat_eq, min, List, [], ◌∷◌, length, drop, Option, Some, None, refl, sym, ap, subst, arith, if◌then◌else◌}
 use Rattle.std.specs.Prelude.{slice_index}
 use Rattle.std.specs.Char.{is_ascii_digit, is_ascii_hexdigit, is_ascii_alphabetic}
 use Rattle.std.specs.List.{starts_with, prefix_len, list_all}
@@ -13,8 +13,8 @@ use Rattle.sp_reader.specs.declared.token.TokenKind.{TokenKind}
 use Rattle.sp_reader.specs.declared.token.TokenKind.TheVariants as k
 use Rattle.sp_reader.specs.Classes.{past, is_in}
 use Rattle.sp_reader.specs.Steps.{Text}
-use Rattle.sp_reader.specs.Tokens.{word_kind, first_sign, signs, sign_of, a_word, number_end, a_number, an_underscore, comment_from, block_comment, a_slash, char_len, a_sign, is_blank, front}
-use Rattle.sp_refused_texts.proofs.Fronts.{NoLineEnd, front_by, is_written, has_point_at, end_by, end_is, is_hex_at, third, comment_past, both_left, both_right, seen_prefix}
+use Rattle.sp_reader.specs.Tokens.{first_sign, signs, sign_of, number_end, a_number, an_underscore, comment_from, block_comment, a_slash, is_blank, front}
+use Rattle.sp_refused_texts.proofs.Fronts.{NoLineEnd, front_by, is_written, has_point_at, end_is, is_hex_at, third, comment_past, both_left, both_right, seen_prefix}
 
 -- the byte before a place is ASCII
 abbrev pub IsLow : Text → ℕ → Type 0

@@ -1,5 +1,5 @@
 -- The tokens of a text, with the `;` that line ends insert, up to a place.
-use Rattle.std.proofs.Common.{◌≡◌, ◌∙◌, ℕ, zero, suc, ◌+◌, ◌-◌, ◌≤◌, ◌<◌, ◌&&◌, Bool, true, false, nat_lt, List, [], ◌∷◌, ◌++◌, length, length-append, take, append_assoc, refl, sym, ap, subst, arith, if◌then◌else◌}
+use Rattle.std.proofs.Common.{◌≡◌, ◌∙◌, ℕ, zero, suc, ◌≤◌, ◌<◌, Bool, true, false, List, [], ◌∷◌, ◌++◌, length, take, append_assoc, refl, sym, ap, subst, arith, if◌then◌else◌}
 use Rattle.std.specs.Prelude.{slice_index_or}
 use Rattle.std.specs.List.{Contains}
 use Rattle.sp_reader.specs.declared.scan.Scanned.{Scanned}
@@ -13,7 +13,7 @@ use Rattle.sp_refusals.specs.Laws.{EndWithin}
 use Rattle.sp_refused_texts.specs.Laws.{end_of}
 use Rattle.sp_refused_texts.proofs.Fronts.{is_written}
 use Rattle.sp_refused_texts.proofs.Written.{AreWritten}
-use Rattle.sp_refused_texts.proofs.Order.{AreOrdered, AreBefore, real_some, not_back, before_one}
+use Rattle.sp_refused_texts.proofs.Order.{AreOrdered, not_back, before_one}
 use Rattle.sp_refused_texts.proofs.Cuts.{AreReal, heads}
 
 -- the kind of the last of these, or the one before

@@ -1,5 +1,5 @@
 -- No text that begins with a refused token and what stands before it is in the grammar.
-use Rattle.std.proofs.Common.{◌≡◌, ◌∙◌, ◌⊎◌, inl, inr, ℕ, zero, suc, ◌+◌, ◌≤◌, ◌<◌, ◌&&◌, Bool, true, false, nat_lt, List, [], ◌∷◌, ◌++◌, length, take, drop, length-append, length-take, append_assoc, Err, Option, Some, None, refl, sym, ap, subst, arith, if◌then◌else◌}
+use Rattle.std.proofs.Common.{◌≡◌, ◌∙◌, ◌⊎◌, inl, inr, ℕ, zero, suc, ◌≤◌, ◌<◌, Bool, true, false, nat_lt, List, [], ◌∷◌, ◌++◌, length, take, drop, length-append, length-take, append_assoc, Err, Option, Some, None, refl, sym, ap, subst, arith, if◌then◌else◌}
 use Rattle.std.specs.Prelude.{slice_index}
 use Rattle.std.specs.List.{Contains}
 use Rattle.std.specs.Str.{IsUtf8}
@@ -15,19 +15,18 @@ use Rattle.sp_reader.specs.declared.token.TokenKind.{TokenKind}
 use Rattle.sp_reader.specs.declared.token.TokenKind.TheVariants as k
 use Rattle.sp_reader.specs.Limits.{first_passed, place_in, refusal_of, fault_of, read_past, read_of}
 use Rattle.sp_reader.specs.PlainStatement.{PlainSyntax}
-use Rattle.sp_reader.specs.Steps.{Text, spelling_of, is_name}
-use Rattle.sp_reader.specs.Tokens.{is_blank, scanned, separated, tokens_of, inserts, may_begin, may_end, may_split, opened, with_separator}
+use Rattle.sp_reader.specs.Steps.{Text, spelling_of}
+use Rattle.sp_reader.specs.Tokens.{scanned, separated, tokens_of, inserts, opened, with_separator}
 use Rattle.sp_grammar.specs.Statements.{IsProgram}
 use Rattle.sp_refusals.specs.Laws.{EndWithin, SpellAlike, AreLike}
 use Rattle.sp_refusals.specs.Texts.{GoOn, IsFirstRefused}
 use Rattle.sp_refusals.proofs.TextRefusals.{refused_first, passed_first, passed_at}
-use Rattle.sp_refused_texts.specs.Laws.{IsInGrammar, GoesOn, StandsApart, end_of, IsWrittenAt, GoesOnBefore, IsRefusedAt}
+use Rattle.sp_refused_texts.specs.Laws.{IsInGrammar, StandsApart, IsWrittenAt, GoesOnBefore, IsRefusedAt}
 use Rattle.sp_refused_texts.proofs.Fronts.{is_written}
 use Rattle.sp_refused_texts.proofs.Written.{written_left, program_written}
 use Rattle.sp_refused_texts.proofs.Utf8.{utf8_of}
-use Rattle.sp_refused_texts.proofs.Order.{AreOrdered, scanned_ordered, real_some}
 use Rattle.sp_refused_texts.proofs.Cuts.{AreReal, Found, cut_behind, heads}
-use Rattle.sp_refused_texts.proofs.Parts.{kind_after, open_after, separated_on, semi, first_place, AreFirst, IsParted, parted, real_found, last_end, tokens_end, last_upto, ordered_at}
+use Rattle.sp_refused_texts.proofs.Parts.{kind_after, open_after, separated_on, semi, first_place, AreFirst, IsParted, parted, real_found, tokens_end, last_upto, ordered_at}
 use Rattle.sp_refused_texts.proofs.Goes.{both_begin, cut_length}
 use Rattle.sp_refused_texts.proofs.Before.{ordered, at_place, goes_before}
 
@@ -102,7 +101,7 @@ module _ (source : Text) (number : ℕ) (among : number ≤ length (tokens_of so
       let less : number < length (tokens_of source) = omega (arith, total, sum, few) in
       let same : take (suc number) (tokens_of source) ≡ take (suc number) ts = ap (take (suc number)) one ∙ take-append-le (suc number) ts more few in
       let whole : tokens_of other ≡ take (suc number) us ++ (drop (suc number) us ++ rest) =
-          (two ∙ ap (λ x. x ++ rest) (sym (take-append-drop (suc number) us)) ∙ append_assoc (take (suc number) us) (drop (suc number) us) rest) in
+      (two ∙ ap (λ x. x ++ rest) (sym (take-append-drop (suc number) us)) ∙ append_assoc (take (suc number) us) (drop (suc number) us) rest) in
       first.with_it other (take (suc number) us) (drop (suc number) us ++ rest) tree less (subst (λ x. AreLike source other x (take (suc number) us)) (sym same) (like_take source other (suc number) ts us like)) (subst (λ x. IsProgram other x tree) whole is)
 
   -- the tokens up to one of a text
@@ -173,7 +172,7 @@ module _ (source : Text) (number : ℕ) (among : number ≤ length (tokens_of so
           go : (back : List Scanned) → scanned source ≡ p.found ++ back → place_in source (tokens_of source) number ≡ first_place source back → ((s : Scanned) × IsWrittenAt source (place_in source (tokens_of source) number) s) ⊎ (place_in source (tokens_of source) number ≡ length source)
           go [] whole place = inr place
           go (s ∷ rest) whole place = elim (ordered_at (length source) 0 p.found s rest (ordered source p.found (s ∷ rest) whole)).1.2 as (λ _. ((s : Scanned) × IsWrittenAt source (place_in source (tokens_of source) number) s) ⊎ (place_in source (tokens_of source) number ≡ length source)) [
-            inl some ↦ inl (s, record { one = subst (λ l. Contains l s) (sym whole) (Contains-append_right p.found (s ∷ rest) s (0, omega arith, refl)); begins = sym place; some = some })
+            | inl some ↦ inl (s, record { one = subst (λ l. Contains l s) (sym whole) (Contains-append_right p.found (s ∷ rest) s (0, omega arith, refl)); begins = sym place; some = some })
             | inr end ↦ inr (place ∙ end.0)
           ]
 

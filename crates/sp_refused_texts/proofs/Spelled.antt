@@ -1,12 +1,12 @@
 -- A text that spells tokens with blanks between is scanned as such.
-use Rattle.std.proofs.Common.{◌≡◌, ◌∙◌, ℕ, ◌≤◌, Bool, true, false, List, [], ◌∷◌, ◌++◌, length, codes, refl, sym, ap, subst, arith, append_assoc, ◌⊎◌, inl, inr}
+use Rattle.std.proofs.Common.{◌≡◌, ◌∙◌, ◌≤◌, true, false, List, [], ◌∷◌, ◌++◌, length, codes, refl, sym, ap, subst, arith}
 use Rattle.sp_reader.specs.declared.scan.Piece.TheVariants as piece
 use Rattle.sp_reader.specs.declared.token.Token.{Token}
 use Rattle.sp_reader.specs.declared.token.TokenKind.{TokenKind}
 use Rattle.sp_reader.specs.declared.token.TokenKind.TheVariants as k
 use Rattle.sp_reader.specs.Steps.{Text, spelling_of}
 use Rattle.sp_reader.specs.Tokens.{front, word_kind, sign_of, opened}
-use Rattle.sp_scanned.specs.From.{From, Fronts, Taken}
+use Rattle.sp_scanned.specs.From.{From}
 use Rattle.sp_scanned.proofs.Steps.{token_step, blank_step, at_end}
 use Rattle.sp_refused_texts.proofs.Fronts.{is_written}
 use Rattle.sp_refused_texts.proofs.Written.{AreWritten}

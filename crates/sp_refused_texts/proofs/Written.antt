@@ -1,5 +1,5 @@
 -- The tokens of what is in the grammar are of kinds that stand in a rule.
-use Rattle.std.proofs.Common.{◌≡◌, ◌∙◌, ℕ, Bool, true, false, List, [], ◌∷◌, ◌++◌, Option, refl, sym, ap, subst}
+use Rattle.std.proofs.Common.{◌≡◌, ◌∙◌, ℕ, Bool, true, List, [], ◌∷◌, ◌++◌, Option, refl, sym, ap, subst}
 use Rattle.sp_words.specs.declared.kind.BinOp.{BinOp}
 use Rattle.sp_words.specs.declared.kind.Style.{Style}
 use Rattle.sp_reader.specs.declared.syntax.expression.SynTy.{SynTy}

@@ -1,5 +1,5 @@
 -- Where a text is refused, told of texts: what stands before the refused token begins one in the grammar, and with it none does.
-use Rattle.std.specs.Prelude.{◌≡◌, ◌≤◌, ◌<◌, ◌⊎◌, ℕ, Bool, true, false, List, [], ◌∷◌, ◌++◌, length, take, None, Some, Err}
+use Rattle.std.specs.Prelude.{◌≡◌, ◌≤◌, ◌<◌, ◌⊎◌, ℕ, true, false, List, [], ◌∷◌, ◌++◌, length, take, None, Some, Err}
 use Rattle.std.specs.List.{Contains}
 use Rattle.sp_reader.specs.declared.error.ReadError.TheVariants.{NoParse}
 use Rattle.sp_reader.specs.declared.limits.Limit.{Limit}
