@@ -19,7 +19,7 @@ use Rattle.sp_refusals.specs.Texts.{GoOn, IsFirstRefused}
 use Rattle.sp_refusals.proofs.Refusals.{within_take, left_most, none_elsewhere, end_too_early, some_go_on}
 use Rattle.sp_refusals.proofs.Within.{tokens_within}
 
-take_take : (m n : ℕ) (ts : List Token) → m ≤ n → take m (take n ts) ≡ take m ts
+pub take_take : (m n : ℕ) (ts : List Token) → m ≤ n → take m (take n ts) ≡ take m ts
 take_take zero n ts le = refl
 take_take (suc m) zero ts le = absurd (omega (arith, le))
 take_take (suc m) (suc n) [] le = refl

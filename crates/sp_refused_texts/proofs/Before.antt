@@ -12,6 +12,7 @@ use Rattle.sp_reader.specs.Steps.{Text}
 use Rattle.sp_reader.specs.Tokens.{scanned, separated, tokens_of, inserts, may_begin, may_end}
 use Rattle.sp_grammar.specs.Statements.{IsProgram}
 use Rattle.sp_refusals.specs.Texts.{GoOn}
+use Rattle.sp_refusals.proofs.TextRefusals.{take_take}
 use Rattle.sp_refused_texts.specs.Laws.{GoesOn, end_of, IsWrittenAt, GoesOnBefore}
 use Rattle.sp_refused_texts.proofs.Fronts.{is_written}
 use Rattle.sp_refused_texts.proofs.Written.{written_left, program_written}
@@ -113,3 +114,11 @@ module _ (source : Text) where
           go : AreFirst k.End [] p.found p.back (take number (separated k.End [] (scanned source))) → GoesOnBefore source number
           go (AreFirst.plain e) = plainly valid number on p.found p.back p.whole p.place e
           go (AreFirst.with_semi s rest is ins e) = behind_semi valid number on p.found p.back p.whole p.place s rest is ins e
+
+  -- so it is before each token before
+  pub goes_before_each : IsUtf8 source → (number : ℕ) → number ≤ length (tokens_of source) → GoOn source (take number (tokens_of source)) → (n : ℕ) → n ≤ number → GoesOnBefore source n
+  goes_before_each valid number among on n le =
+      let first : take n (take number (tokens_of source)) ≡ take n (tokens_of source) = take_take n number (tokens_of source) le in
+      let parts : take n (tokens_of source) ++ drop n (take number (tokens_of source)) ≡ take number (tokens_of source) = ap (λ x. x ++ drop n (take number (tokens_of source))) (sym first) ∙ take-append-drop n (take number (tokens_of source)) in
+      let whole : take n (tokens_of source) ++ (drop n (take number (tokens_of source)) ++ on.1) ≡ take number (tokens_of source) ++ on.1 = sym (append_assoc (take n (tokens_of source)) (drop n (take number (tokens_of source))) on.1) ∙ ap (λ x. x ++ on.1) parts in
+      goes_before valid n (omega (arith, le, among)) (on.0, drop n (take number (tokens_of source)) ++ on.1, on.2, subst (λ ts. IsProgram (source ++ on.0) ts on.2) (sym whole) on.3)

@@ -28,7 +28,7 @@ use Rattle.sp_refused_texts.proofs.Utf8.{utf8_of}
 use Rattle.sp_refused_texts.proofs.Cuts.{AreReal, Found, cut_behind, heads}
 use Rattle.sp_refused_texts.proofs.Parts.{kind_after, open_after, separated_on, semi, first_place, AreFirst, IsParted, parted, real_found, tokens_end, last_upto, ordered_at}
 use Rattle.sp_refused_texts.proofs.Goes.{both_begin, cut_length}
-use Rattle.sp_refused_texts.proofs.Before.{ordered, at_place, goes_before}
+use Rattle.sp_refused_texts.proofs.Before.{ordered, at_place, goes_before_each}
 
 edge_low : (z : Text) → StandsApart z → slice_index z 0 ≤ 32
 edge_low [] apart = omega arith
@@ -200,14 +200,14 @@ refused source place h =
       stands = refl;
       written = written source r.0 r.1 r.3;
       first = r.3;
-      before = goes_before source (is_utf8 source (NoParse place) (λ at e. absurd (cc)) h) r.0 r.1 r.3.before;
+      before = goes_before_each source (is_utf8 source (NoParse place) (λ at e. absurd (cc)) h) r.0 r.1 r.3.before;
       with_it = with_it source r.0 r.1 r.3;
       itself = itself source r.0 r.1 r.3;
     })
 
 pub passed : (source : Text) (place : ℕ) (limit : Limit) → read_of source ≡ Err (refusal_of limit place)
-    → (number : ℕ) × (first_passed source (tokens_of source) ≡ Some (number, limit)) × (place ≡ place_in source (tokens_of source) number) × GoesOnBefore source number
+    → (number : ℕ) × (first_passed source (tokens_of source) ≡ Some (number, limit)) × (place ≡ place_in source (tokens_of source) number) × ((n : ℕ) → n ≤ number → GoesOnBefore source n)
 passed source place limit h =
     let r = passed_first source place limit h in
     let far = passed_at source (r.0, limit) r.1 in
-    (r.0, r.1, r.2, goes_before source (is_utf8 source (refusal_of limit place) (no_text limit place) h) r.0 (omega (arith, far)) r.3)
+    (r.0, r.1, r.2, goes_before_each source (is_utf8 source (refusal_of limit place) (no_text limit place) h) r.0 (omega (arith, far)) r.3)

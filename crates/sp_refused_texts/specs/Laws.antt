@@ -42,15 +42,16 @@ pub record GoesOnBefore (source : Text) (number : ℕ) : Type 0 where
   pub behind : GoesOn (take (end_of 0 (take number (tokens_of source))) source)
   pub up_to : (s : Scanned) → IsWrittenAt source (place_in source (tokens_of source) number) s → s.breaks ≡ false → GoesOn (take s.token.at source)
 
--- the place is that of the first refused token, or the end. What stands before it goes on to a text in the grammar; up to the end of
--- the token that is written there it begins none, be it over or followed by a blank; and the text isn't one
+-- the place is that of the first refused token, or the end. What stands before it, or before a token before it, goes on to a text in
+-- the grammar; up to the end of the token that is written there it begins none, be it over or followed by a blank; and the text isn't
+-- one
 pub record IsRefusedAt (source : Text) (place : ℕ) : Type 0 where
   pub number : ℕ
   pub among : number ≤ length (tokens_of source)
   pub stands : place ≡ place_in source (tokens_of source) number
   pub written : ((s : Scanned) × IsWrittenAt source place s) ⊎ (place ≡ length source)
   pub first : IsFirstRefused source (tokens_of source) number
-  pub before : GoesOnBefore source number
+  pub before : (n : ℕ) → n ≤ number → GoesOnBefore source n
   pub with_it : (s : Scanned) (more : Text) → IsWrittenAt source place s → StandsApart more → IsInGrammar (take s.token.end source ++ more) → ⊥
   pub itself : IsInGrammar source → ⊥
 
@@ -58,7 +59,7 @@ pub record IsRefusedAt (source : Text) (place : ℕ) : Type 0 where
 abbrev pub RefusedTexts : Type 0
 RefusedTexts = (source : Text) (place : ℕ) → read_of source ≡ Err (NoParse place) → IsRefusedAt source place
 
--- what stands before the first token that passes a limit goes on to a text in the grammar
+-- what stands before the first token that passes a limit, or before a token before it, goes on to a text in the grammar
 abbrev pub PassedTexts : Type 0
 PassedTexts = (source : Text) (place : ℕ) (limit : Limit) → read_of source ≡ Err (refusal_of limit place)
-    → (number : ℕ) × (first_passed source (tokens_of source) ≡ Some (number, limit)) × (place ≡ place_in source (tokens_of source) number) × GoesOnBefore source number
+    → (number : ℕ) × (first_passed source (tokens_of source) ≡ Some (number, limit)) × (place ≡ place_in source (tokens_of source) number) × ((n : ℕ) → n ≤ number → GoesOnBefore source n)
