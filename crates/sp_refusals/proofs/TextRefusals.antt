@@ -55,7 +55,7 @@ unfolding first_passed
 passed_at source p is = passed_within source (record { around = []; here = 0 }) 0 (tokens_of source) p is
 
 -- of the first tokens of a text
-of_front : (source : Text) (n left : ℕ) → n ≤ length (tokens_of source) → program source (take n (tokens_of source)) ≡ Err left → (n ≡ length (tokens_of source)) ⊎ (1 ≤ left)
+pub of_front : (source : Text) (n left : ℕ) → n ≤ length (tokens_of source) → program source (take n (tokens_of source)) ≡ Err left → (n ≡ length (tokens_of source)) ⊎ (1 ≤ left)
     → (number : ℕ) × (number ≡ n - left) × (number ≤ length (tokens_of source)) × IsFirstRefused source (tokens_of source) number
 of_front source n left le h last = (n - left, refl, omega (arith, le), record { before = before; with_it = with_it; at_end = at_end })
   where

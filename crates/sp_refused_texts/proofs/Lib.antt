@@ -9,3 +9,4 @@ pub mod Utf8
 pub mod Goes
 pub mod Before
 pub mod Refused
+pub mod Exactly

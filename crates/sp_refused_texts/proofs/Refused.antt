@@ -178,16 +178,16 @@ module _ (source : Text) (number : ℕ) (among : number ≤ length (tokens_of so
 
 -- ---- the laws
 
--- a text that is refused otherwise is UTF-8
-is_utf8 : (source : Text) (e : ReadError) → ((at : ℕ) → e ≡ NotText at → ⊥) → read_of source ≡ Err e → IsUtf8 source
+-- a text that is refused otherwise has no fault
+pub fault_free : (source : Text) (e : ReadError) → ((at : ℕ) → e ≡ NotText at → ⊥) → read_of source ≡ Err e → fault_of source ≡ None
 unfolding read_of
-is_utf8 source e other h = utf8_of source (go (fault_of source) h)
+fault_free source e other h = go (fault_of source) h
   where
     go : (o : Option ℕ) → read_past source o ≡ Err e → o ≡ None
     go None h = refl
     go (Some at) h = absurd (other at (cc))
 
-no_text : (limit : Limit) (place at : ℕ) → refusal_of limit place ≡ NotText at → ⊥
+pub no_text : (limit : Limit) (place at : ℕ) → refusal_of limit place ≡ NotText at → ⊥
 no_text Deep place at e = absurd (cc)
 no_text Wide place at e = absurd (cc)
 
@@ -200,7 +200,7 @@ refused source place h =
       stands = refl;
       written = written source r.0 r.1 r.3;
       first = r.3;
-      before = goes_before_each source (is_utf8 source (NoParse place) (λ at e. absurd (cc)) h) r.0 r.1 r.3.before;
+      before = goes_before_each source (utf8_of source (fault_free source (NoParse place) (λ at e. absurd (cc)) h)) r.0 r.1 r.3.before;
       with_it = with_it source r.0 r.1 r.3;
       itself = itself source r.0 r.1 r.3;
     })
@@ -210,4 +210,4 @@ pub passed : (source : Text) (place : ℕ) (limit : Limit) → read_of source �
 passed source place limit h =
     let r = passed_first source place limit h in
     let far = passed_at source (r.0, limit) r.1 in
-    (r.0, r.1, r.2, goes_before_each source (is_utf8 source (refusal_of limit place) (no_text limit place) h) r.0 (omega (arith, far)) r.3)
+    (r.0, r.1, r.2, goes_before_each source (utf8_of source (fault_free source (refusal_of limit place) (no_text limit place) h)) r.0 (omega (arith, far)) r.3)

@@ -55,9 +55,15 @@ pub record IsRefusedAt (source : Text) (place : ℕ) : Type 0 where
   pub with_it : (s : Scanned) (more : Text) → IsWrittenAt source place s → StandsApart more → IsInGrammar (take s.token.end source ++ more) → ⊥
   pub itself : IsInGrammar source → ⊥
 
--- so it is of a text that the rules refuse
+-- a UTF-8 text that is refused at a place, and of which no token up to the refused one passes a limit
+pub record IsRefused (source : Text) (place : ℕ) : Type 0 where
+  pub is_text : fault_of source ≡ None
+  pub refused : IsRefusedAt source place
+  pub within : (p : ℕ × Limit) → first_passed source (tokens_of source) ≡ Some p → refused.number < p.0
+
+-- the rules refuse a text at a place exactly where it is so
 abbrev pub RefusedTexts : Type 0
-RefusedTexts = (source : Text) (place : ℕ) → read_of source ≡ Err (NoParse place) → IsRefusedAt source place
+RefusedTexts = (source : Text) (place : ℕ) → (read_of source ≡ Err (NoParse place) → IsRefused source place) × (IsRefused source place → read_of source ≡ Err (NoParse place))
 
 -- what stands before the first token that passes a limit, or before a token before it, goes on to a text in the grammar
 abbrev pub PassedTexts : Type 0
