@@ -70,6 +70,10 @@ lead_gap at breaks b t count len found Told is fits few inner z (suc n) edge eno
         → drop len (take count (b ∷ t) ++ z) ≡ take (count - len) (drop len (b ∷ t)) ++ z → scan_from n (at + len) (breaks_then breaks len (b ∷ t)) (take (count - len) (drop len (b ∷ t)) ++ z) ≡ ss → scan_from (suc n) at breaks (take count (b ∷ t) ++ z) ≡ ss
     joined ss step passed left on = step ∙ rw (passed, left) on
 
+-- a token, and what is scanned behind it
+token_then : (scan ss : List Scanned) (first : Scanned) (n at : ℕ) (old new : Text) → scan ≡ first ∷ scan_from n at false old → old ≡ new → scan_from n at false new ≡ ss → scan ≡ first ∷ ss
+token_then scan ss first n at old new step same on = step ∙ ap (λ x. first ∷ scan_from n at false x) same ∙ ap (λ x. first ∷ x) on
+
 lead_token : (at : ℕ) (breaks : Bool) (b : ℕ) (t : Text) (count : ℕ) (kind : TokenKind) (len : ℕ) (found : List Scanned) (Told : Text → List Scanned → Type 0) → front (b ∷ t) ≡ piece.Token kind len → is_written kind ≡ true → len ≤ count → count ≤ length (b ∷ t)
     → Leads (at + len) false (drop len (b ∷ t)) (count - len) found Told → Leads at breaks (b ∷ t) count (token_of kind at (at + len) breaks ∷ found) Told
 lead_token at breaks b t count kind len found Told is real le few inner z zero edge enough =
@@ -83,7 +87,7 @@ lead_token at breaks b t count kind len found Told is real le few inner z (suc n
     let m = cut_length (count - len) (drop len (b ∷ t)) z (let d = length-drop len (b ∷ t) in omega (arith, d, few, le)) in
     let on = inner z n edge (omega (arith, m, l, enough, le, some)) in
     let step = scan_token n at breaks (take count (b ∷ t) ++ z) kind len (omega (arith, l, le, some)) again in
-    (on.0, step ∙ ap (λ x. token_of kind at (at + len) breaks ∷ scan_from n (at + len) false x) left ∙ ap (λ x. token_of kind at (at + len) breaks ∷ x) on.1, on.2)
+    (on.0, token_then (scan_from (suc n) at breaks (take count (b ∷ t) ++ z)) (found ++ on.0) (token_of kind at (at + len) breaks) n (at + len) (drop len (take count (b ∷ t) ++ z)) (take (count - len) (drop len (b ∷ t)) ++ z) step left on.1, on.2)
 
 -- the first of these is like a token of the text that was cut, and they follow it
 pub record Found (s : Scanned) (z : Text) (ss : List Scanned) : Type 0 where

@@ -1,5 +1,5 @@
 -- A text is refused at one place, and at each other kind of refusal it isn't.
-use Rattle.std.proofs.Common.{◌≡◌, ◌∙◌, ◌⊎◌, inl, inr, ℕ, zero, suc, ◌+◌, ◌-◌, ◌≤◌, ◌<◌, ◌==◌, Bool, true, false, nat_lt, nat_le, List, [], ◌∷◌, ◌++◌, length, take, drop, length-take, append_assoc, Result, Ok, Err, Option, Some, None, refl, sym, ap, subst, arith, if◌then◌else◌}
+use Rattle.std.proofs.Common.{◌≡◌, ◌∙◌, inr, ℕ, suc, ◌-◌, ◌≤◌, ◌<◌, ◌==◌, Bool, true, false, nat_lt, List, [], ◌∷◌, ◌++◌, length, take, drop, length-take, append_assoc, Result, Ok, Err, Option, Some, None, refl, sym, ap, subst, arith, if◌then◌else◌}
 use Rattle.std.proofs.lemmas.List.{take-append-drop}
 use Rattle.sp_reader.specs.declared.error.ReadError.{ReadError}
 use Rattle.sp_reader.specs.declared.error.ReadError.TheVariants.{NotText, NoParse, TooDeep, LiteralTooWide, Memory}
@@ -13,7 +13,7 @@ use Rattle.sp_reader.specs.Steps.{Text}
 use Rattle.sp_reader.specs.Tokens.{tokens_of}
 use Rattle.sp_grammar.specs.Statements.{IsProgram}
 use Rattle.sp_grammar.proofs.Texts.{read_is_spelled}
-use Rattle.sp_refusals.specs.Laws.{EndWithin, AreLike, SpellAlike}
+use Rattle.sp_refusals.specs.Laws.{AreLike, SpellAlike}
 use Rattle.sp_refusals.specs.Texts.{GoOn, IsFirstRefused}
 use Rattle.sp_refusals.proofs.Refusals.{alike_on, within_take, left_most}
 use Rattle.sp_refusals.proofs.TextRefusals.{passed_first, passed_at, of_front, take_take}

@@ -3,8 +3,8 @@
 
 ghost use Rattle.sp_refused_texts.specs.Laws.{RefusedTexts, PassedTexts};
 
-/// Where the rules refuse a text, what stands before the refused token goes on to a text in the grammar, and with the token no
-/// text that begins so is in it.
+/// The rules refuse a text exactly where what stands before a token goes on to a text in the grammar, and with the token no text
+/// that begins so is in it.
 pub fn refused_texts()
     ensures { RefusedTexts }
 {}
