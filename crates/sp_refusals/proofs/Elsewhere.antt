@@ -1,5 +1,5 @@
--- Tokens of another text that are of the same kinds, and of which numbers spell the same, are in the grammar too.
-use Rattle.std.proofs.Common.{◌≡◌, ◌∙◌, ℕ, Bool, List, [], ◌∷◌, Option, refl, sym, ap, subst}
+-- Tokens of another text that are of the same kinds, and of which numbers spell the same, or 1, are in the grammar too.
+use Rattle.std.proofs.Common.{◌≡◌, ◌∙◌, ◌⊎◌, inl, inr, ◌≤◌, ℕ, Bool, false, List, [], ◌∷◌, Option, Some, refl, sym, ap, subst, arith}
 use Rattle.sp_words.specs.declared.kind.BinOp.{BinOp}
 use Rattle.sp_words.specs.declared.kind.Style.{Style}
 use Rattle.sp_reader.specs.declared.syntax.expression.SynTy.{SynTy}
@@ -7,7 +7,7 @@ use Rattle.sp_reader.specs.declared.syntax.statement.SynPar.{SynPar}
 use Rattle.sp_reader.specs.declared.token.Token.{Token}
 use Rattle.sp_reader.specs.declared.token.TokenKind.{TokenKind}
 use Rattle.sp_reader.specs.declared.token.TokenKind.TheVariants as k
-use Rattle.sp_reader.specs.Numbers.{has_point, whole as whole_part}
+use Rattle.sp_reader.specs.Numbers.{has_point, whole as whole_part, fraction, with_digit, digit}
 use Rattle.sp_reader.specs.PlainTree.{PlainIdent, PlainDigits, PlainLit, PlainExpr}
 use Rattle.sp_reader.specs.PlainStatement.{PlainSpan, PlainCounter, PlainComb, PlainStmt, PlainStmtKind, PlainDeclKind, PlainDecl, PlainSyntax}
 use Rattle.sp_reader.specs.Steps.{Text, is_name, kind_of, spelling_of}
@@ -17,15 +17,34 @@ use Rattle.sp_grammar.specs.Loops.{IsPar, IsStep, IsSpan, AreSpans, AreBounds, I
 use Rattle.sp_grammar.specs.Statements.{MayHaveStyle, MayStart, IsBound, IsArrow, IsStmt, AreMore, AreStmts, AreValued, IsValued, IsBraced, MayElse, IsKind, IsPort, AreDecls, IsProgram}
 use Rattle.sp_refusals.specs.Laws.{AreLike}
 
+-- tokens of a text and tokens of another that are of the same kinds, one by one; a number spells the same in both, or 1 in the
+-- other
+abbrev pub AreNear : (source other : Text) → List Token → List Token → Type 0
+AreNear source other [] [] = Unit {0}
+AreNear source other [] (u ∷ us) = ⊥
+AreNear source other (t ∷ ts) [] = ⊥
+AreNear source other (t ∷ ts) (u ∷ us) = ((t.kind ≡ u.kind) × (t.kind ≡ k.Number → (spelling_of source t ≡ spelling_of other u) ⊎ (spelling_of other u ≡ 49 ∷ []))) × AreNear source other ts us
+
+pub near : (source other : Text) (ts us : List Token) → AreLike source other ts us → AreNear source other ts us
+near source other [] [] like = tt
+near source other [] (u ∷ us) like = elim like [ ]
+near source other (t ∷ ts) [] like = elim like [ ]
+near source other (t ∷ ts) (u ∷ us) like = ((like.0.0, λ e. inl (like.0.1 e)), near source other ts us like.1)
+
+-- a number without a point, where it is 1 in the other text
+one_spelled : (text : Text) → text ≡ 49 ∷ [] → (has_point text ≡ false) × (whole_part text ≡ Some 1)
+unfolding has_point whole_part fraction with_digit digit
+one_spelled text e = rw e (refl, refl)
+
 module _ (source other : Text) where
   abbrev Like : List Token → List Token → Type 0
-  Like ts vs = AreLike source other ts vs
+  Like ts vs = AreNear source other ts vs
 
   -- something is spelled by these others, which leave others that are like those that were left
   abbrev Again : {A : Type 0} → (List Token → List Token → A → Type 0) → List Token → List Token → Type 0
   Again {A} G us vs = (ws : List Token) × (a : A) × G vs ws a × Like us ws
 
-  first_like : (t : Token) (us vs : List Token) → Like (t ∷ us) vs → (u : Token) × (ws : List Token) × (vs ≡ u ∷ ws) × (t.kind ≡ u.kind) × (t.kind ≡ k.Number → spelling_of source t ≡ spelling_of other u) × Like us ws
+  first_like : (t : Token) (us vs : List Token) → Like (t ∷ us) vs → (u : Token) × (ws : List Token) × (vs ≡ u ∷ ws) × (t.kind ≡ u.kind) × (t.kind ≡ k.Number → (spelling_of source t ≡ spelling_of other u) ⊎ (spelling_of other u ≡ 49 ∷ [])) × Like us ws
   first_like t us [] h = elim h [ ]
   first_like t us (u ∷ ws) h = (u, ws, refl, h.0.0, h.0.1, h.1)
 
@@ -50,12 +69,23 @@ module _ (source other : Text) where
   number_like : (at place : ℕ) {negative : Bool} {ts us : List Token} {d : PlainDigits} → IsNumber source at negative ts us d → {vs : List Token} → Like ts vs → Again (IsNumber other place negative) us vs
   number_like at place {us = us} h {vs} like =
       let f = first_like h.takes.token us vs (subst (λ xs. Like xs vs) h.takes.is like) in
-      (f.1, _, record { takes = record { token = f.0; is = f.2; of_kind = sym f.3 ∙ h.takes.of_kind }; whole = h.whole; part = sym (ap whole_part (f.4 h.takes.of_kind)) ∙ h.part; spells = refl }, f.5)
+      let n = part f.0 (f.4 h.takes.of_kind) in
+      (f.1, _, record { takes = record { token = f.0; is = f.2; of_kind = sym f.3 ∙ h.takes.of_kind }; whole = n.0; part = n.1; spells = refl }, f.5)
+    where
+      part : (u : Token) → (spelling_of source h.takes.token ≡ spelling_of other u) ⊎ (spelling_of other u ≡ 49 ∷ []) → (n : ℕ) × (whole_part (spelling_of other u) ≡ Some n)
+      part u (inl same) = (h.whole, sym (ap whole_part same) ∙ h.part)
+      part u (inr one) = (1, (one_spelled (spelling_of other u) one).1)
 
-  whole_like : {least most : ℕ} {ts us : List Token} {n : ℕ} → IsWhole source least most ts us n → {vs : List Token} → Like ts vs → Again (IsWhole other least most) us vs
-  whole_like {us = us} {n = n} h {vs} like =
-      let f = first_like h.takes.token us vs (subst (λ xs. Like xs vs) h.takes.is like) in
-      (f.1, n, record { takes = record { token = f.0; is = f.2; of_kind = sym f.3 ∙ h.takes.of_kind }; no_point = sym (ap has_point (f.4 h.takes.of_kind)) ∙ h.no_point; spells = sym (ap whole_part (f.4 h.takes.of_kind)) ∙ h.spells; low = h.low; high = h.high }, f.5)
+  whole_like : {least most : ℕ} {ts us : List Token} {n : ℕ} → least ≤ 1 → 1 ≤ most → IsWhole source least most ts us n → {vs : List Token} → Like ts vs → Again (IsWhole other least most) us vs
+  whole_like {least} {most} {us = us} {n = n} low high h {vs} like =
+      let f = first_like h.takes.token us vs (subst (λ xs. Like xs vs) h.takes.is like) in by f.0 f.1 f.2 f.3 (f.4 h.takes.of_kind) f.5
+    where
+      by : (u : Token) (ws : List Token) → vs ≡ u ∷ ws → h.takes.token.kind ≡ u.kind → (spelling_of source h.takes.token ≡ spelling_of other u) ⊎ (spelling_of other u ≡ 49 ∷ []) → Like us ws → Again (IsWhole other least most) us vs
+      by u ws is kind (inl same) rest =
+          (ws, n, record { takes = record { token = u; is = is; of_kind = sym kind ∙ h.takes.of_kind }; no_point = sym (ap has_point same) ∙ h.no_point; spells = sym (ap whole_part same) ∙ h.spells; low = h.low; high = h.high }, rest)
+      by u ws is kind (inr one) rest =
+          let p = one_spelled (spelling_of other u) one in
+          (ws, 1, record { takes = record { token = u; is = is; of_kind = sym kind ∙ h.takes.of_kind }; no_point = p.0; spells = p.1; low = low; high = high }, rest)
 
   width_like : {ts us : List Token} {n : ℕ} → IsWidth source ts us n → {vs : List Token} → Like ts vs → Again (IsWidth other) us vs
   width_like h like = let a = takes_like h.takes like in (a.0, _, record { takes = a.1; spells = refl }, a.2)
@@ -76,11 +106,11 @@ module _ (source other : Text) where
   target_like (IsTarget.to d t b) l = let a = takes_like d l in let c = takes_like t a.2 in let e = bracketed_like b c.2 in (e.0, _, IsTarget.to a.1 c.1 e.2, e.3)
 
   dims_like : {ts us : List Token} {ds : List ℕ} → IsDims source ts us ds → {vs : List Token} → Like ts vs → Again (IsDims other) us vs
-  dims_like (IsDims.line o x c) l = let a = takes_like o l in let b = whole_like x a.2 in let d = takes_like c b.3 in (d.0, _, IsDims.line a.1 b.2 d.1, d.2)
+  dims_like (IsDims.line o x c) l = let a = takes_like o l in let b = whole_like (omega arith) (omega arith) x a.2 in let d = takes_like c b.3 in (d.0, _, IsDims.line a.1 b.2 d.1, d.2)
   dims_like (IsDims.plane o x m y c) l =
-      let a = takes_like o l in let b = whole_like x a.2 in let d = takes_like m b.3 in let e = whole_like y d.2 in let f = takes_like c e.3 in (f.0, _, IsDims.plane a.1 b.2 d.1 e.2 f.1, f.2)
+      let a = takes_like o l in let b = whole_like (omega arith) (omega arith) x a.2 in let d = takes_like m b.3 in let e = whole_like (omega arith) (omega arith) y d.2 in let f = takes_like c e.3 in (f.0, _, IsDims.plane a.1 b.2 d.1 e.2 f.1, f.2)
   dims_like (IsDims.block o x m y n z c) l =
-      let a = takes_like o l in let b = whole_like x a.2 in let d = takes_like m b.3 in let e = whole_like y d.2 in let f = takes_like n e.3 in let g = whole_like z f.2 in let h = takes_like c g.3 in
+      let a = takes_like o l in let b = whole_like (omega arith) (omega arith) x a.2 in let d = takes_like m b.3 in let e = whole_like (omega arith) (omega arith) y d.2 in let f = takes_like n e.3 in let g = whole_like (omega arith) (omega arith) z f.2 in let h = takes_like c g.3 in
       (h.0, _, IsDims.block a.1 b.2 d.1 e.2 f.1 g.2 h.1, h.2)
 
   signed_like : {ts us : List Token} {d : PlainDigits} → IsSignedNumber source ts us d → {vs : List Token} → Like ts vs → Again (IsSignedNumber other) us vs
@@ -108,7 +138,7 @@ module _ (source other : Text) where
     expr_like (IsExpr.operand p) l = let a = prefixed_like p l in (a.0, _, IsExpr.operand a.2, a.3)
     expr_like (IsExpr.tighter p) l = let a = expr_like p l in (a.0, _, IsExpr.tighter a.2, a.3)
     expr_like (IsExpr.operation is p t q) l = let a = expr_like p l in let b = takes_like t a.3 in let c = expr_like q b.2 in (c.0, _, IsExpr.operation is a.2 b.1 c.2, c.3)
-    expr_like (IsExpr.shifted is p t n) l = let a = expr_like p l in let b = takes_like t a.3 in let c = whole_like n b.2 in (c.0, _, IsExpr.shifted is a.2 b.1 c.2, c.3)
+    expr_like (IsExpr.shifted is p t n) l = let a = expr_like p l in let b = takes_like t a.3 in let c = whole_like (omega arith) (omega arith) n b.2 in (c.0, _, IsExpr.shifted is a.2 b.1 c.2, c.3)
 
     prefixed_like : {ts us : List Token} {e : PlainExpr} → IsPrefixed source ts us e → {vs : List Token} → Like ts vs → Again (IsPrefixed other) us vs
     prefixed_like (IsPrefixed.bare p) l = let a = postfix_like p l in (a.0, _, IsPrefixed.bare a.2, a.3)
@@ -147,11 +177,11 @@ module _ (source other : Text) where
 
   par_like : {ts us : List Token} {p : Option SynPar} → IsPar source ts us p → {vs : List Token} → Like ts vs → Again (IsPar other) us vs
   par_like IsPar.none {vs} l = (vs, _, IsPar.none, l)
-  par_like (IsPar.lanes w n) l = let a = takes_like w l in let b = whole_like n a.2 in (b.0, _, IsPar.lanes a.1 b.2, b.3)
+  par_like (IsPar.lanes w n) l = let a = takes_like w l in let b = whole_like (omega arith) (omega arith) n a.2 in (b.0, _, IsPar.lanes a.1 b.2, b.3)
 
   step_like : {ts us : List Token} {n : ℕ} → IsStep source ts us n → {vs : List Token} → Like ts vs → Again (IsStep other) us vs
   step_like IsStep.one {vs} l = (vs, _, IsStep.one, l)
-  step_like (IsStep.by w n) l = let a = takes_like w l in let b = whole_like n a.2 in (b.0, _, IsStep.by a.1 b.2, b.3)
+  step_like (IsStep.by w n) l = let a = takes_like w l in let b = whole_like (omega arith) (omega arith) n a.2 in (b.0, _, IsStep.by a.1 b.2, b.3)
 
   span_like : {ts us : List Token} {s : PlainSpan} → IsSpan source ts us s → {vs : List Token} → Like ts vs → Again (IsSpan other) us vs
   span_like (IsSpan.an_index p) l = let a = expr_like p l in (a.0, _, IsSpan.an_index a.2, a.3)
@@ -208,9 +238,9 @@ module _ (source other : Text) where
   bound_like j (IsBound.a_reg w t s) l = let a = takes_like w l in let b = bracketed_like t a.2 in let c = start_like s b.3 in (c.0, _, IsBound.a_reg a.1 b.2 c.2, c.3)
   bound_like j (IsBound.a_sram w t d) l = let a = takes_like w l in let b = bracketed_like t a.2 in let c = dims_like d b.3 in (c.0, _, IsBound.a_sram a.1 b.2 c.2, c.3)
   bound_like j (IsBound.a_fifo w t o n c) l =
-      let a = takes_like w l in let b = bracketed_like t a.2 in let d = takes_like o b.3 in let e = whole_like n d.2 in let f = takes_like c e.3 in (f.0, _, IsBound.a_fifo a.1 b.2 d.1 e.2 f.1, f.2)
+      let a = takes_like w l in let b = bracketed_like t a.2 in let d = takes_like o b.3 in let e = whole_like (omega arith) (omega arith) n d.2 in let f = takes_like c e.3 in (f.0, _, IsBound.a_fifo a.1 b.2 d.1 e.2 f.1, f.2)
   bound_like j (IsBound.a_line_buffer w t o n m p c) l =
-      let a = takes_like w l in let b = bracketed_like t a.2 in let d = takes_like o b.3 in let e = whole_like n d.2 in let f = takes_like m e.3 in let g = whole_like p f.2 in let h = takes_like c g.3 in
+      let a = takes_like w l in let b = bracketed_like t a.2 in let d = takes_like o b.3 in let e = whole_like (omega arith) (omega arith) n d.2 in let f = takes_like m e.3 in let g = whole_like (omega arith) (omega arith) p f.2 in let h = takes_like c g.3 in
       (h.0, _, IsBound.a_line_buffer a.1 b.2 d.1 e.2 f.1 g.2 h.1, h.2)
   bound_like j (IsBound.a_word e) l = let a = expr_like e l in (a.0, _, IsBound.a_word a.2, a.3)
 

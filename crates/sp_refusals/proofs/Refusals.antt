@@ -12,7 +12,7 @@ use Rattle.sp_grammar.proofs.AgainPrograms.{program_again}
 use Rattle.sp_grammar.proofs.Programs.{program_is}
 use Rattle.sp_refusals.specs.Laws.{SpellAlike, AreLike, EndWithin, without_last}
 use Rattle.std.specs.Prelude.{map}
-use Rattle.sp_refusals.proofs.Elsewhere.{program_like}
+use Rattle.sp_refusals.proofs.Elsewhere.{near, program_like}
 use Rattle.sp_refusals.proofs.ContinuedWords.{SmallNumber}
 use Rattle.sp_refusals.proofs.ContinuedPrograms.{goes_on}
 use Rattle.sp_refusals.proofs.Steady.{AtMost}
@@ -20,7 +20,7 @@ use Rattle.sp_refusals.proofs.SteadyPrograms.{refused_again, whole, whole_go, va
 
 -- ---- tokens of two texts
 
-alike_back : (source other : Text) (ts : List Token) → SpellAlike source other ts → SpellAlike other source ts
+pub alike_back : (source other : Text) (ts : List Token) → SpellAlike source other ts → SpellAlike other source ts
 alike_back source other [] h = tt
 alike_back source other (t ∷ ts) h = (sym h.0, alike_back source other ts h.1)
 
@@ -51,7 +51,7 @@ spelled_on source more t le = go (nat_le t.at t.end) refl
     go true is = rw (first, other) (same (grind arith))
     go false is = refl
 
-alike_on : (source more : Text) (ts : List Token) → EndWithin source ts → SpellAlike source (source ++ more) ts
+pub alike_on : (source more : Text) (ts : List Token) → EndWithin source ts → SpellAlike source (source ++ more) ts
 alike_on source more [] h = tt
 alike_on source more (t ∷ ts) h = (spelled_on source more t h.0, alike_on source more ts h.1)
 
@@ -126,7 +126,7 @@ like_behind source other (t ∷ ts) (u ∷ front) rest within like = ((sym like.
 pub none_elsewhere : (source other : Text) (ts front rest : List Token) (behind : ℕ) (tree : PlainSyntax) → EndWithin source ts → AreLike source other (without_last behind ts) front → program source ts ≡ Err (suc behind) → IsProgram other (front ++ rest) tree → ⊥
 none_elsewhere source other ts front rest behind tree within like h is =
     let first = within_take source (length ts - behind) ts within in
-    let again = program_like other (source ++ other) is (like_behind source other (without_last behind ts) front rest first like) in
+    let again = program_like other (source ++ other) is (near other (source ++ other) (front ++ rest) (without_last behind ts ++ map (shifted (length source)) rest) (like_behind source other (without_last behind ts) front rest first like)) in
     none_go_on source (source ++ other) ts (map (shifted (length source)) rest) behind again.0 (alike_on source other (without_last behind ts) first) h again.1
 
 pub end_too_early : (source : Text) (ts : List Token) (tree : PlainSyntax) → program source ts ≡ Err 0 → IsProgram source ts tree → ⊥

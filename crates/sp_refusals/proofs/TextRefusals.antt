@@ -19,7 +19,7 @@ use Rattle.sp_refusals.specs.Texts.{GoOn, IsFirstRefused}
 use Rattle.sp_refusals.proofs.Refusals.{within_take, left_most, none_elsewhere, end_too_early, some_go_on}
 use Rattle.sp_refusals.proofs.Within.{tokens_within}
 
-take_take : (m n : ℕ) (ts : List Token) → m ≤ n → take m (take n ts) ≡ take m ts
+pub take_take : (m n : ℕ) (ts : List Token) → m ≤ n → take m (take n ts) ≡ take m ts
 take_take zero n ts le = refl
 take_take (suc m) zero ts le = absurd (omega (arith, le))
 take_take (suc m) (suc n) [] le = refl
@@ -50,12 +50,12 @@ passed_within source c number (t ∷ ts) p e = go (is_wide source t) (taken c t.
     go false None more h = here Deep h
     go false (Some counts) more h = let far = more counts p h in omega (arith, far)
 
-passed_at : (source : Text) (p : ℕ × Limit) → first_passed source (tokens_of source) ≡ Some p → p.0 < 0 + length (tokens_of source)
+pub passed_at : (source : Text) (p : ℕ × Limit) → first_passed source (tokens_of source) ≡ Some p → p.0 < 0 + length (tokens_of source)
 unfolding first_passed
 passed_at source p is = passed_within source (record { around = []; here = 0 }) 0 (tokens_of source) p is
 
 -- of the first tokens of a text
-of_front : (source : Text) (n left : ℕ) → n ≤ length (tokens_of source) → program source (take n (tokens_of source)) ≡ Err left → (n ≡ length (tokens_of source)) ⊎ (1 ≤ left)
+pub of_front : (source : Text) (n left : ℕ) → n ≤ length (tokens_of source) → program source (take n (tokens_of source)) ≡ Err left → (n ≡ length (tokens_of source)) ⊎ (1 ≤ left)
     → (number : ℕ) × (number ≡ n - left) × (number ≤ length (tokens_of source)) × IsFirstRefused source (tokens_of source) number
 of_front source n left le h last = (n - left, refl, omega (arith, le), record { before = before; with_it = with_it; at_end = at_end })
   where

@@ -21,7 +21,7 @@ use Rattle.sp_refusals.specs.Laws.{EndWithin}
 -- ---- what stands at the front of a text
 
 -- a piece of at most so many bytes, where it is a token
-abbrev PieceWithin : ℕ → Piece → Type 0
+abbrev pub PieceWithin : ℕ → Piece → Type 0
 PieceWithin n (piece.Gap len) = Unit {0}
 PieceWithin n (piece.Token kind len) = len ≤ n
 PieceWithin n piece.Open = Unit {0}
@@ -88,7 +88,7 @@ sign_within : (b : ℕ) (z : Text) → (sign_of (b ∷ z)).1 ≤ length (b ∷ z
 unfolding sign_of
 sign_within b z = first_within signs b z
 
-front_within : (b : ℕ) (z : Text) → PieceWithin (length (b ∷ z)) (front (b ∷ z))
+pub front_within : (b : ℕ) (z : Text) → PieceWithin (length (b ∷ z)) (front (b ∷ z))
 unfolding front
 front_within b z = go (is_blank b) (b == 47) (is_ascii_alphabetic b) (is_ascii_digit b) (b == 95) (nat_lt b 128)
   where

@@ -37,6 +37,21 @@ abbrev mutual
   HaveNoTransfer no_stage = Unit {0}
   HaveNoTransfer (more_stage first last comb node rest) = HasNoTransfer node × HaveNoTransfer rest
 
+-- no transfer of a part writes to a DRAM, and none is a sparse one: each is a load
+abbrev mutual
+  pub HasNoStore : PlainNode → Type 0
+  HasNoStore (inner counters owned ops comb) = Unit {0}
+  HasNoStore (outer counters style owned stages) = HaveNoStore stages
+  HasNoStore (fsm start state test body next) = HasNoStore body
+  HasNoStore (branch test first second) = HasNoStore first × HasNoStore second
+  HasNoStore (load r m spans) = Unit {0}
+  HasNoStore (store r m spans) = ⊥
+  HasNoStore (sparse kind r m places spans count par) = ⊥
+
+  pub HaveNoStore : PlainStages → Type 0
+  HaveNoStore no_stage = Unit {0}
+  HaveNoStore (more_stage first last comb node rest) = HasNoStore node × HaveNoStore rest
+
 -- A node is right by what stands around it, the counters around stand in the table, and the plan leaves time and has places for it.
 -- It is the node of a number, in a core that is small.
 pub record CanEmit (d : Draft) (core : PlainCore) (plan : PlainPlan) (table : List AroundNets) (node : PlainNode) (k n : ℕ) : Type 0 where

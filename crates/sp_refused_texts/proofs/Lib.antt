@@ -1,0 +1,12 @@
+pub mod Fronts
+pub mod Written
+pub mod Order
+pub mod Low
+pub mod Cuts
+pub mod Parts
+pub mod Spelled
+pub mod Utf8
+pub mod Goes
+pub mod Before
+pub mod Refused
+pub mod Exactly
