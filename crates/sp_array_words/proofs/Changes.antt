@@ -1,13 +1,13 @@
--- In a core without transfers each change of an SRAM is the write of an operation.
-use Rattle.std.proofs.Common.{◌≡◌, ℕ, ◌+◌, inl, inr, true, List, [], ◌∷◌, length, Option, Some, refl, sym, ap, ◌∙◌}
+-- Each change of an SRAM is the write of an operation or of a transfer that fills it.
+use Rattle.std.proofs.Common.{◌≡◌, ℕ, ◌+◌, ◌⊎◌, inl, inr, true, if◌then◌else◌, List, [], ◌∷◌, length, Option, Some, refl, sym, ap, subst, ◌∙◌, arith, le-ltb}
 use Rattle.std.specs.List.{Contains}
 use Rattle.std.proofs.lemmas.Bool.{false≢true}
 use Rattle.sp_words.specs.declared.kind.Kind.{Kind}
-use Rattle.sp_words.specs.declared.kind.Kind.TheVariants.{Sram}
+use Rattle.sp_words.specs.declared.kind.Kind.TheVariants.{Sram, Dram}
 use Rattle.sp_words.specs.Memory.{Contents}
 use Rattle.sp_core.specs.declared.operation.OpKind.{OpKind}
 use Rattle.sp_core.specs.declared.operation.OpKind.TheVariants.{Word, Count, Live, Read, Write, Enq, Deq, Reset, One, Two, Shift, Mux, Cast}
-use Rattle.sp_core.specs.Declarations.{mem, kind_of}
+use Rattle.sp_core.specs.Declarations.{mem, kind_of, dram_number}
 use Rattle.sp_core.specs.Events.{Act, reads, writes, puts, takes, resets, turns, Event, Moment, touches, slices, renews, keeps, act_of}
 use Rattle.sp_core.specs.Meeting.{changes}
 use Rattle.sp_core.specs.Numbering.{counters_size, number_count}
@@ -33,7 +33,7 @@ in_counters (c ∷ counters) n x r m (inr h) = in_counters counters (n + (length
 
 -- no number stands for a transfer
 mutual
-  in_node : (node : PlainNode) (n x r m : ℕ) → HasNoTransfer node → NodeHas node n x (transfer r m) → ⊥
+  pub in_node : (node : PlainNode) (n x r m : ℕ) → HasNoTransfer node → NodeHas node n x (transfer r m) → ⊥
   in_node (inner counters owned ops comb) n x r m none (inl h) = in_counters counters n x r m h
   in_node (inner counters owned ops comb) n x r m none (inr h) = h
   in_node (outer counters style owned stages) n x r m none (inl h) = in_counters counters n x r m h
@@ -70,14 +70,18 @@ write_kind v w (Shift left by) e = absurd (cc (e))
 write_kind v w Mux e = absurd (cc (e))
 write_kind v w (Cast to) e = absurd (cc (e))
 
-module _ (core : PlainCore) (plan : PlainPlan) (events : List Stamped) (first : Place → Option Contents) (well : HappensWell core plan events first) (none : HasNoTransfer core.root) (m : ℕ) (sram : kind_of core m ≡ Sram) where
-  -- a write of an operation of the core
+-- a DRAM is no SRAM
+dram_kind : (core : PlainCore) (r : ℕ) → kind_of core (dram_number core r) ≡ Dram
+dram_kind core r = ap (λ b. if b then (mem core (dram_number core r)).kind else Dram) (le-ltb (length core.mems + r) (length core.mems) (omega arith))
+
+module _ (core : PlainCore) (plan : PlainPlan) (events : List Stamped) (first : Place → Option Contents) (well : HappensWell core plan events first) (m : ℕ) (sram : kind_of core m ≡ Sram) where
+  -- a write of an operation of the core, or of a transfer of the memory
   pub record IsWritten (x : Moment) : Type 0 where
     pub event : Event
     pub word : ℕ
     pub touch : x ≡ touches event
     pub act : event.act ≡ writes word
-    pub is : IsOperation core m Write event.number
+    pub by : IsOperation core m Write event.number ⊎ ((dram : ℕ) × NodeHas core.root 0 event.number (transfer dram m))
 
   -- an SRAM has no reset
   no_reset : (kind : Kind) → kind ≡ Sram → (start : Option ℕ) → has_reset kind start ≡ true → ⊥
@@ -89,9 +93,16 @@ module _ (core : PlainCore) (plan : PlainPlan) (events : List Stamped) (first : 
     word = w;
     touch = refl;
     act = q;
-    is = record { op = o; stands = stands; mem = does.0 ∙ ap Some p; kind_is = write_kind does.1 w o.kind (does.2 ∙ ap Some q) };
+    by = inl (record { op = o; stands = stands; mem = does.0 ∙ ap Some p; kind_is = write_kind does.1 w o.kind (does.2 ∙ ap Some q) });
   }
-  written e w p q (transfer r k) stands does = absurd (in_node core.root 0 e.number r k none stands)
+  written e w p q (transfer r k) stands (inl on) = record {
+    event = e;
+    word = w;
+    touch = refl;
+    act = q;
+    by = inr (r, subst (λ j. NodeHas core.root 0 e.number (transfer r j)) (sym on ∙ p) stands);
+  }
+  written e w p q (transfer r k) stands (inr off) = absurd (let clash : Dram ≡ Sram = sym (dram_kind core r) ∙ ap (kind_of core) (sym off ∙ p) ∙ sram in cc)
 
   by_act : (e : Event) → e.mem ≡ m → (a : Act) → e.act ≡ a → MayAct core e.mem e.indices a → IsOfItem core (touches e) → changes a ≡ true → IsWritten (touches e)
   by_act e p (reads w) q may of c = absurd (false≢true c)

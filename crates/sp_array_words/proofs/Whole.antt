@@ -1,10 +1,10 @@
--- Each read of a core's memories is answered.
-use Rattle.std.proofs.Common.{◌≡◌, ◌≢◌, ℕ, suc, ◌<◌, inl, inr, List, length, slice_index, refl, sym, ◌∙◌, subst}
+-- Each read of a core's memories is answered, and registers hold their words.
+use Rattle.std.proofs.Common.{◌≡◌, ◌≢◌, ℕ, suc, ◌<◌, inl, inr, List, ◌++◌, length, slice_index, refl, sym, ◌∙◌, subst}
 use Rattle.std.proofs.lemmas.List.Elements.{All-contains}
 use Rattle.sp_words.specs.declared.kind.Kind.{Kind}
 use Rattle.sp_words.specs.declared.kind.Kind.TheVariants.{Reg, Sram, Fifo, LineBuf, Dram, ArgIn, ArgOut}
 use Rattle.sp_netlist.specs.Signals.{Signals}
-use Rattle.sp_core.specs.declared.operation.OpKind.TheVariants.{Read, Deq}
+use Rattle.sp_core.specs.declared.operation.OpKind.TheVariants.{Read}
 use Rattle.sp_core.specs.Declarations.{kind_of}
 use Rattle.sp_core.specs.PlainCore.{PlainCore}
 use Rattle.sp_plan.specs.PlainPlan.{PlainPlan}
@@ -25,9 +25,13 @@ use Rattle.sp_tree_accesses.specs.Queued.{QueuedStands}
 use Rattle.sp_scalar_nets.specs.Runs as scalar
 use Rattle.sp_scalar_words.specs.InTime.{ScalarsHold, ScalarsAnswer}
 use Rattle.sp_array_nets.specs.Runs.{an_argument, a_register, an_array, a_fifo}
+use Rattle.sp_scalar_nets.proofs.Picked.{none_there}
 use Rattle.sp_array_nets.proofs.Fitting.{scalar_of}
 use Rattle.sp_fifo_words.specs.Laws.{FifosAnswer}
 use Rattle.sp_array_words.specs.Laws.{MemoriesHold, ArraysAnswer, MemoriesAnswer}
+use Rattle.sp_array_words.specs.Loads.{NothingIsLoaded}
+use Rattle.sp_array_words.proofs.Apart.{followed_apart, word_apart, fifo_apart}
+use Rattle.sp_array_words.proofs.Changes.{in_node}
 use Rattle.sp_array_words.proofs.Going.{reading, writing, memory_of, memory_goes, answered}
 
 register_scalar : (k : Kind) → IsRegister k → IsScalar k
@@ -49,40 +53,57 @@ no_fifo : (k : Kind) → IsRegister k → k ≡ Fifo → ⊥
 no_fifo k h e = subst IsRegister e h
 
 pub hold : (core : PlainCore) (plan : PlainPlan) → ScalarsHold core plan → MemoriesHold core plan
-hold core plan scalars s events last accesses owners input h well arguments words run m l is = elim (run m l) [
+hold core plan scalars s events last accesses loading owners input h loads well arguments words run m l is = elim (run m l) [
   | an_argument arg same follows ↦ absurd (no_argument (kind_of core m) is arg)
-  | a_register other array fifo r ↦ scalars s events last accesses owners input h well m (slice_index words m) l (register_scalar (kind_of core m) is) other r
+  | a_register other array fifo r ↦
+      scalars s events last accesses owners input h well m (slice_index words m) l (register_scalar (kind_of core m) is) other (word_apart core s events last accesses loading loads m array plan owners (slice_index words m) r)
   | an_array sram part array runs ↦ absurd (no_array (kind_of core m) is sram)
   | a_fifo fifo bank runs ↦ absurd (no_fifo (kind_of core m) is fifo)
 ]
 
+-- where no number stands for a transfer no load is asked for
+pub nothing_loaded : (core : PlainCore) → NothingIsLoaded core
+nothing_loaded core none s events last = record {
+  is_loading = λ a c. absurd (none_there a c);
+  all_loads = λ m n r t sram stands happens. absurd (in_node core.root 0 n r m none stands);
+  act = λ a c. absurd (none_there a c);
+  named = λ a c. absurd (none_there a c);
+}
+
 module _ (core : PlainCore) (plan : PlainPlan) (delays : Delays) where
   pub arrays_answer : PicksAccessesTo → OperationsStay core plan → ((s : Signals) (events : List Stamped) (m last number : ℕ) (touch : Touch) → OperationsGo core plan s events m last number touch) → RunsHoldWords core plan delays → ArraysAnswer core plan delays
-  arrays_answer picks stays go hold_words input h end goes well none s last accesses owners in_time m part sram is runs =
+  arrays_answer picks stays go hold_words input h end goes well s last accesses loading owners in_time loads m part sram is runs =
       let events = (core_timed core plan delays h).events in
       let first = first_contents core input in
-      let holding = hold_words input h end goes s m last part (reading m accesses) (writing m accesses) sram runs (memory_of core plan s events last accesses owners in_time first well stays m sram picks part is none)
-      (memory_goes core plan s events last accesses owners in_time first well stays m sram picks part is (λ u n touch. go s events m u n touch)) in
-      answered core plan s events last accesses owners in_time first well stays m sram picks part is (λ u n touch. go s events m u n touch) holding.answers
+      let holding = hold_words input h end goes s m last part (reading m (accesses ++ loading)) (writing m (accesses ++ loading)) sram runs
+      (memory_of core plan s events last accesses loading owners in_time loads first well goes.inside stays m sram picks part is)
+      (memory_goes core plan s events last accesses loading owners in_time loads first well goes.inside stays m sram picks part is (λ u n touch. go s events m u n touch)) in
+      answered core plan s events last accesses loading owners in_time loads first well goes.inside stays m sram picks part is (λ u n touch. go s events m u n touch) holding.answers
 
   pub memories_answer : ScalarsAnswer core plan → FifosAnswer core plan → ArraysAnswer core plan delays → MemoriesAnswer core plan delays
-  memories_answer scalars fifos arrays input h end goes well none timed s last accesses owners in_time d queued emitted arguments words run given later a w c e = elim (in_time.asked a w c e) [
+  memories_answer scalars fifos arrays input h end goes well timed s last accesses loading owners in_time loads d queued emitted arguments words run given later a w c e = elim (in_time.asked a w c e) [
     | inl read ↦ subst (λ kind. IsAnswered s (core_timed core plan delays h).events (suc last) a.number kind w.after w.net) (sym read) (elim (run a.mem inside) [
-      | an_argument is same follows ↦ by_scalar read (subst IsScalar (sym is) tt) (scalar.an_argument is same follows)
-      | a_register other array fifo r ↦ by_scalar read (scalar_of (kind_of core a.mem) (emitted a.mem inside) array fifo) (scalar.a_register other r)
-      | an_array is part array runs ↦ arrays input h end goes well none s last accesses owners in_time a.mem part is array runs a w c refl read e
+      | an_argument is same follows ↦ by_scalar read (subst IsScalar (sym is) tt) (scalar.an_argument is same (followed_apart core s (core_timed core plan delays h).events last accesses loading loads a.mem (no_port is) (slice_index arguments a.mem) follows))
+      | a_register other array fifo r ↦ by_scalar read (scalar_of (kind_of core a.mem) (emitted a.mem inside) array fifo) (scalar.a_register other (word_apart core s (core_timed core plan delays h).events last accesses loading loads a.mem array plan owners (slice_index words a.mem) r))
+      | an_array is part array runs ↦ arrays input h end goes well s last accesses loading owners in_time loads a.mem part is array runs a w c refl read e
       | a_fifo fifo bank runs ↦ absurd ((All-contains (QueuedStands d core) accesses a queued c).unread read fifo)
     ])
     | inr take ↦ subst (λ kind. IsAnswered s (core_timed core plan delays h).events (suc last) a.number kind w.after w.net) (sym take.0) (elim (run a.mem inside) [
       | an_argument is same follows ↦ absurd (let other : Fifo ≡ ArgIn = sym take.1 ∙ is in cc)
       | a_register other array fifo r ↦ absurd (fifo take.1)
       | an_array is part array runs ↦ absurd (let other : Fifo ≡ Sram = sym take.1 ∙ is in cc)
-      | a_fifo fifo bank runs ↦ fifos timed s (core_timed core plan delays h).events last accesses owners input in_time well d queued a.mem bank inside fifo runs a w c refl take.0 e
+      | a_fifo fifo bank runs ↦ fifos timed s (core_timed core plan delays h).events last accesses owners input in_time well d queued a.mem bank inside fifo (fifo_apart core s (core_timed core plan delays h).events last accesses loading loads a.mem (no_queue fifo) plan owners bank runs) a w c refl take.0 e
     ])
   ]
     where
       inside : a.mem < length core.mems
       inside = All-contains (λ (x : AccessNets). x.mem < length core.mems) accesses a in_time.within c
+
+      no_port : kind_of core a.mem ≡ ArgIn → kind_of core a.mem ≢ Sram
+      no_port is sram = absurd (let clash : ArgIn ≡ Sram = sym is ∙ sram in cc)
+
+      no_queue : kind_of core a.mem ≡ Fifo → kind_of core a.mem ≢ Sram
+      no_queue is sram = absurd (let clash : Fifo ≡ Sram = sym is ∙ sram in cc)
 
       by_scalar : a.kind ≡ Read → IsScalar (kind_of core a.mem) → scalar.RunsScalar core plan s accesses owners (slice_index arguments a.mem) a.mem (slice_index words a.mem) → IsAnswered s (core_timed core plan delays h).events (suc last) a.number Read w.after w.net
       by_scalar read is r = scalars s (core_timed core plan delays h).events last accesses owners input in_time well later a w c read e is (slice_index arguments a.mem) (slice_index words a.mem) r (given a.mem inside)

@@ -1,6 +1,6 @@
 -- The words of SRAMs, and of all memories of a core of registers, arguments, outputs, SRAMs and FIFOs, over the timeline of a run, as
 -- statements.
-use Rattle.std.specs.Prelude.{◌≡◌, ℕ, suc, ◌<◌, ◌≤◌, List, length, slice_index, All, Some}
+use Rattle.std.specs.Prelude.{◌≡◌, ℕ, suc, ◌<◌, ◌≤◌, List, ◌++◌, length, slice_index, All, Some}
 use Rattle.std.specs.List.{Contains}
 use Rattle.sp_words.specs.declared.kind.Kind.TheVariants.{Sram}
 use Rattle.sp_words.specs.Ports.{PlainInput}
@@ -27,34 +27,34 @@ use Rattle.sp_bank_runs.specs.Laws.{GoesWell}
 use Rattle.sp_access_nets.specs.declared.access.AccessNets.{AccessNets}
 use Rattle.sp_tree_handed.specs.declared.owners.OwnerNets.{OwnerNets}
 use Rattle.sp_tree_accesses.specs.Queued.{QueuedStands}
-use Rattle.sp_tree_nets.specs.Emitted.{HasNoTransfer}
 use Rattle.sp_scalar_words.specs.InTime.{MemoriesInTime, ArgumentsGiven, ArgumentsAreLater}
 use Rattle.sp_array_nets.specs.Arrays.{IsArrayOf}
 use Rattle.sp_array_nets.specs.Kinds.{AreEmitted}
 use Rattle.sp_array_nets.specs.Runs.{RunMemories}
+use Rattle.sp_array_words.specs.Loads.{LoadsInTime}
 
 module _ (core : PlainCore) (plan : PlainPlan) where
   -- up to the cycle after, the net of a register or an output has the word that stands there
   abbrev pub MemoriesHold : Type 0
   MemoriesHold =
-      (s : Signals) (events : List Stamped) (last : ℕ) (accesses : List AccessNets) (owners : OwnerNets) (input : PlainInput) → MemoriesInTime core s events last accesses owners → HappensWell core plan events (first_contents core input)
-      → (arguments words : List ℕ) → RunMemories core plan s accesses owners arguments words → (m : ℕ) → m < length core.mems → IsRegister (kind_of core m)
+      (s : Signals) (events : List Stamped) (last : ℕ) (accesses loading : List AccessNets) (owners : OwnerNets) (input : PlainInput) → MemoriesInTime core s events last accesses owners → LoadsInTime core s events last loading
+      → HappensWell core plan events (first_contents core input) → (arguments words : List ℕ) → RunMemories core plan s (accesses ++ loading) owners arguments words → (m : ℕ) → m < length core.mems → IsRegister (kind_of core m)
       → (t : ℕ) → t ≤ suc last → HasWord core (standing core events (first_contents core input) t (copy_place m 0)) (s.net t (slice_index words m))
 
 module _ (core : PlainCore) (plan : PlainPlan) (delays : Delays) where
-  -- In a run that goes well, of a core without transfers, each read of an SRAM is answered with its word up to the cycle after the one up
-  -- to which accesses and owners do what the timeline has.
+  -- In a run that goes well each read of an SRAM is answered with its word up to the cycle after the one up to which accesses, the writes of
+  -- loads and owners do what the timeline has.
   abbrev pub ArraysAnswer : Type 0
   ArraysAnswer =
-      (input : PlainInput) (h : History) (end : Store) → GoesWell core plan delays input h end → HappensWell core plan (core_timed core plan delays h).events (first_contents core input) → HasNoTransfer core.root
-      → (s : Signals) (last : ℕ) (accesses : List AccessNets) (owners : OwnerNets) → MemoriesInTime core s (core_timed core plan delays h).events last accesses owners
-      → (m : ℕ) (part : Banked) → kind_of core m ≡ Sram → IsArrayOf core plan accesses m part → RunsBanked s part
+      (input : PlainInput) (h : History) (end : Store) → GoesWell core plan delays input h end → HappensWell core plan (core_timed core plan delays h).events (first_contents core input)
+      → (s : Signals) (last : ℕ) (accesses loading : List AccessNets) (owners : OwnerNets) → MemoriesInTime core s (core_timed core plan delays h).events last accesses owners → LoadsInTime core s (core_timed core plan delays h).events last loading
+      → (m : ℕ) (part : Banked) → kind_of core m ≡ Sram → IsArrayOf core plan (accesses ++ loading) m part → RunsBanked s part
       → (a : AccessNets) (w : WordNet) → Contains accesses a → a.mem ≡ m → a.kind ≡ Read → a.answer ≡ Some w → IsAnswered s (core_timed core plan delays h).events (suc last) a.number Read w.after w.net
 
   -- so is each read of any memory, and each take from a FIFO, where each memory has its circuit and the core no `Stream` block
   abbrev pub MemoriesAnswer : Type 0
   MemoriesAnswer =
-      (input : PlainInput) (h : History) (end : Store) → GoesWell core plan delays input h end → HappensWell core plan (core_timed core plan delays h).events (first_contents core input) → HasNoTransfer core.root → IsTimed core.root
-      → (s : Signals) (last : ℕ) (accesses : List AccessNets) (owners : OwnerNets) → MemoriesInTime core s (core_timed core plan delays h).events last accesses owners → (d : Draft) → All (QueuedStands d core) accesses
-      → AreEmitted core → (arguments words : List ℕ) → RunMemories core plan s accesses owners arguments words → ArgumentsGiven core input s arguments → ArgumentsAreLater core (core_timed core plan delays h).events accesses
+      (input : PlainInput) (h : History) (end : Store) → GoesWell core plan delays input h end → HappensWell core plan (core_timed core plan delays h).events (first_contents core input) → IsTimed core.root
+      → (s : Signals) (last : ℕ) (accesses loading : List AccessNets) (owners : OwnerNets) → MemoriesInTime core s (core_timed core plan delays h).events last accesses owners → LoadsInTime core s (core_timed core plan delays h).events last loading
+      → (d : Draft) → All (QueuedStands d core) accesses → AreEmitted core → (arguments words : List ℕ) → RunMemories core plan s (accesses ++ loading) owners arguments words → ArgumentsGiven core input s arguments → ArgumentsAreLater core (core_timed core plan delays h).events accesses
       → (a : AccessNets) (w : WordNet) → Contains accesses a → a.answer ≡ Some w → IsAnswered s (core_timed core plan delays h).events (suc last) a.number a.kind w.after w.net

@@ -1,6 +1,7 @@
 //! Laws of SRAMs and of memories of one word over the timeline of a run. Each function does nothing: what it ensures is the law.
 
 ghost use Rattle.sp_array_words.specs.Laws.{ArraysAnswer, MemoriesAnswer, MemoriesHold};
+ghost use Rattle.sp_array_words.specs.Loads.{LoadsWriteInWhole, NothingIsLoaded};
 ghost use Rattle.sp_core.specs.PlainCore.{PlainCore};
 ghost use Rattle.sp_machine.specs.Transfers.{Delays};
 ghost use Rattle.sp_plan.specs.PlainPlan.{PlainPlan};
@@ -12,8 +13,18 @@ use sp_fifo_words::fifos_answer;
 use sp_memory_words::operations_stay;
 use sp_scalar_words::{scalars_answer, scalars_hold};
 
-/// In a run that goes well, of a core without transfers, where accesses and owners do what the timeline has up to a cycle, each
-/// read of an SRAM is answered with its word up to the next cycle.
+/// What writes in time by the events of a load's own runs does so by those of the whole that write its memory.
+pub fn loads_write_in_whole()
+    ensures { LoadsWriteInWhole }
+{}
+
+/// A core without transfers has no writes of loads.
+pub fn nothing_is_loaded()
+    ensures { (core : PlainCore) → NothingIsLoaded core }
+{}
+
+/// In a run that goes well, where accesses, the writes of loads and owners do what the timeline has up to a cycle, each read of an
+/// SRAM is answered with its word up to the next cycle.
 pub fn arrays_answer()
     ensures { (core : PlainCore) (plan : PlainPlan) (delays : Delays) → ArraysAnswer core plan delays }
 {

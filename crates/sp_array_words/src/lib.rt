@@ -1,7 +1,11 @@
-//! The words of the memories of a core in a run: each read of an SRAM is answered, and so is each read of a core of registers, arguments,
-//! outputs and SRAMs.
+//! The words of the memories of a core in a run: each read of an SRAM, which operations and loads write, is answered, and so is each read
+//! of a core of registers, arguments, outputs, SRAMs and FIFOs.
 #![tactic(auto)]
 
+mod examples;
 mod laws;
 
-pub use laws::{arrays_answer, memories_answer, memories_hold};
+pub use examples::worked_load;
+pub use laws::{
+    arrays_answer, loads_write_in_whole, memories_answer, memories_hold, nothing_is_loaded,
+};

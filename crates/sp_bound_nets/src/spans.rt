@@ -1,5 +1,5 @@
 //! The nets of the ends of a slice.
-ghost use Rattle.std.specs.Prelude.{◌≡◌, ◌+◌, ◌<◌, ◌^◌, [], ◌∷◌, map, All, IfOk};
+ghost use Rattle.std.specs.Prelude.{◌≡◌, ◌+◌, ◌<◌, ◌^◌, [], ◌∷◌, length, map, All, IfOk};
 ghost use Rattle.sp_core.specs.Numbering.{spans_size};
 ghost use Rattle.sp_core.specs.Plain.{plain_span};
 ghost use Rattle.sp_op_nets.specs.Acted.{answers_in};
@@ -71,6 +71,7 @@ pub fn emit_spans(
     requires right { AreSpansRight builder.old around.now (map plain_span spans.now) }
     requires numbers { number + spans_size (map plain_span spans.now) < 2 ^ 32 }
     ensures reserves { IfOk result (λ ends. Reserves builder.old builder.new (answers_in ends.acted.items)) }
+    ensures each { IfOk result (λ ends. length ends.nets.items ≡ length spans.now) }
     ensures ends { IfOk result (λ ends. All (HasEnds builder.new) ends.nets.items) }
     ensures acted { IfOk result (λ ends. AreActedLists builder.new number (span_lists (map plain_span spans.now)) ends.acted.items) }
     ensures spans { IfOk result (λ ends. AreSpans builder.old builder.new around.now number (map plain_span spans.now) (nets_of_spans ends.nets.items) ends.acted.items) }

@@ -1,6 +1,7 @@
 -- A netlist that carries the core of a program in lanes carries the program, and keeps to its cost.
-use Rattle.std.proofs.Common.{◌≡◌, ℕ, ◌≤◌, ◌+◌, true, List, [], map, length, refl, sym, ap, subst, ◌∙◌, arith}
+use Rattle.std.proofs.Common.{◌≡◌, ℕ, zero, suc, ◌<◌, ◌≤◌, ◌+◌, max, true, List, [], ◌∷◌, map, length, slice_index_or, refl, sym, ap, subst, ◌∙◌, arith}
 use Rattle.sp_words.specs.Ports.{PlainPorts, PlainInput}
+use Rattle.std.specs.Prelude.{fold}
 use Rattle.sp_netlist.specs.Cells.{PlainCell}
 use Rattle.sp_netlist.specs.Cycle.{Ends, done_in}
 use Rattle.sp_netlist.specs.Ports.{ports_of}
@@ -11,6 +12,8 @@ use Rattle.sp_tree.specs.PlainProgram.{PlainProgram}
 use Rattle.sp_tree.specs.Shape.{Shape}
 use Rattle.sp_core.specs.Declarations.{dram_number}
 use Rattle.sp_core.specs.Elements.{numbers_below}
+use Rattle.std.specs.List.{All}
+use Rattle.sp_core.specs.Events.{At}
 use Rattle.sp_core.specs.History.{History}
 use Rattle.sp_core.specs.Inputs.{InputFits}
 use Rattle.sp_core.specs.Latency.{limit}
@@ -36,7 +39,7 @@ use Rattle.sp_machine.specs.Told.{plan_timings}
 use Rattle.sp_machine.specs.Transfers.{Delays}
 use Rattle.sp_program_runs.specs.RunsLaws.{HasLanedPlan, LanedProgramRuns, Runs}
 use Rattle.sp_stored_cores.specs.Closing.{RunsByPlan}
-use Rattle.sp_lower.specs.Carries.{CarriesCore}
+use Rattle.sp_lower.specs.Carries.{EndsInTime, CarriesCore}
 use Rattle.sp_compile.specs.Choices.{lanes_of, forms_of, IsPlanOf}
 use Rattle.sp_build.specs.Buildable.{is_buildable}
 use Rattle.sp_build.specs.Carries.{greatest_delay, FitsPorts, Carries}
@@ -71,13 +74,26 @@ drams_left core h left outs drams e = ap drams_in e
     drams_in (ended a b c) = b
     drams_in _ = []
 
--- no transfer waits in a core without transfers
+-- no transfer waits
 abbrev pub none_waits : Delays
 none_waits k path ask = 0
 
+-- each delay of a list is no greater than the greatest
+over_first : (acc : ℕ) (ns : List ℕ) → acc ≤ fold max acc ns
+over_first acc [] = omega arith
+over_first acc (n ∷ ns) = let a : max acc n ≤ fold max (max acc n) ns = over_first (max acc n) ns in omega arith
+
+over_each : (acc : ℕ) (ns : List ℕ) (k x : ℕ) → k < length ns → slice_index_or ns k x ≤ fold max acc ns
+over_each acc [] k x l = absurd (omega (arith, l))
+over_each acc (n ∷ ns) zero x l = let a : max acc n ≤ fold max (max acc n) ns = over_first (max acc n) ns in omega arith
+over_each acc (n ∷ ns) (suc k) x l = over_each (max acc n) ns k x (omega (arith, l))
+
+below_greatest : (xs : List ℕ) → All (λ e. e ≤ greatest_delay xs) xs
+below_greatest xs k x l = over_each 0 xs k x l
+
 -- a run of the core in lanes, from an input that fits
 found_run : (p : PlainProgram) (plan : PlainPlan) → ChosenAreValid → StaysCore p → ProgramIsByLane p → (planned : IsPlanOf p plan) → is_buildable (lanes_of p) ≡ true
-    → (n : ℕ) (input : PlainInput) (h : History) (left : Store) → FitsPorts p.ports input → run_core in_lanes n (lanes_of p) input ≡ went h left → RunsByPlan (lanes_of p) plan none_waits input h left
+    → (n : ℕ) (input : PlainInput) (h : History) (left : Store) → FitsPorts p.ports input → run_core in_lanes n (lanes_of p) input ≡ went h left → RunsByPlan (lanes_of p) plan input h left
 found_run p plan valid is by planned built n input h left fits ran =
     record {
       meets = planned.meets;
@@ -90,6 +106,10 @@ found_run p plan valid is by planned built n input h left fits ran =
 
 less : (took most : ℕ) → took + 2 ≤ most → took ≤ most
 less took most h = omega (arith, h)
+
+-- a run has one history
+one_history : (h k : History) (s t : Store) → went h s ≡ went k t → h ≡ k
+one_history h k s t e = cc e
 
 ends_as : (cells : List PlainCell) (input : PlainInput) (delays : List ℕ) (most cycle : ℕ) (outs given : List ℕ) (drams found : List (List ℕ)) → given ≡ outs → found ≡ drams
     → Ends (record { cells = cells; args = input.args; drams = input.drams; delays = delays }) most (done_in cycle given found) → Ends (record { cells = cells; args = input.args; drams = input.drams; delays = delays }) most (done_in cycle outs drams)
@@ -105,25 +125,29 @@ carried p plan valid is by decided runs planned h cells carries = record {
       let delay = greatest_delay delays in
       let has : HasLanedPlan p planned.meets plan = record { is_timed = is_timed p h; meets_are = planned.are_meets; is_chosen = planned.is_planned } in
       let r : Runs p plan none_waits delay input n turns outs drams = runs none_waits delay planned.meets has (λ k path ask. omega arith) n input (fits_core p input fits) outs drams turns shape e in
-      let within = r.ends n ((decided input).ends n outs drams turns shape e).0 in
-      let took = (core_timed core plan none_waits r.history).took in
-      let ends = carries.carries none_waits input r.history r.left (found_run p plan valid is by planned h n input r.history r.left fits r.ran) delays (limit n delay core) (less took (limit n delay core) within) in
+      let c : EndsInTime core plan cells input r.history r.left delays (limit n delay core) = carries.carries input r.history r.left (found_run p plan valid is by planned h n input r.history r.left fits r.ran) delays (limit n delay core) in
+      let again : Runs p plan c.timing delay input n turns outs drams = runs c.timing delay planned.meets has (c.small delay (below_greatest delays)) n input (fits_core p input fits) outs drams turns shape e in
+      let within = subst (λ (x : History). (core_timed core plan c.timing x).took + 2 ≤ limit n delay core) (one_history again.history r.history again.left r.left (sym again.ran ∙ r.ran)) (again.ends n ((decided input).ends n outs drams turns shape e).0) in
+      let took = (core_timed core plan c.timing r.history).took in
+      let ends = c.ends (limit n delay core) (less took (limit n delay core) within) (less took (limit n delay core) within) in
       (took, ends_as cells input delays (limit n delay core) took outs (out_words core r.left) drams (dram_words core r.left) (outs_left core r.history r.left outs drams r.words) (drams_left core r.history r.left outs drams r.words) ends));
 }
 
-cost_of_run : (p : PlainProgram) (plan : PlainPlan) (d : ℕ) → EndsInCost (lanes_of p) plan none_waits d → IsTimed (lanes_of p).root → (forms : _) (meets : _) → IsValid (lanes_of p) forms meets plan
+cost_of_run : (p : PlainProgram) (plan : PlainPlan) (timing : Delays) (d : ℕ) → ((k : ℕ) (path : List At) (ask : ℕ) → timing k path ask ≤ d) → EndsInCost (lanes_of p) plan timing d → IsTimed (lanes_of p).root → (forms : _) (meets : _) → IsValid (lanes_of p) forms meets plan
     → (n : ℕ) (input : PlainInput) (h : History) (left : Store) → run_core in_lanes n (lanes_of p) input ≡ went h left
-    → (core_timed (lanes_of p) plan none_waits h).took + 2 ≤ core_cost (lanes_of p) (plan_timings plan) d (shape_of (lanes_of p).root h)
+    → (core_timed (lanes_of p) plan timing h).took + 2 ≤ core_cost (lanes_of p) (plan_timings plan) d (shape_of (lanes_of p).root h)
 unfolding run_core
-cost_of_run p plan d ends timed forms meets valid n input h left ran =
-    ends (λ k path ask. omega arith) (node_planned (lanes_of p) forms meets plan (lanes_of p).root 0 0 timed valid.kinds) n no_scope (first_store (lanes_of p) input) left h ran
+cost_of_run p plan timing d small ends timed forms meets valid n input h left ran =
+    ends small (node_planned (lanes_of p) forms meets plan (lanes_of p).root 0 0 timed valid.kinds) n no_scope (first_store (lanes_of p) input) left h ran
 
 pub cost_kept : (p : PlainProgram) (plan : PlainPlan) → ChosenAreValid → StaysCore p → ProgramIsByLane p → ((delays : Delays) (d : ℕ) → EndsInCost (lanes_of p) plan delays d) → CoresKeepCosts p plan
 cost_kept p plan valid is by costs planned built cells carries = record {
   within = λ input delays n h left fits ran. (
       let core = lanes_of p in
-      let took = (core_timed core plan none_waits h).took in
-      let cost = cost_of_run p plan (greatest_delay delays) (costs none_waits (greatest_delay delays)) (is_timed p built) (forms_of p) planned.meets (valid core (forms_of p) planned.meets plan is planned.is_planned) n input h left ran in
-      let ends = carries.carries none_waits input h left (found_run p plan valid is by planned built n input h left fits ran) delays took (omega arith) in
-      (took, cost, ends));
+      let delay = greatest_delay delays in
+      let most = core_cost core (plan_timings plan) delay (shape_of core.root h) in
+      let c : EndsInTime core plan cells input h left delays most = carries.carries input h left (found_run p plan valid is by planned built n input h left fits ran) delays most in
+      let took = (core_timed core plan c.timing h).took in
+      let cost = cost_of_run p plan c.timing delay (c.small delay (below_greatest delays)) (costs c.timing delay) (is_timed p built) (forms_of p) planned.meets (valid core (forms_of p) planned.meets plan is planned.is_planned) n input h left ran in
+      (took, cost, c.ends took (less took most cost) (omega arith)));
 }

@@ -12,15 +12,15 @@ use Rattle.sp_core.specs.Declarations.{mem, kind_of, is_stream}
 use Rattle.sp_core.specs.Invariant.{IsCore}
 use Rattle.sp_core.specs.Meaning.{is_arg}
 use Rattle.sp_core.specs.Numbering.{counters_size, node_count, number_count}
-use Rattle.sp_core.specs.PlainCore.{PlainOp, PlainCounter, PlainNode, PlainStages, inner, outer, fsm, branch, load, store, sparse, no_stage, more_stage, PlainMem, no_mem, PlainCore}
+use Rattle.sp_core.specs.PlainCore.{PlainOp, PlainCounter, PlainSpan, single, range, PlainNode, PlainStages, inner, outer, fsm, branch, load, store, sparse, no_stage, more_stage, PlainMem, no_mem, PlainCore}
 use Rattle.sp_plan.specs.PlainPlan.{PlainPlan}
 use Rattle.sp_overlap.specs.Whole.{IsTimed, AreTimed}
 use Rattle.sp_plans.specs.Planned.{IsPlanned}
 use Rattle.sp_plans.specs.Laws.{ChosenAreValid}
-use Rattle.sp_tree_handed.specs.Lists.{NumberedOps, numbered, standing, bounds_in, lists_in, lists_in_stages}
+use Rattle.sp_tree_handed.specs.Lists.{NumberedOps, numbered, standing, bounds_in, spans_in, lists_in, lists_in_stages}
 use Rattle.sp_array_nets.specs.Kinds.{IsEmitted, AreEmitted}
 use Rattle.sp_tree_handed.specs.Standing.{BoundsReadArguments}
-use Rattle.sp_tree_nets.specs.Emitted.{HasNoTransfer, HaveNoTransfer}
+use Rattle.sp_tree_nets.specs.Emitted.{HasNoStore, HaveNoStore}
 use Rattle.sp_tree_nets.specs.Whole.{HasTreePlan}
 use Rattle.sp_stored_cores.specs.Quiet.{HasNoCounters}
 use Rattle.sp_lower.specs.Carries.{CanLower}
@@ -34,7 +34,7 @@ use Rattle.sp_array_nets.specs.Laws.{ValidPlansHaveArrays}
 use Rattle.sp_lane_programs.specs.LanesLaws.{ProgramIsByLane}
 use Rattle.sp_lane_cores.specs.Laws.{StaysCore}
 use Rattle.sp_compile.specs.Choices.{lanes_of, forms_of, IsPlanOf}
-use Rattle.sp_build.specs.Buildable.{is_stored, is_stored_mem, is_argument, reads_argument, is_early, has_early_bounds, is_node_buildable, are_buildable, is_uncounted_by, is_uncounted, is_buildable}
+use Rattle.sp_build.specs.Buildable.{is_stored, is_stored_mem, is_argument, reads_argument, is_early, has_early_bounds, has_early_ends, is_node_buildable, are_buildable, is_uncounted_by, is_uncounted, is_buildable}
 use Rattle.sp_build.specs.Laws.{BuildableCanBeLowered}
 use Rattle.sp_build.proofs.Lists.{cons_cases, all_at, only}
 
@@ -87,6 +87,26 @@ module _ (core : PlainCore) where
         ]
       ]
 
+  spans_early : (spans : List PlainSpan) (n : ℕ) → list_all (has_early_ends core) spans ≡ true → AreEarly (spans_in spans n)
+  spans_early [] n h list (k, lt, e) once = absurd (omega (arith, lt))
+  spans_early (single ops ∷ spans) n h list there once =
+      let both = and_parts (has_early_ends core (single ops)) (list_all (has_early_ends core) spans) h in
+      elim (cons_cases (standing n ops) (spans_in spans (n + length ops)) list there) [
+        | inl e ↦ subst (λ (l : NumberedOps). list_all (is_early core) l.ops ≡ true) e both.0
+        | inr more ↦ spans_early spans (n + length ops) both.1 list more once
+      ]
+  spans_early (range a b ∷ spans) n h list there once =
+      let here = and_parts (has_early_ends core (range a b)) (list_all (has_early_ends core) spans) h in
+      let both = and_parts (list_all (is_early core) a) (list_all (is_early core) b) here.0 in
+      let rest = spans_in spans (n + (length a + length b)) in
+      elim (cons_cases (standing n a) (standing (n + length a) b ∷ rest) list there) [
+        | inl e ↦ subst (λ (l : NumberedOps). list_all (is_early core) l.ops ≡ true) e both.0
+        | inr more ↦ elim (cons_cases (standing (n + length a) b) rest list more) [
+          | inl e ↦ subst (λ (l : NumberedOps). list_all (is_early core) l.ops ≡ true) e both.1
+          | inr last ↦ spans_early spans (n + (length a + length b)) here.1 list last once
+        ]
+      ]
+
   either_early : (xs ys : List NumberedOps) → AreEarly xs → AreEarly ys → AreEarly (xs ++ ys)
   either_early xs ys f g list there once = elim (Contains-append_cases xs ys list there) [
     | inl a ↦ f list a once
@@ -117,7 +137,7 @@ module _ (core : PlainCore) where
         let both = and_parts (is_node_buildable core first) (is_node_buildable core second) h in
         before_early n test (lists_in first (n + length test) ++ lists_in second (n + (length test + number_count first)))
         (either_early (lists_in first (n + length test)) (lists_in second (n + (length test + number_count first))) (lists_early first (n + length test) both.0) (lists_early second (n + (length test + number_count first)) both.1))
-    lists_early (load r m spans) n h = absurd (true≢false (sym h))
+    lists_early (load r m spans) n h = spans_early spans n h
     lists_early (store r m spans) n h = absurd (true≢false (sym h))
     lists_early (sparse kind r m places spans count par) n h = absurd (true≢false (sym h))
 
@@ -144,19 +164,19 @@ module _ (core : PlainCore) where
     all_timed (more_stage first last comb node rest) h = let both = and_parts (is_node_buildable core node) (are_buildable core rest) h in (timed node both.0, all_timed rest both.1)
 
   mutual
-    moves_none : (node : PlainNode) → is_node_buildable core node ≡ true → HasNoTransfer node
-    moves_none (inner counters owned ops comb) h = tt
-    moves_none (outer counters style owned stages) h =
-        all_move_none stages (and_parts (not (is_stream style) && list_all (has_early_bounds core) counters) (are_buildable core stages) h).1
-    moves_none (fsm start state test body next) h = moves_none body h
-    moves_none (branch test first second) h = let both = and_parts (is_node_buildable core first) (is_node_buildable core second) h in (moves_none first both.0, moves_none second both.1)
-    moves_none (load r m spans) h = absurd (true≢false (sym h))
-    moves_none (store r m spans) h = absurd (true≢false (sym h))
-    moves_none (sparse kind r m places spans count par) h = absurd (true≢false (sym h))
+    loads_alone : (node : PlainNode) → is_node_buildable core node ≡ true → HasNoStore node
+    loads_alone (inner counters owned ops comb) h = tt
+    loads_alone (outer counters style owned stages) h =
+        all_load stages (and_parts (not (is_stream style) && list_all (has_early_bounds core) counters) (are_buildable core stages) h).1
+    loads_alone (fsm start state test body next) h = loads_alone body h
+    loads_alone (branch test first second) h = let both = and_parts (is_node_buildable core first) (is_node_buildable core second) h in (loads_alone first both.0, loads_alone second both.1)
+    loads_alone (load r m spans) h = tt
+    loads_alone (store r m spans) h = absurd (true≢false (sym h))
+    loads_alone (sparse kind r m places spans count par) h = absurd (true≢false (sym h))
 
-    all_move_none : (stages : PlainStages) → are_buildable core stages ≡ true → HaveNoTransfer stages
-    all_move_none no_stage h = tt
-    all_move_none (more_stage first last comb node rest) h = let both = and_parts (is_node_buildable core node) (are_buildable core rest) h in (moves_none node both.0, all_move_none rest both.1)
+    all_load : (stages : PlainStages) → are_buildable core stages ≡ true → HaveNoStore stages
+    all_load no_stage h = tt
+    all_load (more_stage first last comb node rest) h = let both = and_parts (is_node_buildable core node) (are_buildable core rest) h in (loads_alone node both.0, all_load rest both.1)
 
   reads_arguments : is_node_buildable core core.root ≡ true → BoundsReadArguments core core.root
   reads_arguments h list there once op m has k e = early_reads op m (all_at (is_early core) list.ops op (lists_early core.root 0 h list there once) has) k e
@@ -211,7 +231,7 @@ can_lower p plan valid is by arrays planned short h =
           meets = planned.meets;
           valid = valid core (forms_of p) planned.meets plan is planned.is_planned;
           timed = timed core core.root b.tree;
-          moves_none = moves_none core core.root b.tree;
+          loads_alone = loads_alone core core.root b.tree;
           latencies = short;
         };
         stored = stored core b.are_stored;
@@ -223,7 +243,7 @@ can_lower p plan valid is by arrays planned short h =
       stored = record {
         right = is;
         timed = timed core core.root b.tree;
-        moves_none = moves_none core core.root b.tree;
+        loads_alone = loads_alone core core.root b.tree;
         uncounted = uncounted core.root b.root;
         stored = stored core b.are_stored;
         arguments = reads_arguments core b.tree;

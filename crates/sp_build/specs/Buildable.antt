@@ -8,7 +8,7 @@ use Rattle.sp_core.specs.declared.operation.OpKind.{OpKind}
 use Rattle.sp_core.specs.declared.operation.OpKind.TheVariants.{Read}
 use Rattle.sp_core.specs.Declarations.{mem, is_stream}
 use Rattle.sp_core.specs.Meaning.{is_arg}
-use Rattle.sp_core.specs.PlainCore.{PlainOp, PlainCounter, PlainNode, PlainStages, inner, outer, fsm, branch, load, store, sparse, no_stage, more_stage, PlainMem, PlainCore}
+use Rattle.sp_core.specs.PlainCore.{PlainOp, PlainCounter, PlainSpan, single, range, PlainNode, PlainStages, inner, outer, fsm, branch, load, store, sparse, no_stage, more_stage, PlainMem, PlainCore}
 use Rattle.sp_compile.specs.Choices.{lanes_of}
 
 -- a register, an argument, an output, an SRAM or a FIFO
@@ -40,14 +40,19 @@ module _ (core : PlainCore) where
   abbrev pub has_early_bounds : PlainCounter → Bool
   has_early_bounds c = list_all is_early c.from && list_all is_early c.until
 
-  -- no transfer, no `Stream` block, and such bounds
+  -- so do the ends of a slice
+  abbrev pub has_early_ends : PlainSpan → Bool
+  has_early_ends (single ops) = list_all is_early ops
+  has_early_ends (range a b) = list_all is_early a && list_all is_early b
+
+  -- no transfer but loads, no `Stream` block, and such bounds and slices
   abbrev mutual
     pub is_node_buildable : PlainNode → Bool
     is_node_buildable (inner counters owned ops comb) = list_all has_early_bounds counters
     is_node_buildable (outer counters style owned stages) = (not (is_stream style) && list_all has_early_bounds counters) && are_buildable stages
     is_node_buildable (fsm start state test body next) = is_node_buildable body
     is_node_buildable (branch test first second) = is_node_buildable first && is_node_buildable second
-    is_node_buildable (load r m spans) = false
+    is_node_buildable (load r m spans) = list_all has_early_ends spans
     is_node_buildable (store r m spans) = false
     is_node_buildable (sparse kind r m places spans count par) = false
 
@@ -67,7 +72,7 @@ is_uncounted (fsm start state test body next) = true
 is_uncounted (branch test first second) = true
 is_uncounted _ = false
 
--- A core all of whose memories are of these kinds, whose root has no counters. No transfer names its DRAMs.
+-- A core all of whose memories are of these kinds, whose transfers are loads, and whose root has no counters.
 abbrev pub is_buildable : PlainCore → Bool
 is_buildable core = list_all is_stored_mem core.mems && (is_node_buildable core core.root && is_uncounted core.root)
 

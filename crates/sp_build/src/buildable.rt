@@ -3,10 +3,10 @@ ghost use Rattle.std.specs.Prelude.{◌≡◌, ◌&&◌, map};
 ghost use Rattle.std.specs.List.{list_all};
 ghost use Rattle.sp_core.specs.CoreParts.{plain_core};
 ghost use Rattle.sp_core.specs.Declarations.{is_stream};
-ghost use Rattle.sp_core.specs.Plain.{plain_counter, plain_mem, plain_node, plain_op};
-ghost use Rattle.sp_build.specs.Buildable.{is_stored, is_stored_mem, is_argument, reads_argument, is_early, has_early_bounds, is_node_buildable, is_uncounted, is_buildable};
+ghost use Rattle.sp_core.specs.Plain.{plain_counter, plain_mem, plain_node, plain_op, plain_span};
+ghost use Rattle.sp_build.specs.Buildable.{is_stored, is_stored_mem, is_argument, reads_argument, is_early, has_early_bounds, has_early_ends, is_node_buildable, is_uncounted, is_buildable};
 
-use sp_core::{Core, CoreCounter, CoreMem, Node, Op, OpKind};
+use sp_core::{Core, CoreCounter, CoreMem, CoreSpan, Node, Op, OpKind};
 use sp_plan::kind;
 use sp_words::{Kind, Style};
 
@@ -94,13 +94,33 @@ fn have_early_bounds(core: &Core, counters: &[CoreCounter]) -> bool
     all
 }
 
+fn has_early_ends(core: &Core, span: &CoreSpan) -> bool
+    ensures { result ≡ has_early_ends (plain_core core.now) (plain_span span.now) }
+{
+    match span {
+        CoreSpan::One(ops) => are_early(core, ops),
+        CoreSpan::Range(from, until) => are_early(core, from) && are_early(core, until),
+    }
+}
+
+/// Whether the ends of slices do.
+fn have_early_ends(core: &Core, spans: &[CoreSpan]) -> bool
+    ensures { result ≡ list_all (has_early_ends (plain_core core.now)) (map plain_span spans.now) }
+{
+    let mut all = true;
+    for span in spans {
+        all = both(all, has_early_ends(core, span));
+    }
+    all
+}
+
 fn is_stream(style: Style) -> bool
     ensures { result ≡ is_stream style }
 {
     style == Style::Stream
 }
 
-/// Whether a part has no transfer and no `Stream` block, and its bounds read arguments alone.
+/// Whether a part has no transfer but loads and no `Stream` block, and its bounds and slices read arguments alone.
 fn is_node_buildable(core: &Core, node: &Node) -> bool
     ensures { result ≡ is_node_buildable (plain_core core.now) (plain_node node.now) }
 {
@@ -122,7 +142,7 @@ fn is_node_buildable(core: &Core, node: &Node) -> bool
         Node::Branch { yes, no, .. } => {
             both(is_node_buildable(core, yes), is_node_buildable(core, no))
         }
-        Node::Load { .. } => false,
+        Node::Load { span, .. } => have_early_ends(core, span),
         Node::Store { .. } => false,
         Node::Sparse { .. } => false,
     }
@@ -141,8 +161,8 @@ fn is_uncounted(node: &Node) -> bool
     }
 }
 
-/// Whether a core has a netlist so far: its memories are registers, arguments, outputs, SRAMs and FIFOs; it has no transfer and no
-/// `Stream` block; bounds of counters read arguments alone; its root has no counters.
+/// Whether a core has a netlist so far: its memories are registers, arguments, outputs, SRAMs and FIFOs; its transfers are loads; it has
+/// no `Stream` block; bounds of counters and ends of slices read arguments alone; its root has no counters.
 pub fn is_buildable(core: &Core) -> bool
     ensures { result ≡ is_buildable (plain_core core.now) }
 {

@@ -1,5 +1,5 @@
 -- The cells of DRAMs, and the words that they keep where nothing stores to them.
-use Rattle.std.proofs.Common.{◌≡◌, ℕ, zero, suc, ◌<◌, Bool, false, List, [], ◌∷◌, ◌++◌, length, map, filter_map, slice_index, slice_index_or, Option, None, nat_lt, refl, sym, ap, ap₂, ◌∙◌, arith, append_assoc}
+use Rattle.std.proofs.Common.{◌≡◌, ℕ, zero, suc, ◌+◌, ◌<◌, Bool, false, List, [], ◌∷◌, ◌++◌, length, map, filter_map, slice_index, slice_index_or, Option, None, nat_lt, refl, sym, ap, ap₂, subst, ◌∙◌, arith, append_assoc}
 use Rattle.std.specs.List.{AllZip, list_any, range_with_len}
 use Rattle.std.proofs.lemmas.Bool.{or_parts, cond-true, lt-ltb}
 use Rattle.std.proofs.lemmas.List.FromFn.{length-map-range_with_len, get_or-map-range_with_len, fill_by_all}
@@ -62,6 +62,18 @@ module _ (g : Setting) (s : Signals) (run : IsRun g s) (none : NoCell is_store g
       here =
           fill_by_all (slice_index (given_words g first)) (map (s.dram t first) (range_with_len 0 (word_count port.dims))) (word_count port.dims) 0 (length-map-range_with_len (s.dram t first) 0 (word_count port.dims))
           (λ k l. get_or-map-range_with_len (s.dram t first) 0 (word_count port.dims) k k 0 l (omega arith) ∙ word_stays before first port.name port.ty port.dims (dram_cells (suc first) ports ++ rest) split t k l)
+
+  -- so has each word of each of them
+  pub words_stay : (before : List PlainCell) (first : ℕ) (ports : List PlainPort) (rest : List PlainCell) → g.cells ≡ before ++ dram_cells first ports ++ rest
+      → (t r i : ℕ) (other : PlainPort) → r < length ports → i < word_count (slice_index_or ports r other).dims → s.dram t (first + r) i ≡ slice_index (given_words g (first + r)) i
+  words_stay before first [] rest e t r i other l m = absurd (omega (arith, l))
+  words_stay before first (port ∷ ports) rest e t zero i other l m =
+      subst (λ d. s.dram t d i ≡ slice_index (given_words g d) i) {x = first} {y = first + 0} (omega arith)
+      (word_stays before first port.name port.ty port.dims (dram_cells (suc first) ports ++ rest) (e ∙ append_assoc before (dram_cell first port.name port.ty port.dims ∷ dram_cells (suc first) ports) rest) t i m)
+  words_stay before first (port ∷ ports) rest e t (suc r) i other l m =
+      subst (λ d. s.dram t d i ≡ slice_index (given_words g d) i) {x = suc first + r} {y = first + suc r} (omega arith)
+      (words_stay (before ++ dram_cell first port.name port.ty port.dims ∷ []) (suc first) ports rest
+      (e ∙ ap (λ cells. cells ++ rest) (sym (append_assoc before (dram_cell first port.name port.ty port.dims ∷ []) (dram_cells (suc first) ports)))) t r i other (omega (arith, l)) m)
 
 at_place : (before : List (List ℕ)) (ws : List ℕ) (rest : List (List ℕ)) → slice_index_or (before ++ ws ∷ rest) (length before) [] ≡ ws
 at_place [] ws rest = refl

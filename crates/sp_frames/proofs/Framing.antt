@@ -1,5 +1,5 @@
 -- What the cells of a frame are, one list after the other.
-use Rattle.std.proofs.Common.{◌≡◌, ℕ, zero, suc, ◌+◌, ◌<◌, ◌≤◌, ◌==◌, ◌⊎◌, inl, inr, Bool, true, false, not, ◌||◌, cond, List, [], ◌∷◌, ◌++◌, length, map, filter, filter_map, slice_index, Option, None, count_by, refl, sym, ap, ap₂, ◌∙◌, arith, append_assoc, append-nil, eq-eqb, ne_eqb}
+use Rattle.std.proofs.Common.{◌≡◌, ℕ, zero, suc, ◌+◌, ◌<◌, ◌≤◌, ◌==◌, ◌⊎◌, inl, inr, Bool, true, false, not, ◌||◌, cond, List, [], ◌∷◌, ◌++◌, length, map, filter, filter_map, slice_index, slice_index_or, Option, None, count_by, refl, sym, ap, ap₂, subst, ◌∙◌, arith, append_assoc, append-nil, eq-eqb, ne_eqb}
 use Rattle.std.specs.List.{list_any, range_with_len}
 use Rattle.std.proofs.lemmas.Bool.{or_parts}
 use Rattle.std.proofs.lemmas.List.Elements.{filter_map-append}
@@ -14,7 +14,7 @@ use Rattle.sp_netlist.specs.Cells.{PlainCell, in_cell, out_cell, done_cell, cons
 use Rattle.sp_netlist.specs.Rules.{IsNetlist, IsRight, is_in, is_bank, is_done, is_dram, out_name}
 use Rattle.sp_netlist.specs.Ports.{in_port, out_port, dram_port, ports_of}
 use Rattle.sp_netlist.specs.Parts.{NoCell, names_bank}
-use Rattle.sp_netlist.specs.Signals.{Setting, Signals, IsRun}
+use Rattle.sp_netlist.specs.Signals.{Setting, Signals, IsRun, given_words}
 use Rattle.sp_netlist.specs.Cycle.{is_enabled_tap, SharesNone, cell_is_done, is_over, out_words, dram_lists, done_in, EndsAs}
 use Rattle.sp_netlist.specs.Laws.{HasOneEnding}
 use Rattle.sp_netlist.specs.Draft.{Draft}
@@ -25,7 +25,7 @@ use Rattle.sp_taps.specs.Stores.{is_bank_part, is_no_bank_part, AddsBanks}
 use Rattle.sp_frames.specs.Framed.{in_cells, dram_cells, front_cells, out_cells, is_load, is_no_load, is_store, is_outside, AddsLoads, AddsInside, IsFramed}
 use Rattle.sp_frames.specs.Ports.{HaveNoDims}
 use Rattle.sp_frames.specs.Laws.{given_lists, FrameLaws, FramesRight, TapsShareNone, FramesEnd}
-use Rattle.sp_frames.proofs.DramCells.{drams_fail, drams_give, drams_declare, drams_words, lists_stay}
+use Rattle.sp_frames.proofs.DramCells.{drams_fail, drams_give, drams_declare, drams_words, lists_stay, words_stay}
 
 -- a cell of none of the kinds that declare a port, read one or end a run
 record IsPlain (x : PlainCell) : Type 0 where
@@ -300,6 +300,11 @@ module _ (cells : List PlainCell) (args : List PlainPort) (arg_nets : List ℕ) 
       lists_are (s.dram t)
       ∙ lists_stay g s run (ap (list_any is_store) same ∙ no_store) (in_cells args arg_nets) 0 drams (inside ++ (out_cells outs out_nets ++ done_cell done ∷ [])) (behind g same) t
 
+  drams_given : (g : Setting) (s : Signals) → g.cells ≡ cells → IsRun g s → (t r i : ℕ) (other : PlainPort) → r < length drams → i < word_count (slice_index_or drams r other).dims → s.dram t r i ≡ slice_index (given_words g r) i
+  drams_given g s same run t r i other l m =
+      subst (λ d. s.dram t d i ≡ slice_index (given_words g d) i) {x = 0 + r} {y = r} (omega arith)
+      (words_stay g s run (ap (list_any is_store) same ∙ no_store) (in_cells args arg_nets) 0 drams (inside ++ (out_cells outs out_nets ++ done_cell done ∷ [])) (behind g same) t r i other l m)
+
   declared : {X : Type 0} (k : PlainCell → Option X) (a b : List X) → filter_map k (front_cells args arg_nets drams) ≡ a → filter_map k inside ≡ [] → filter_map k (out_cells outs out_nets) ≡ b → filter_map k (done_cell done ∷ []) ≡ []
       → filter_map k cells ≡ a ++ b
   declared {X} k a b ea eg eb ed =
@@ -326,6 +331,7 @@ module _ (cells : List PlainCell) (args : List PlainPort) (arg_nets : List ℕ) 
     over = over;
     outs_read = outs_read;
     drams_stand = drams_stand;
+    drams_given = drams_given;
     args_stand = λ g s same run t i l.
         let rest = dram_cells 0 drams ++ (inside ++ (out_cells outs out_nets ++ done_cell done ∷ [])) in
         let split = behind g same ∙ append_assoc (in_cells args arg_nets) (dram_cells 0 drams) (inside ++ (out_cells outs out_nets ++ done_cell done ∷ [])) in

@@ -66,6 +66,7 @@ pub record FrameLaws (cells : List PlainCell) (args : List PlainPort) (arg_nets 
   pub outs_read : (words : ℕ → ℕ) → out_words cells words ≡ map words out_nets
   -- nothing stores to a DRAM, so in each cycle it has the words that it is given
   pub drams_stand : (g : Setting) (s : Signals) → g.cells ≡ cells → IsRun g s → (t : ℕ) → dram_lists cells (s.dram t) ≡ given_lists g 0 drams
+  pub drams_given : (g : Setting) (s : Signals) → g.cells ≡ cells → IsRun g s → (t r i : ℕ) (other : PlainPort) → r < length drams → i < word_count (slice_index_or drams r other).dims → s.dram t r i ≡ slice_index (given_words g r) i
   pub args_stand : (g : Setting) (s : Signals) → g.cells ≡ cells → IsRun g s → (t i : ℕ) → i < length arg_nets → s.net t (slice_index arg_nets i) ≡ slice_index g.args i
 
 abbrev pub FramesRight : Type 0

@@ -1,7 +1,7 @@
 -- The frame is closed around the circuit of a core, and what it then carries.
-use Rattle.std.proofs.Common.{◌≡◌, ◌≢◌, ℕ, zero, suc, cond, append_assoc, ◌<◌, ◌≤◌, ◌^◌, ◌==◌, ◌&&◌, nat_lt, true, false, List, [], ◌∷◌, ◌++◌, map, length, count_by, Contains, slice_index, slice_index_or, inl, inr, refl, sym, ap, subst, ◌∙◌, arith, if◌then◌else◌, eq-eqb, ne_eqb}
+use Rattle.std.proofs.Common.{◌≡◌, ◌≢◌, ℕ, zero, suc, cond, append_assoc, ◌-◌, ◌<◌, ◌≤◌, ◌^◌, ◌==◌, ◌&&◌, nat_lt, true, false, List, [], ◌∷◌, ◌++◌, map, length, count_by, Contains, slice_index, slice_index_or, Option, inl, inr, refl, sym, ap, subst, ◌∙◌, arith, if◌then◌else◌, eq-eqb, ne_eqb}
 use Rattle.std.specs.List.{All, AllZip, filter, list_all}
-use Rattle.std.proofs.lemmas.Bool.{and_parts, cases_eq, lt-ltb, ltb-true}
+use Rattle.std.proofs.lemmas.Bool.{and_parts, cases_eq, lt-ltb, le-ltb, ltb-true}
 use Rattle.sp_words.specs.declared.kind.Kind.{Kind}
 use Rattle.sp_words.specs.declared.kind.Kind.TheVariants.{Sram, Fifo, ArgIn, ArgOut}
 use Rattle.sp_words.specs.Ports.{PlainPort, PlainInput}
@@ -15,7 +15,7 @@ use Rattle.sp_netlist.specs.Cycle.{is_enabled_tap, Ends, done_in}
 use Rattle.sp_netlist.specs.Draft.{Draft}
 use Rattle.sp_netlist.specs.Laws.{HasOneRun}
 use Rattle.sp_netlist.specs.Ports.{ports_of}
-use Rattle.sp_netlist.specs.Rules.{IsNetlist, is_bank}
+use Rattle.sp_netlist.specs.Rules.{IsNetlist, is_bank, is_unit}
 use Rattle.sp_netlist.specs.Signals.{Setting, Signals, IsRun, Holds}
 use Rattle.sp_gates.specs.Bits.{IsOne}
 use Rattle.sp_gates.specs.Grows.{Grows, Fills}
@@ -26,7 +26,8 @@ use Rattle.sp_gates.proofs.Growing.{Fills-join, Grows-join, HasNet-stays}
 use Rattle.sp_gates.proofs.Running.{none_joined, runs_earlier}
 use Rattle.sp_netlist.specs.Parts.{names_bank}
 use Rattle.std.proofs.lemmas.List.Sums.{sum_by-append}
-use Rattle.sp_core.specs.Declarations.{mem, kind_of}
+use Rattle.sp_core.specs.Declarations.{mem, kind_of, dims, dram_number}
+use Rattle.sp_core.specs.Events.{At}
 use Rattle.sp_core.specs.History.{History}
 use Rattle.sp_core.specs.Invariant.{IsCore}
 use Rattle.sp_core.specs.MemoryRules.{names_of, are_port_names, is_mem_right, is_dram_right, are_ports_of}
@@ -38,7 +39,7 @@ use Rattle.sp_core.specs.Store.{Store, words_of}
 use Rattle.sp_plan.specs.PlainPlan.{PlainPlan}
 use Rattle.sp_machine.specs.Timeline.{core_timed}
 use Rattle.sp_machine.specs.Transfers.{Delays}
-use Rattle.sp_frames.specs.Framed.{front_cells, out_cells, AddsInside, IsFramed}
+use Rattle.sp_frames.specs.Framed.{in_cells, dram_cells, front_cells, out_cells, AddsLoads, AddsInside, IsFramed}
 use Rattle.sp_frames.specs.Laws.{given_lists, PortLaws, FramesRight, FramesEnd, SharesNoneUpTo, TapsShareNone, IsFirst}
 use Rattle.sp_frames.specs.Ports.{AreNamed, HaveNoDims, HaveSizes, HaveNets}
 use Rattle.sp_port_nets.specs.Laws.{ArgumentsArePorts, OutputsArePorts, ArgumentsHaveWords}
@@ -47,10 +48,20 @@ use Rattle.sp_taps.specs.Laws.{TapLaws}
 use Rattle.sp_taps.specs.Stores.{AddsBanks, HasNoConflict}
 use Rattle.sp_taps.specs.Wires.{Promises}
 use Rattle.sp_stored_cores.specs.Circuits.{StoredCircuit, StartsOnce}
-use Rattle.sp_stored_cores.specs.Closing.{RunsByPlan, GoesAlong, StoredCoresGo}
-use Rattle.sp_stored_cores.specs.Outside.{DramsStay}
-use Rattle.sp_stored_trees.specs.Fits.{ArgumentsStand, WordsStand}
-use Rattle.sp_lower.specs.Carries.{CanLower, CarriesCore}
+use Rattle.sp_channel_runs.specs.Bursts.{DelaysAreSmall}
+use Rattle.sp_transfer_runs.specs.Delays.{delays_of, DelaysAreThere}
+use Rattle.sp_stored_cores.specs.Closing.{RunsByPlan, DramsGiven, GoesAlong, StoredCoresGo}
+use Rattle.sp_stored_cores.specs.Loads.{took_by}
+use Rattle.sp_stored_cores.specs.Outside.{DramsStay, FirstWordsGiven}
+use Rattle.sp_load_units.specs.declared.unit.LoadUnit.{LoadUnit}
+use Rattle.sp_load_units.specs.Laws.{UnitsAreOpen, UnitsStay}
+use Rattle.sp_load_units.specs.Units.{unit_wires_in, UnitsStand, HaveDone}
+use Rattle.sp_op_nets.specs.Reserved.{Rise}
+use Rattle.sp_tree_handed.specs.Moves.{HaveEnds}
+use Rattle.sp_tree_handed.proofs.Moving.{ends_later}
+use Rattle.sp_stored_trees.specs.Fits.{ArgumentsStand, LoadsStand, WordsStand}
+use Rattle.sp_stored_trees.proofs.Emitting.{earlier}
+use Rattle.sp_lower.specs.Carries.{CanLower, EndsInTime, CarriesCore}
 
 -- an element of a list whose words are changed
 at_map : (f : ℕ → ℕ) (xs : List ℕ) (i : ℕ) → i < length xs → slice_index (map f xs) i ≡ f (slice_index xs i)
@@ -147,34 +158,17 @@ module _ (core : PlainCore) (right : IsCore core) (law : PortLaws) (arg_ports : 
       any_port (x ∷ ps) zero p q l = refl
       any_port (x ∷ ps) (suc i) p q l = any_port ps i p q (omega (arith, l))
 
--- what runs on a draft runs on the one before, in the same setting
-more_banks : (xs ys : List PlainCell) → count_by is_bank xs ≤ count_by is_bank (xs ++ ys)
-more_banks xs ys = let e = sum_by-append (λ x. cond (is_bank x) 1 0) xs ys in omega (arith, e)
-
-earlier : (old new : Draft) (s : Signals) → Grows old new → (r : RunsOn s new.cells) → (q : RunsOn s old.cells) × (q.setting ≡ r.setting)
-earlier old new s g r = (
-  record {
-    setting = r.setting;
-    rest = g.added ++ r.rest;
-    run = r.run;
-    stands = r.stands ∙ ap (λ cells. cells ++ r.rest) g.stands ∙ append_assoc old.cells g.added r.rest;
-    banks = λ bank within.
-        let more : count_by is_bank old.cells ≤ count_by is_bank new.cells = subst (λ cells. count_by is_bank old.cells ≤ count_by is_bank cells) (sym g.stands) (more_banks old.cells g.added) in
-        none_joined (names_bank bank) g.added r.rest (g.apart bank within) (r.banks bank (omega (arith, within, more)));
-  },
-  refl,
-)
-
 none_in : (n : ℕ) → Contains [] n → ⊥
 none_in n (k, l, e) = absurd (omega (arith, l))
 
 pub joined : (stored a b c e final : Draft) (wires : List ℕ) → Fills stored a [] → Fills a b [] → Fills b c [] → Fills c e wires → Fills e final [] → Fills stored final (wires ++ [])
 joined stored a b c e final wires f g h i j = Fills-join stored a final [] (wires ++ []) f (Fills-join a b final [] (wires ++ []) g (Fills-join b c final [] (wires ++ []) h (Fills-join c e final wires [] i j)))
 
--- banks, and gates behind them, stand inside of a frame
-pub inside : (law : PortLaws) (begun stored a b c e final : Draft) (wires : List ℕ) → AddsBanks begun stored → Fills stored a [] → Fills a b [] → Fills b c [] → Fills c e wires → Fills e final [] → AddsInside begun final
-inside law begun stored a b c e final wires banks f g h i j =
-    law.inside_join begun stored final (law.banks_inside begun stored banks) (law.gates_inside stored final (joined stored a b c e final wires f g h i j).gates)
+-- units that load, banks, and gates behind them, stand inside of a frame
+pub inside : (law : PortLaws) (begun manned stored a b c e final : Draft) (wires : List ℕ) → AddsLoads begun manned → AddsBanks manned stored → Fills stored a [] → Fills a b [] → Fills b c [] → Fills c e wires → Fills e final [] → AddsInside begun final
+inside law begun manned stored a b c e final wires units banks f g h i j =
+    law.inside_join begun manned final (law.loads_inside begun manned units)
+    (law.inside_join manned stored final (law.banks_inside manned stored banks) (law.gates_inside stored final (joined stored a b c e final wires f g h i j).gates))
 
 -- of the nets that are open in the end none is
 pub closed : (taps : TapLaws) (begun stored a b c e final : Draft) (wires : List ℕ) → ((net : ℕ) → IsOpen begun net → ⊥) → Promises begun stored wires → Fills stored a [] → Fills a b [] → Fills b c [] → Fills c e wires → Fills e final []
@@ -188,11 +182,39 @@ open_later stored a b c f g h net o = h.still_open net (g.still_open net (f.stil
 pub grown : (begun stored a b c : Draft) (wires : List ℕ) → Promises begun stored wires → Fills stored a [] → Fills a b [] → Fills b c [] → Grows begun c
 grown begun stored a b c wires promises f g h = Grows-join begun stored c promises.grows (Fills-join stored a c [] [] f (Fills-join a b c [] [] g h)).grows
 
+-- arguments and DRAMs are no units
+none_among : (args : List PlainPort) (nets : List ℕ) (rest : List PlainCell) → count_by is_unit (in_cells args nets ++ rest) ≡ count_by is_unit rest
+none_among [] nets rest = refl
+none_among (port ∷ args) [] rest = refl
+none_among (port ∷ args) (net ∷ nets) rest = none_among args nets rest
+
+no_dram_unit : (first : ℕ) (drams : List PlainPort) → count_by is_unit (dram_cells first drams) ≡ 0
+no_dram_unit first [] = refl
+no_dram_unit first (port ∷ drams) = no_dram_unit (suc first) drams
+
+pub no_units : (args : List PlainPort) (nets : List ℕ) (drams : List PlainPort) → count_by is_unit (front_cells args nets drams) ≡ 0
+no_units args nets drams = none_among args nets (dram_cells 0 drams) ∙ no_dram_unit 0 drams
+
+-- units still stand behind banks and the first gates, and none of their nets is one of a bank
+pub loads_stand : (core : PlainCore) (manned stored a b c : Draft) (units : List LoadUnit) (ends : List (Option ℕ)) (wires : List ℕ) (from : ℕ) → UnitsAreOpen → UnitsStay → UnitsStand manned core units → HaveEnds manned ends core.root 0 → HaveDone ends units → Rise from (unit_wires_in units)
+    → Promises manned stored wires → Fills stored a [] → Fills a b [] → Fills b c [] → LoadsStand c core units ends wires
+loads_stand core manned stored a b c units ends wires from are_open stay stand have done rise promises f g h =
+    let grows = grown manned stored a b c wires promises f g h in
+    record {
+      units_stand = stay manned c core units grows (λ net there. open_later stored a b c f g h net (promises.still_open net (are_open manned core units stand net there))) stand;
+      ends_stand = ends_later manned c ends core.root 0 grows have;
+      done = done;
+      from = from;
+      rise = rise;
+      apart = λ net there other. (let low = (are_open manned core units stand net there).within in let high = promises.fresh net other in omega (arith, low, high));
+    }
+
 -- the drafts one after the other, and what is known of the nets that were added
-pub record Steps (core : PlainCore) (plan : PlainPlan) (begun stored a b c e final : Draft) (ports wires : List ℕ) (always never start : ℕ) (child : Child) (arguments words : List ℕ) (done : ℕ) : Type 0 where
+pub record Steps (core : PlainCore) (plan : PlainPlan) (begun manned stored a b c e final : Draft) (ports wires : List ℕ) (always never start : ℕ) (child : Child) (arguments words : List ℕ) (done : ℕ) : Type 0 where
   pub front : begun.cells ≡ front_cells core.ports.args ports core.ports.drams
   pub have : HaveNets begun core.ports.args ports
-  pub banks : AddsBanks begun stored
+  pub units : AddsLoads begun manned
+  pub banks : AddsBanks manned stored
   pub no_conflict : (bank : ℕ) → bank < count_by is_bank stored.cells → HasNoConflict stored bank
   pub one : Fills stored a []
   pub is_one : IsOne a always
@@ -203,19 +225,19 @@ pub record Steps (core : PlainCore) (plan : PlainPlan) (begun stored a b c e fin
   pub tree : Fills c e wires
   pub begins : child.start ≡ start
   pub arguments_are : arguments ≡ nets_of_arguments core.mems ports
-  pub circuit : (s : Signals) → RunsOn s e.cells → StoredCircuit core plan s child arguments words
+  pub circuit : (s : Signals) (run : RunsOn s e.cells) → StoredCircuit core plan run.setting s child arguments words
   pub last : Fills e final []
   pub dones : (s : Signals) → RunsOn s final.cells → Holds (λ t. s.net t done) 0 (λ t. s.net t always) (λ t. s.net t child.done)
 
 module _ (core : PlainCore) (plan : PlainPlan) (can : CanLower core plan) (right : IsCore core) (law : PortLaws) (arg_ports : ArgumentsArePorts) (out_ports : OutputsArePorts)
-    (begun stored a b c e final : Draft) (ports wires : List ℕ) (always never start : ℕ) (child : Child) (arguments words : List ℕ) (done : ℕ) (x : Steps core plan begun stored a b c e final ports wires always never start child arguments words done) where
+    (begun manned stored a b c e final : Draft) (ports wires : List ℕ) (always never start : ℕ) (child : Child) (arguments words : List ℕ) (done : ℕ) (x : Steps core plan begun manned stored a b c e final ports wires always never start child arguments words done) where
   behind : Fills stored final (wires ++ [])
   behind = joined stored a b c e final wires x.one x.none x.held x.tree x.last
 
   whole : AddsInside begun final
-  whole = inside law begun stored a b c e final wires x.banks x.one x.none x.held x.tree x.last
+  whole = inside law begun manned stored a b c e final wires x.units x.banks x.one x.none x.held x.tree x.last
 
-  module _ (frames : FramesRight) (ends : FramesEnd) (sharing : TapsShareNone) (go : (delays : Delays) → StoredCoresGo core plan delays) (stay : DramsStay core) (have_words : ArgumentsHaveWords) (run : HasOneRun)
+  module _ (frames : FramesRight) (ends : FramesEnd) (sharing : TapsShareNone) (go : StoredCoresGo core plan) (stay : DramsStay core) (first_words : FirstWordsGiven core) (there : (h : History) (took : (node ask : ℕ) → ℕ) → DelaysAreThere core h took) (small : DelaysAreSmall) (have_words : ArgumentsHaveWords) (run : HasOneRun)
       (cells : List PlainCell) (cells_are : cells ≡ final.cells ++ out_cells core.ports.outs (map (slice_index words) (outs_of core)) ++ done_cell done ∷ []) (is : IsNetlist cells) where
     outs : List ℕ
     outs = map (slice_index words) (outs_of core)
@@ -234,7 +256,7 @@ module _ (core : PlainCore) (plan : PlainPlan) (can : CanLower core plan) (right
         no_dims [] h = tt
         no_dims (p ∷ ps) h = (h 0 (omega arith), no_dims ps (λ k l. h (suc k) (omega (arith, l))))
 
-    module _ (timing : Delays) (input : PlainInput) (h : History) (left : Store) (r : RunsByPlan core plan timing input h left) (delays : List ℕ) (s : Signals)
+    module _ (input : PlainInput) (h : History) (left : Store) (r : RunsByPlan core plan input h left) (delays : List ℕ) (bound : ℕ) (s : Signals)
         (is_run : IsRun (record { cells = cells; args = input.args; drams = input.drams; delays = delays }) s) where
       setting : Setting
       setting = record { cells = cells; args = input.args; drams = input.drams; delays = delays }
@@ -246,11 +268,11 @@ module _ (core : PlainCore) (plan : PlainPlan) (can : CanLower core plan) (right
       unfolding on_final
       setting_is = (law.runs_on final core.ports.outs (map (slice_index words) (outs_of core)) done (record { cells = cells; args = input.args; drams = input.drams; delays = delays }) s cells_are is_run).1
 
-      on_e : RunsOn s e.cells
-      on_e = runs_earlier e final s x.last.grows on_final
+      on_e : (q : RunsOn s e.cells) × (q.setting ≡ on_final.setting)
+      on_e = earlier e final s x.last.grows on_final
 
       on_c : RunsOn s c.cells
-      on_c = runs_earlier c e s x.tree.grows on_e
+      on_c = runs_earlier c e s x.tree.grows on_e.0
 
       on_b : RunsOn s b.cells
       on_b = runs_earlier b c s x.held.grows on_c
@@ -276,22 +298,45 @@ module _ (core : PlainCore) (plan : PlainPlan) (can : CanLower core plan) (right
           ∙ have_words core input ports s.net right (law.net_for_each begun core.ports.args ports x.have) (sym (zip_length (λ (port : PlainPort) word. IsWord port.ty word) core.ports.args input.args r.fits.args))
           ((frames cells core.ports.args ports core.ports.drams whole.added core.ports.outs (map (slice_index words) (outs_of core)) done framed).args_stand (record { cells = cells; args = input.args; drams = input.drams; delays = delays }) s refl is_run) m l arg t
 
-      along : GoesAlong core plan timing s child words h left
-      along = go timing s child arguments words can.stored (x.circuit s on_e) starts input h left r given
+      -- the words of DRAMs
+      stored_words : DramsGiven core input s
+      stored_words t q i few inside =
+          (frames cells core.ports.args ports core.ports.drams whole.added core.ports.outs (map (slice_index words) (outs_of core)) done framed).drams_given (record { cells = cells; args = input.args; drams = input.drams; delays = delays }) s refl is_run t q i no_port few
+          (subst (λ ds. i < word_count ds) (dram_dims q) inside)
+          ∙ ap (λ ws. slice_index ws i) (sym (first_words input (sym (zip_length (λ (port : PlainPort) ws. (length ws ≡ word_count port.dims) × All (IsWord port.ty) ws) core.ports.drams input.drams r.fits.drams)) q few))
+        where
+          dram_dims : (q : ℕ) → dims core (dram_number core q) ≡ (slice_index_or core.ports.drams q no_port).dims
+          dram_dims q =
+              let past : nat_lt (dram_number core q) (length core.mems) ≡ false = le-ltb (dram_number core q) (length core.mems) (omega arith) in
+              let back : dram_number core q - length core.mems ≡ q = omega arith in
+              rw (past, back) refl
+
+      circuit : StoredCircuit core plan on_e.0.setting s child arguments words
+      circuit = x.circuit s on_e.0
+
+      took : (node ask : ℕ) → ℕ
+      took = took_by on_e.0.setting s circuit.channels bound
+
+      timing : Delays
+      timing = delays_of core h took
+
+      along : GoesAlong core plan timing s bound child words h left
+      unfolding timing took circuit
+      along = go on_e.0.setting s child arguments words can.stored (x.circuit s on_e.0) starts input h left r given stored_words bound
 
       next : (t : ℕ) → s.net (suc t) done ≡ s.net t child.done
       next t = (x.dones s on_final).1 t ∙ passed t (s.net t child.done) (s.net t done)
 
-      first_at : (took : ℕ) → took ≡ (core_timed core plan timing h).took → IsFirst s done took
-      first_at zero same = absurd (let late = along.takes_time in omega (arith, same, late))
-      first_at (suc t) same = record {
-        is_one = next t ∙ same_number (s.net t child.done) 1 (along.is_done t same);
-        not_before = not_before (suc t) same;
+      first_at : (cycle : ℕ) → cycle ≡ (core_timed core plan timing h).took → cycle ≤ bound → IsFirst s done cycle
+      first_at zero same low = absurd (let late = along.takes_time in omega (arith, same, late))
+      first_at (suc t) same low = record {
+        is_one = next t ∙ same_number (s.net t child.done) 1 (along.is_done t (omega (arith, low)) same);
+        not_before = not_before (suc t) same low;
       }
         where
-          not_before : (took : ℕ) → took ≡ (core_timed core plan timing h).took → (u : ℕ) → u < took → s.net u done ≢ 1
-          not_before took still zero l one_is = absurd (let clash : 0 ≡ 1 = sym (x.dones s on_final).0 ∙ one_is in omega (arith, clash))
-          not_before took still (suc u) l one_is = absurd (let over = along.only u (eq-eqb (s.net u child.done) 1 (sym (next u) ∙ one_is)) in omega (arith, still, l, over))
+          not_before : (cycle : ℕ) → cycle ≡ (core_timed core plan timing h).took → cycle ≤ bound → (u : ℕ) → u < cycle → s.net u done ≢ 1
+          not_before cycle still low zero l one_is = absurd (let clash : 0 ≡ 1 = sym (x.dones s on_final).0 ∙ one_is in omega (arith, clash))
+          not_before cycle still low (suc u) l one_is = absurd (let over = along.only u (omega (arith, l, low)) (eq-eqb (s.net u child.done) 1 (sym (next u) ∙ one_is)) in omega (arith, still, l, over))
 
       on_stored : (q : RunsOn s stored.cells) × (q.setting ≡ on_final.setting)
       on_stored = earlier stored final s behind.grows on_final
@@ -302,32 +347,42 @@ module _ (core : PlainCore) (plan : PlainPlan) (can : CanLower core plan) (right
           at_most : (bank : ℕ) (port : Port) → count_by (is_enabled_tap (s.net t) port bank) on_stored.0.setting.cells ≤ 1 → count_by (is_enabled_tap (s.net t) port bank) cells ≤ 1
           at_most bank port most = subst (λ cs. count_by (is_enabled_tap (s.net t) port bank) cs ≤ 1) (ap (λ (g : Setting). g.cells) (on_stored.1 ∙ setting_is)) most
 
-      words_left : map (s.net (core_timed core plan timing h).took) (map (slice_index words) (outs_of core)) ≡ out_words core left
-      words_left =
+      words_left : (core_timed core plan timing h).took ≤ bound → map (s.net (core_timed core plan timing h).took) (map (slice_index words) (outs_of core)) ≡ out_words core left
+      words_left low =
           twice (s.net (core_timed core plan timing h).took) (slice_index words) (outs_of core)
           ∙ same_map (λ m. s.net (core_timed core plan timing h).took (slice_index words m)) (λ m. slice_index (words_of (left m)) 0) (outs_of core)
           (λ i l. (
           let below : i < length core.ports.outs = (let e = (out_ports core right).each in omega (arith, e, l)) in
           let at = (out_ports core right).at i below in
-          along.outs (slice_index (outs_of core) i) (core_timed core plan timing h).took at.within at.of_kind (omega arith)))
+          along.outs (slice_index (outs_of core) i) (core_timed core plan timing h).took low at.within at.of_kind (omega arith)))
 
       drams_left : given_lists (record { cells = cells; args = input.args; drams = input.drams; delays = delays }) 0 core.ports.drams ≡ dram_words core left
       drams_left =
           law.given (record { cells = cells; args = input.args; drams = input.drams; delays = delays }) core.ports.drams (as_many core.ports.drams input.drams r.fits.drams)
-          ∙ sym (stay right can.stored.moves_none in_lanes input r.turns h left (sym (zip_length _ core.ports.drams input.drams r.fits.drams)) r.ran)
+          ∙ sym (stay right can.stored.loads_alone in_lanes input r.turns h left (sym (zip_length (λ (port : PlainPort) ws. (length ws ≡ word_count port.dims) × All (IsWord port.ty) ws) core.ports.drams input.drams r.fits.drams)) r.ran)
 
-      ended : (last : ℕ) → (core_timed core plan timing h).took ≤ last → Ends (record { cells = cells; args = input.args; drams = input.drams; delays = delays }) last (done_in (core_timed core plan timing h).took (out_words core left) (dram_words core left))
-      ended last le =
+      ended : (last : ℕ) → (core_timed core plan timing h).took ≤ bound → (core_timed core plan timing h).took ≤ last → Ends (record { cells = cells; args = input.args; drams = input.drams; delays = delays }) last (done_in (core_timed core plan timing h).took (out_words core left) (dram_words core left))
+      ended last low le =
           subst (λ ds. Ends (record { cells = cells; args = input.args; drams = input.drams; delays = delays }) last (done_in (core_timed core plan timing h).took (out_words core left) ds)) drams_left
           (subst (λ ws. Ends (record { cells = cells; args = input.args; drams = input.drams; delays = delays }) last
-          (done_in (core_timed core plan timing h).took ws (given_lists (record { cells = cells; args = input.args; drams = input.drams; delays = delays }) 0 core.ports.drams))) words_left
+          (done_in (core_timed core plan timing h).took ws (given_lists (record { cells = cells; args = input.args; drams = input.drams; delays = delays }) 0 core.ports.drams))) (words_left low)
           ((ends (record { cells = cells; args = input.args; drams = input.drams; delays = delays }) s core.ports.args ports core.ports.drams whole.added core.ports.outs (map (slice_index words) (outs_of core)) done (core_timed core plan timing h).took last
-          framed is_run none_shared (first_at (core_timed core plan timing h).took refl) le).of_netlist is))
+          framed is_run none_shared (first_at (core_timed core plan timing h).took refl low) le).of_netlist is))
+
+      -- no load waits longer than the greatest delay
+      waits_little : (d : ℕ) → All (λ e. e ≤ d) delays → (k : ℕ) (path : List At) (ask : ℕ) → timing k path ask ≤ d
+      unfolding timing took circuit
+      waits_little d each = (there h (took_by on_e.0.setting s (x.circuit s on_e.0).channels bound)).small d
+          (λ k ask. small on_e.0.setting s ((x.circuit s on_e.0).channels k).before ((x.circuit s on_e.0).channels k).channel ((x.circuit s on_e.0).channels k).request ((x.circuit s on_e.0).channels k).last d bound
+          (subst (λ (g : Setting). All (λ e. e ≤ d) g.delays) (sym (on_e.1 ∙ setting_is)) each) ask)
+
+      in_time : EndsInTime core plan cells input h left delays bound
+      in_time = record { timing = timing; small = waits_little; ends = ended }
 
     pub carried : CarriesCore core plan cells
     carried = record {
       ports = ports_are;
-      carries = λ timing input h left r delays last le. (
+      carries = λ input h left r delays bound. (
           let found = (run (record { cells = cells; args = input.args; drams = input.drams; delays = delays }) is).some_run in
-          ended timing input h left r delays found.0 found.1 last le);
+          in_time input h left r delays bound found.0 found.1);
     }

@@ -7,7 +7,7 @@ use Rattle.sp_core.specs.Around.{Around, Near, nothing}
 use Rattle.sp_core.specs.History.{History}
 use Rattle.sp_core.specs.Invariant.{owned_in, owned_in_stages, IsRight, AreRight}
 use Rattle.sp_core.specs.Numbering.{counters_size, node_count, number_count}
-use Rattle.sp_core.specs.PlainCore.{PlainOp, PlainCounter, PlainNode, PlainStages, inner, outer, fsm, branch, load, store, sparse, no_stage, more_stage, PlainCore}
+use Rattle.sp_core.specs.PlainCore.{PlainOp, PlainCounter, PlainSpan, PlainNode, PlainStages, inner, outer, fsm, branch, load, store, sparse, no_stage, more_stage, PlainCore}
 use Rattle.sp_plan.specs.PlainPlan.{PlainPlan, node_plan}
 use Rattle.sp_time.specs.Beats.{slot_at}
 use Rattle.sp_machine.specs.Stamps.{Stamped}
@@ -52,6 +52,15 @@ module _ (core : PlainCore) (plan : PlainPlan) (delays : Delays) (laws : Laws co
     all_keepings = λ u copy m v le own shown. absurd (among_nothing m (deed_is core plan delays laws (inner counters owned ops comb) k n (placed qs) u copy (kept m v) shown tt));
   }
 
+  -- nor does a load
+  load_acts : (r m : ℕ) (spans : List PlainSpan) (k n : ℕ) (qs : List Scoped) → ActOn core s t (all_events core plan delays (load r m spans) k n (placed qs)) [] [] []
+  load_acts r m spans k n qs = record {
+    renews = λ r u there le on. absurd (none_there r there);
+    keeps = λ x u there le on. absurd (none_there x there);
+    all_renewals = λ u copy m le own counts shown. absurd (among_nothing m own);
+    all_keepings = λ u copy m v le own shown. absurd (among_nothing m own);
+  }
+
   mutual
     acts : (node : PlainNode) (near : List Near) (env : Nets) (around : Around) (earlier : List ℕ) (k n from until : ℕ) (qs : List Scoped) (c : Child) → IsTimed node → IsRight core around earlier node → DidRuns core plan delays node k n from until qs
         → (w : Circuit core plan s node near env k c) → Acts core plan delays s events t node near env k n qs c w → (copies : CopyNets) (names : List (Option ℕ)) (renewals : List Renewal) (keepings : List Keeping) → AreNamed core plan s node near env k c w copies names renewals keepings
@@ -88,7 +97,8 @@ module _ (core : PlainCore) (plan : PlainPlan) (delays : Delays) (laws : Laws co
         are_those core s t whole (owned ++ owned_in_stages stages) renewals (nets ++ owners.rest) keepings keepings owners.renewed_are refl (both core s t whole owned (owned_in_stages stages) nets owners.rest [] keepings own inside)
     acts (inner counters owned ops comb) near env around earlier k n from until qs c is right did w goes copies names renewals keepings owners stand =
         are_those core s t (all_events core plan delays (inner counters owned ops comb) k n (placed qs)) owned renewals [] keepings [] owners.1 owners.2 (inner_acts counters owned ops comb k n qs)
-    acts (load r m spans) near env around earlier k n from until qs c is right did w goes copies names renewals keepings owners stand = elim owners [ ]
+    acts (load r m spans) near env around earlier k n from until qs c is right did w goes copies names renewals keepings owners stand =
+        are_those core s t (all_events core plan delays (load r m spans) k n (placed qs)) [] renewals [] keepings [] owners.1 owners.2 (load_acts r m spans k n qs)
     acts (store r m spans) near env around earlier k n from until qs c is right did w goes copies names renewals keepings owners stand = elim owners [ ]
     acts (sparse kind r m places spans count par) near env around earlier k n from until qs c is right did w goes copies names renewals keepings owners stand = elim is [ ]
 

@@ -5,7 +5,7 @@ ghost use Rattle.sp_machine.specs.Transfers.{Delays};
 ghost use Rattle.sp_owner_runs.specs.Acting.{CoresOwn, TreesOwn};
 ghost use Rattle.sp_owner_runs.specs.Example.{WorkedNets};
 ghost use Rattle.sp_owner_runs.specs.Given.{Laws};
-ghost use Rattle.sp_owner_runs.specs.Naming.{CoresNameCopies, PlansHaveNumbers, TreesNameCopies};
+ghost use Rattle.sp_owner_runs.specs.Naming.{CoresNameCopies, CoresNameLoads, PlansHaveNumbers, TreesNameCopies};
 ghost use Rattle.sp_plan.specs.PlainPlan.{PlainPlan};
 
 use crate::deeds::owners_do;
@@ -16,9 +16,10 @@ use sp_node_runs::{
     stages_take_time,
 };
 use sp_tree_events::{
-    bodies_own, branch_tests_agree, inners_name_copies, lists_name_copies, loops_renew,
-    machine_lists_agree, machines_agree, machines_keep, numbers_are_within, numbers_stand,
-    runs_own, sides_agree, sides_own, stages_agree, stages_own,
+    bodies_own, branch_tests_agree, inners_name_copies, lists_name_copies, loads_name_copies,
+    loops_renew, machine_lists_agree, machines_agree, machines_keep, numbers_are_within,
+    numbers_stand, numbers_stand_for_one, runs_own, sides_agree, sides_own, stages_agree,
+    stages_own,
 };
 use sp_tree_runs::parts_are_done;
 
@@ -50,17 +51,19 @@ fn laws_below()
     machine_lists_agree();
     inners_name_copies();
     lists_name_copies();
+    loads_name_copies();
+    numbers_stand_for_one();
 }
 
 /// Where the circuit of a node goes as the timeline says up to a cycle, and up to the cycle after it the numbers of copies around the
-/// node stand, the nets that its operations have name the copies of their events.
+/// node stand, the nets that its operations and loads have name the copies of their events.
 pub fn trees_name_copies()
     ensures { (core : PlainCore) (plan : PlainPlan) (delays : Delays) → TreesNameCopies core plan delays }
 {
     laws_below();
 }
 
-/// So do those of a core's circuit, over the run of the whole core.
+/// So do those of the operations of a core's circuit, over the run of the whole core.
 pub fn cores_name_copies()
     ensures { (core : PlainCore) (plan : PlainPlan) (delays : Delays) → CoresNameCopies core plan delays }
 {
@@ -68,7 +71,15 @@ pub fn cores_name_copies()
     trees_name_copies();
 }
 
-/// A valid plan has what both ask of it: each memory has a copy, and the times of loop bodies are kept.
+/// And those of its loads name the copies that they write, among the events that write their memories.
+pub fn cores_name_loads()
+    ensures { (core : PlainCore) (plan : PlainPlan) (delays : Delays) → CoresNameLoads core plan delays }
+{
+    laws_below();
+    trees_name_copies();
+}
+
+/// A valid plan has what these ask of it: each memory has a copy, and the times of loop bodies are kept.
 pub fn plans_have_numbers()
     ensures { (core : PlainCore) (plan : PlainPlan) → PlansHaveNumbers core plan }
 {

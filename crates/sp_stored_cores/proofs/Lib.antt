@@ -1,5 +1,9 @@
 mod Circle
 mod Early
 mod Elements
-mod Moving
+mod Loaded
+mod Loads
+mod OnChip
+mod Reading
+mod Storing
 mod Untouched

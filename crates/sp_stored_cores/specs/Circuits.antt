@@ -1,10 +1,10 @@
--- The circuit of a core all of whose memories are registers, arguments, outputs, SRAMs and FIFOs.
-use Rattle.std.specs.Prelude.{◌≡◌, ◌⊎◌, ℕ, suc, ◌<◌, true, false, List, [], length, All, Option, Some}
+-- The circuit of a core all of whose memories are registers, arguments, outputs, SRAMs and FIFOs, and all of whose transfers are loads.
+use Rattle.std.specs.Prelude.{◌≡◌, ◌⊎◌, ℕ, suc, ◌<◌, true, false, List, [], ◌++◌, length, All, Option, Some}
 use Rattle.std.specs.List.{Contains}
 use Rattle.sp_words.specs.declared.kind.Kind.TheVariants.{Fifo}
 use Rattle.sp_netlist.specs.declared.parts.Child.{Child}
 use Rattle.sp_netlist.specs.Draft.{Draft}
-use Rattle.sp_netlist.specs.Signals.{Signals}
+use Rattle.sp_netlist.specs.Signals.{Setting, Signals}
 use Rattle.sp_gates.specs.Tested.{is_on}
 use Rattle.sp_core.specs.declared.operation.OpKind.TheVariants.{Read, Deq}
 use Rattle.sp_core.specs.Declarations.{kind_of}
@@ -22,27 +22,28 @@ use Rattle.sp_tree_events.specs.CopiesStanding.{no_numbers}
 use Rattle.sp_tree_handed.specs.declared.owners.OwnerNets.{OwnerNets}
 use Rattle.sp_tree_handed.specs.Standing.{AccessStands, BoundsReadArguments}
 use Rattle.sp_tree_copies.specs.Naming.{AreNamed}
-use Rattle.sp_tree_nets.specs.Emitted.{HasNoTransfer}
+use Rattle.sp_tree_nets.specs.Emitted.{HasNoStore}
 use Rattle.sp_tree_nets.specs.Handed.{AreHanded}
 use Rattle.sp_tree_accesses.specs.Laws.{AreTreeAccesses}
 use Rattle.sp_tree_accesses.specs.Queued.{QueuedStands}
 use Rattle.sp_array_nets.specs.Kinds.{AreEmitted}
 use Rattle.sp_array_nets.specs.Runs.{RunMemories}
+use Rattle.sp_stored_cores.specs.Loads.{Channel, HasLoads}
 use Rattle.sp_stored_cores.specs.Quiet.{HasNoCounters}
 
--- a core without transfers, whose root reads no bounds, and whose bounds read arguments alone
+-- a core whose transfers are loads, whose root reads no bounds, and whose bounds read arguments alone
 pub record IsStoredCore (core : PlainCore) : Type 0 where
   pub right : IsCore core
   pub timed : IsTimed core.root
-  pub moves_none : HasNoTransfer core.root
+  pub loads_alone : HasNoStore core.root
   pub uncounted : HasNoCounters core.root
   pub stored : AreEmitted core
   pub arguments : BoundsReadArguments core core.root
 
--- In a run: the circuit of the tree, the nets of the numbers of copies, by the numbers of operations and for owners, and the circuits of the
--- memories that these ask, by the nets of the arguments. By the memory's number `words` has the net of its word in copy 0, where it is one
--- word.
-pub record StoredCircuit (core : PlainCore) (plan : PlainPlan) (s : Signals) (c : Child) (arguments words : List ℕ) : Type 0 where
+-- In a run: the circuit of the tree, the nets of the numbers of copies, by the numbers of operations and for owners, the circuits of its
+-- loads, each with a channel and an access of its memory, and the circuits of the memories that all these ask, by the nets of the
+-- arguments. By the memory's number `words` has the net of its word in copy 0, where it is one word.
+pub record StoredCircuit (core : PlainCore) (plan : PlainPlan) (g : Setting) (s : Signals) (c : Child) (arguments words : List ℕ) : Type 0 where
   pub circuit : Circuit core plan s core.root [] (nets_at []) 0 c
   pub acted : List ActedList
   pub copies : List (Option ℕ)
@@ -56,7 +57,10 @@ pub record StoredCircuit (core : PlainCore) (plan : PlainPlan) (s : Signals) (c 
   pub within : All (λ (a : AccessNets). a.mem < length core.mems) accesses
   pub queued : All (QueuedStands draft core) accesses
   pub asked : (a : AccessNets) (w : WordNet) → Contains accesses a → a.answer ≡ Some w → (a.kind ≡ Read) ⊎ ((a.kind ≡ Deq) × (kind_of core a.mem ≡ Fifo))
-  pub memories : RunMemories core plan s accesses owners arguments words
+  pub channels : (node : ℕ) → Channel
+  pub loading : List AccessNets
+  pub loads : HasLoads core plan g s (nets_at []) c channels copies circuit loading
+  pub memories : RunMemories core plan s (accesses ++ loading) owners arguments words
 
 -- a part is started in cycle 0 and in no other
 pub record StartsOnce (s : Signals) (start : ℕ) : Type 0 where

@@ -1,4 +1,4 @@
--- What doesn't happen in the run of a core: nothing in the cycle in which it is started, and no transfer where there is none.
+-- What doesn't happen in the run of a core: nothing in the cycle in which it is started.
 use Rattle.std.specs.Prelude.{◌≡◌, ℕ, ◌≤◌, List, [], ◌∷◌}
 use Rattle.sp_time.specs.Lists.{Each}
 use Rattle.sp_netlist.specs.declared.parts.Child.{Child}
@@ -41,8 +41,3 @@ module _ (core : PlainCore) (plan : PlainPlan) (delays : Delays) where
   -- nor is it over then
   abbrev pub RunsTakeTime : Type 0
   RunsTakeTime = HasNoCounters core.root → (h : History) → AllDone in_lanes core.root no_scope h → 1 ≤ (core_timed core plan delays h).took
-
-  abbrev pub NothingMoves : Type 0
-  NothingMoves =
-      (s : Signals) (last : ℕ) (node : PlainNode) (near : List Near) (env : Nets) (k n : ℕ) (qs : List Scoped) (c : Child) → HasNoTransfer node → (w : Circuit core plan s node near env k c)
-      → TransfersMove core plan delays s last node near env k n qs c w

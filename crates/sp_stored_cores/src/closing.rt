@@ -1,37 +1,45 @@
-//! The circuit of a core of registers, arguments, outputs, SRAMs and FIFOs goes along with its timeline. Each function does nothing:
+//! The circuit of a core of registers, arguments, outputs, SRAMs and FIFOs, whose transfers are loads, goes along with its timeline. Each function does nothing:
 //! what it ensures is the law.
 
 ghost use Rattle.sp_core.specs.PlainCore.{PlainCore};
-ghost use Rattle.sp_machine.specs.Transfers.{Delays};
 ghost use Rattle.sp_plan.specs.PlainPlan.{PlainPlan};
 ghost use Rattle.sp_stored_cores.specs.Closing.{StoredCoresGo};
 
-use crate::quiet::{core_events_are_timed, nothing_begins_at_once, nothing_moves, runs_take_time};
-use sp_array_words::{memories_answer, memories_hold};
+use crate::outside::{loads_read_input, loads_write_memory};
+use crate::quiet::{core_events_are_timed, nothing_begins_at_once, runs_take_time};
+use sp_array_words::{loads_write_in_whole, memories_answer, memories_hold};
 use sp_bank_runs::valid_plans_go_well;
 use sp_fitting::runs_fit;
 use sp_machine::runs_happen_within;
 use sp_memory_words::runs_happen_well;
-use sp_owner_runs::{cores_name_copies, cores_own, plans_have_numbers};
+use sp_owner_runs::{cores_name_copies, cores_name_loads, cores_own, plans_have_numbers};
+use sp_transfer_runs::transfers_move_all;
+use sp_transfer_trees::{cores_transfer, going_is_moving, transfers_agree};
 use sp_tree_accesses::{accesses_act, operations_have_accesses, trees_are_answered};
 use sp_tree_circuits::circles_close;
+use sp_tree_events::transfers_move;
 use sp_tree_runs::runs_are_done;
 
-/// In each run of a core all of whose memories are registers, arguments, outputs, SRAMs and FIFOs its circuit is done in the last cycle of
+/// In each run of a core all of whose memories are registers, arguments, outputs, SRAMs and FIFOs, and whose transfers are loads, its circuit is done in the last cycle of
 /// the run, and its outputs then have the words that the run leaves: the circle from what is read to what is written is closed cycle by
 /// cycle.
 pub fn stored_cores_go()
-    ensures { (core : PlainCore) (plan : PlainPlan) (delays : Delays) → StoredCoresGo core plan delays }
+    ensures { (core : PlainCore) (plan : PlainPlan) → StoredCoresGo core plan }
 {
     accesses_act();
     circles_close();
     core_events_are_timed();
     cores_name_copies();
+    cores_name_loads();
     cores_own();
+    cores_transfer();
+    going_is_moving();
+    loads_read_input();
+    loads_write_in_whole();
+    loads_write_memory();
     memories_answer();
     memories_hold();
     nothing_begins_at_once();
-    nothing_moves();
     operations_have_accesses();
     plans_have_numbers();
     runs_are_done();
@@ -39,6 +47,9 @@ pub fn stored_cores_go()
     runs_happen_well();
     runs_happen_within();
     runs_take_time();
+    transfers_agree();
+    transfers_move();
+    transfers_move_all();
     trees_are_answered();
     valid_plans_go_well();
 }

@@ -3,7 +3,7 @@
 ghost use Rattle.sp_core.specs.PlainCore.{PlainCore};
 ghost use Rattle.sp_machine.specs.Transfers.{Delays};
 ghost use Rattle.sp_plan.specs.PlainPlan.{PlainPlan};
-ghost use Rattle.sp_stored_cores.specs.Quiet.{CoreEventsAreTimed, NothingBeginsAtOnce, NothingMoves, RunsTakeTime};
+ghost use Rattle.sp_stored_cores.specs.Quiet.{CoreEventsAreTimed, NothingBeginsAtOnce, RunsTakeTime};
 
 /// What happens in the run of a whole core is what its timeline tells.
 pub fn core_events_are_timed()
@@ -18,9 +18,4 @@ pub fn nothing_begins_at_once()
 /// And it isn't over in that cycle.
 pub fn runs_take_time()
     ensures { (core : PlainCore) (plan : PlainPlan) (delays : Delays) → RunsTakeTime core plan delays }
-{}
-
-/// In a tree without transfers none is asked to move.
-pub fn nothing_moves()
-    ensures { (core : PlainCore) (plan : PlainPlan) (delays : Delays) → NothingMoves core plan delays }
 {}

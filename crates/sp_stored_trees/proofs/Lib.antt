@@ -1,1 +1,1 @@
-mod Emitting
+pub mod Emitting

@@ -90,8 +90,8 @@ module _ (core : PlainCore) (plan : PlainPlan) (delays : Delays) (laws : Laws co
         let slices = laws.moved.loads around earlier r m spans (placed qs) memories right did.fits all_moved in
         record {
           has = has.0;
-          goes = λ t le started stand.
-              laws.loads g s bound last k n r m (took k) spans nets c (placed qs) has.0 (record { from = from; until = until; in_turn = did.in_turn; did = slices; delays_are = taken; found = has.1 }) few t le started
+          goes = λ w t le started stand.
+              laws.loads g s bound last k n r m (took k) spans nets c (placed qs) w (record { from = from; until = until; in_turn = did.in_turn; did = slices; delays_are = taken; found = has.1 }) few t le started
               (λ q there soon.
               let x = mapped_from (λ (y : Scoped). y.run) qs q there in
               let same : taken_of q.history ≡ taken_in q.history = same_taken q.history (slices q there).is in
@@ -149,7 +149,7 @@ trees_transfer core plan delays laws g s bound last took node near env around ea
 -- done in time
 module _ (core : PlainCore) (plan : PlainPlan) (delays : Delays) (g : Setting) (s : Signals) (bound last : ℕ) (took : (node ask : ℕ) → ℕ) where
   done_so : (node : PlainNode) (k n : ℕ) (qs : List Scoped) (c : Child) (nets : List SpanNets) → TransferGoes core plan delays g s bound last took node k n qs c nets → MovesInTime core plan delays s last node k n qs c nets
-  done_so (load r m spans) k n qs c nets goes = λ t le started stand. subst (λ net. IsOnAt (is_on s net) (Ends (rans core plan delays (load r m spans) k n (placed qs))) t) goes.has.ends (goes.goes t le started stand).ends
+  done_so (load r m spans) k n qs c nets goes = λ t le started stand. subst (λ net. IsOnAt (is_on s net) (Ends (rans core plan delays (load r m spans) k n (placed qs))) t) goes.has.ends (goes.goes goes.has t le started stand).ends
   done_so (store r m spans) k n qs c nets goes = goes
   done_so (inner counters owned ops comb) k n qs c nets goes = goes
   done_so (outer counters style owned stages) k n qs c nets goes = goes

@@ -38,10 +38,10 @@ module _ (core : PlainCore) (plan : PlainPlan) (delays : Delays) (g : Setting) (
       HasLoad core g s bound (took k) r nets c × AreFoundInDram s r (dims core (dram_number core r)) (all_events core plan delays (load r m spans) k n (placed qs)) last (n + spans_size spans)
   HasTransfer node k n qs c nets = MovesInTime core plan delays s last node k n qs c nets
 
-  -- up to a cycle it goes as the timeline says
+  -- up to a cycle it goes as the timeline says, by whichever parts it has its circuit and its channel
   pub record LoadGoesSo (r m : ℕ) (spans : List PlainSpan) (k n : ℕ) (qs : List Scoped) (c : Child) (nets : List SpanNets) : Type 0 where
     pub has : HasLoad core g s bound (took k) r nets c
-    pub goes : (t : ℕ) → t ≤ last → IsStarted s c.start (rans core plan delays (load r m spans) k n (placed qs)) t → SlicesStand core plan delays s qs nets t → LoadGoes core plan delays s has.part has.nets t k n r m spans (placed qs)
+    pub goes : (w : HasLoad core g s bound (took k) r nets c) (t : ℕ) → t ≤ last → IsStarted s c.start (rans core plan delays (load r m spans) k n (placed qs)) t → SlicesStand core plan delays s qs nets t → LoadGoes core plan delays s w.part w.nets t k n r m spans (placed qs)
 
   abbrev pub TransferGoes : PlainNode → (node n : ℕ) → List Scoped → Child → List SpanNets → Type 0
   TransferGoes (load r m spans) k n qs c nets = LoadGoesSo r m spans k n qs c nets

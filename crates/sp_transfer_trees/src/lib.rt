@@ -4,4 +4,4 @@
 
 mod laws;
 
-pub use laws::{cores_transfer, going_is_moving, trees_transfer};
+pub use laws::{cores_transfer, going_is_moving, transfers_agree, trees_transfer};

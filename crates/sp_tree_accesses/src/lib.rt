@@ -10,3 +10,4 @@ pub use laws::{
     scalars_are_read, trees_are_answered,
 };
 pub use tree::tree_accesses;
+pub use walk::append;

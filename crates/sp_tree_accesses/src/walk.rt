@@ -18,7 +18,7 @@ pub(crate) struct Walk {
 }
 
 /// Further accesses, behind those before.
-fn append(all: &mut Vec<AccessNets>, more: Vec<AccessNets>) -> Result<(), NoMemory>
+pub fn append(all: &mut Vec<AccessNets>, more: Vec<AccessNets>) -> Result<(), NoMemory>
     ensures { OnOk result (all.new.items ≡ all.old.items ++ more.items) }
 {
     for access in more {

@@ -8,7 +8,7 @@ use Rattle.sp_core.specs.Around.{Near}
 use Rattle.sp_core.specs.Declarations.{is_among}
 use Rattle.sp_core.specs.Invariant.{owned_in}
 use Rattle.sp_core.specs.Numbering.{node_count}
-use Rattle.sp_core.specs.PlainCore.{PlainOp, PlainCounter, PlainNode, PlainStages, inner, fsm, branch, no_stage, more_stage, PlainCore}
+use Rattle.sp_core.specs.PlainCore.{PlainOp, PlainCounter, PlainSpan, PlainNode, PlainStages, inner, fsm, branch, load, no_stage, more_stage, PlainCore}
 use Rattle.sp_plan.specs.PlainPlan.{PlainNodePlan, inner_plan, outer_plan, other_plan, PlainPlan}
 use Rattle.sp_plan.specs.Validity.{stage_count}
 use Rattle.sp_time.specs.Beats.{slot_at}
@@ -23,7 +23,7 @@ use Rattle.sp_tree_handed.specs.declared.owners.Renewal.{Renewal}
 use Rattle.sp_tree_handed.specs.Owners.{keeping}
 use Rattle.sp_tree_copies.specs.declared.numbers.LoopCopies.{LoopCopies}
 use Rattle.sp_tree_copies.specs.declared.walk.Walk.{Walk}
-use Rattle.sp_tree_copies.specs.Naming.{names_of, bound_names, AreNamed, StagesNamed}
+use Rattle.sp_tree_copies.specs.Naming.{names_of, bound_names, load_names, AreNamed, StagesNamed}
 use Rattle.sp_tree_copies.specs.Walks.{Adds, KeepsNext, nets_in, IsNext, WalksNode}
 use Rattle.sp_tree_copies.proofs.Nexting.{next_later, first_next, second_next}
 use Rattle.sp_tree_copies.proofs.Walking.{adds_join}
@@ -105,6 +105,18 @@ module _ (core : PlainCore) (plan : PlainPlan) (turns : List LoopTurns) (kept : 
         renewed = [];
         kept = [];
         adds = adds_as _ _ [] [] [] [] 0 (length now) 0 (length now_kept) a c refl refl refl (sym (ap (λ xs. length xs) turn.0)) (sym (ap (λ xs. length xs) turn.1)) all;
+        named = (refl, refl, refl);
+      }
+
+  pub load_walks : (node : PlainNode) (r m : ℕ) (spans own_spans : List PlainSpan) (k : ℕ) (around : CopyNets) (a c : Walk) → node ≡ load r m spans → own_spans ≡ spans → Adds (load_names around m own_spans) [] [] 0 0 a c → Walks node k around a c
+  load_walks node r m spans own_spans k around a c is spans_is f = subst (λ v. Walks v k around a c) (sym is) walks
+    where
+      walks : Walks (load r m spans) k around a c
+      walks none planned copied s zips near env child w now now_kept next turn = record {
+        names = load_names around m spans;
+        renewed = [];
+        kept = [];
+        adds = adds_as _ _ [] [] [] [] 0 (length now) 0 (length now_kept) a c refl refl refl (sym (ap (λ xs. length xs) turn.0)) (sym (ap (λ xs. length xs) turn.1)) (subst (λ v. Adds (load_names around m v) [] [] 0 0 a c) spans_is f);
         named = (refl, refl, refl);
       }
 

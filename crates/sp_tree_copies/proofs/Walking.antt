@@ -5,9 +5,10 @@ use Rattle.std.proofs.lemmas.List.Elements.{All-append}
 use Rattle.sp_netlist.specs.Draft.{Draft}
 use Rattle.sp_gates.specs.Nets.{HasNet}
 use Rattle.sp_core.specs.declared.node.CoreCounter.{CoreCounter}
+use Rattle.sp_core.specs.declared.node.CoreSpan.{CoreSpan}
 use Rattle.sp_core.specs.declared.operation.Op.{Op}
-use Rattle.sp_core.specs.Plain.{plain_counter, plain_op, plain_ops}
-use Rattle.sp_core.specs.PlainCore.{PlainOp, PlainCounter, PlainCore}
+use Rattle.sp_core.specs.Plain.{plain_counter, plain_op, plain_ops, plain_span}
+use Rattle.sp_core.specs.PlainCore.{PlainOp, PlainCounter, PlainSpan, single, range, PlainCore}
 use Rattle.sp_mem.specs.Fits.{CopyFits}
 use Rattle.sp_tree_events.specs.CopiesStanding.{CopyNets}
 use Rattle.sp_copy_nets.specs.Numbers.{StandNumbers}
@@ -19,7 +20,7 @@ use Rattle.sp_tree_handed.specs.Owners.{renewal, keeping}
 use Rattle.sp_tree_handed.specs.Standing.{KeepingStands, AreOwnersStanding}
 use Rattle.sp_tree_copies.specs.declared.numbers.LoopCopies.{LoopCopies}
 use Rattle.sp_tree_copies.specs.declared.walk.Walk.{Walk}
-use Rattle.sp_tree_copies.specs.Naming.{name_of, names_of, bound_names, renewed_by}
+use Rattle.sp_tree_copies.specs.Naming.{name_of, names_of, bound_names, span_names, load_names, renewed_by}
 use Rattle.sp_tree_copies.specs.Walks.{Adds, AllStand, WalkStands}
 use Rattle.sp_tree_copies.proofs.Tables.{net_fits, name_fits, stand_more}
 
@@ -60,6 +61,14 @@ bounds_append around (x ∷ xs) ys =
     ∙ ap (λ l. names_of around x.from ++ l) (sym (append_assoc (names_of around x.until) (bound_names around xs) (bound_names around ys)))
     ∙ sym (append_assoc (names_of around x.from) (names_of around x.until ++ bound_names around xs) (bound_names around ys))
 
+spans_append : (around : CopyNets) (xs ys : List PlainSpan) → span_names around (xs ++ ys) ≡ span_names around xs ++ span_names around ys
+spans_append around [] ys = refl
+spans_append around (single ops ∷ xs) ys = ap (λ l. names_of around ops ++ l) (spans_append around xs ys) ∙ sym (append_assoc (names_of around ops) (span_names around xs) (span_names around ys))
+spans_append around (range a b ∷ xs) ys =
+    ap (λ l. names_of around a ++ (names_of around b ++ l)) (spans_append around xs ys)
+    ∙ ap (λ l. names_of around a ++ l) (sym (append_assoc (names_of around b) (span_names around xs) (span_names around ys)))
+    ∙ sym (append_assoc (names_of around a) (names_of around b ++ span_names around xs) (span_names around ys))
+
 pub op_step : (around : CopyNets) (front next : List Op) (op : Op) (net : Option ℕ) (a b c : Walk) → next ≡ front ++ op ∷ [] → net ≡ name_of around op.mem → c.names.items ≡ b.names.items ++ net ∷ [] → c.renewed.items ≡ b.renewed.items → c.kept.items ≡ b.kept.items
     → c.loops ≡ b.loops → c.states ≡ b.states → Adds (names_of around (plain_ops front)) [] [] 0 0 a b → Adds (names_of around (plain_ops next)) [] [] 0 0 a c
 op_step around front next op net a b c next_is net_is names renewed kept loops states h =
@@ -88,6 +97,37 @@ counter_step around front next counter from until a b m c next_is from_is until_
     ∙ ap (λ l. bound_names around (map plain_counter front) ++ (names_of around (plain_ops counter.from.items) ++ l)) (append-nil (names_of around (plain_ops counter.until.items)))))
     (names_join (bound_names around (map plain_counter front)) (names_of around (plain_ops counter.from.items) ++ names_of around (plain_ops counter.until.items)) a b c h
     (names_join (names_of around (plain_ops counter.from.items)) (names_of around (plain_ops counter.until.items)) b m c (subst (λ o. Adds (names_of around o) [] [] 0 0 b m) from_is f) (subst (λ o. Adds (names_of around o) [] [] 0 0 m c) until_is g)))
+
+-- those of a span's ends, span by span
+pub index_adds : (around : CopyNets) (span : PlainSpan) (ops own : List PlainOp) (a b : Walk) → span ≡ single ops → own ≡ ops → Adds (names_of around own) [] [] 0 0 a b → Adds (span_names around (span ∷ [])) [] [] 0 0 a b
+index_adds around span ops own a b is own_is h =
+    subst (λ v. Adds (span_names around (v ∷ [])) [] [] 0 0 a b) (sym is)
+    (subst (λ ns. Adds ns [] [] 0 0 a b) (ap (names_of around) own_is ∙ sym (append-nil (names_of around ops))) h)
+
+pub range_adds : (around : CopyNets) (span : PlainSpan) (first other own_first own_other : List PlainOp) (a b c : Walk) → span ≡ range first other → own_first ≡ first → own_other ≡ other
+    → Adds (names_of around own_first) [] [] 0 0 a b → Adds (names_of around own_other) [] [] 0 0 b c → Adds (span_names around (span ∷ [])) [] [] 0 0 a c
+range_adds around span first other own_first own_other a b c is first_is other_is f g =
+    subst (λ v. Adds (span_names around (v ∷ [])) [] [] 0 0 a c) (sym is)
+    (names_join (names_of around first) (names_of around other ++ []) a b c (subst (λ o. Adds (names_of around o) [] [] 0 0 a b) first_is f)
+    (subst (λ ns. Adds ns [] [] 0 0 b c) (ap (names_of around) other_is ∙ sym (append-nil (names_of around other))) g))
+
+pub span_step : (around : CopyNets) (front next : List CoreSpan) (span : CoreSpan) (a b c : Walk) → next ≡ front ++ span ∷ []
+    → Adds (span_names around (map plain_span front)) [] [] 0 0 a b → Adds (span_names around (plain_span span ∷ [])) [] [] 0 0 b c → Adds (span_names around (map plain_span next)) [] [] 0 0 a c
+span_step around front next span a b c next_is h f =
+    subst (λ ns. Adds ns [] [] 0 0 a c) (sym (ap (λ l. span_names around (map plain_span l)) next_is ∙ ap (span_names around) (map-append plain_span front (span ∷ [])) ∙ spans_append around (map plain_span front) (plain_span span ∷ [])))
+    (names_join (span_names around (map plain_span front)) (span_names around (plain_span span ∷ [])) a b c h f)
+
+-- and behind them the net of a load's memory
+pub load_adds : (around : CopyNets) (m : ℕ) (spans own : List CoreSpan) (net : Option ℕ) (a b c : Walk) → own ≡ spans → net ≡ around m → c.names.items ≡ b.names.items ++ net ∷ [] → c.renewed.items ≡ b.renewed.items → c.kept.items ≡ b.kept.items → c.loops ≡ b.loops → c.states ≡ b.states
+    → Adds (span_names around (map plain_span own)) [] [] 0 0 a b → Adds (load_names around m (map plain_span spans)) [] [] 0 0 a c
+load_adds around m spans own net a b c own_is net_is names renewed kept loops states h =
+    names_join (span_names around (map plain_span spans)) (around m ∷ []) a b c (subst (λ l. Adds (span_names around (map plain_span l)) [] [] 0 0 a b) own_is h) (record {
+      names_are = names ∙ ap (λ n. b.names.items ++ n ∷ []) net_is;
+      renewed_are = renewed ∙ sym (append-nil b.renewed.items);
+      kept_are = kept ∙ sym (append-nil b.kept.items);
+      loops_are = (let e = loops in omega (arith, e));
+      states_are = (let e = states in omega (arith, e));
+    })
 
 -- the next net of a state stands
 all_end : {A : Type 0} (P : A → Type 0) (xs : List A) (x : A) → All P xs → P x → All P (xs ++ x ∷ [])

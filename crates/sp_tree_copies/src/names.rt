@@ -1,16 +1,16 @@
-//! The nets of copies by which the operations of lists and the states of FSMs are named.
-ghost use Rattle.std.specs.Prelude.{◌≡◌, [], map, List, OnOk};
-ghost use Rattle.sp_core.specs.Plain.{plain_counter, plain_ops};
+//! The nets of copies by which the operations of lists, loads and the states of FSMs are named.
+ghost use Rattle.std.specs.Prelude.{◌≡◌, [], ◌∷◌, map, List, OnOk};
+ghost use Rattle.sp_core.specs.Plain.{plain_counter, plain_ops, plain_span};
 ghost use Rattle.sp_core.specs.PlainCore.{PlainCore};
 ghost use Rattle.sp_copy_nets.specs.Table.{numbers_at};
 ghost use Rattle.sp_tree_handed.specs.declared.owners.LoopTurns.{LoopTurns};
 ghost use Rattle.sp_tree_copies.specs.declared.numbers.LoopCopies.{LoopCopies};
 ghost use Rattle.sp_tree_handed.specs.declared.owners.Keeping.{Keeping};
-ghost use Rattle.sp_tree_copies.specs.Naming.{bound_names, name_of, names_of};
+ghost use Rattle.sp_tree_copies.specs.Naming.{bound_names, load_names, name_of, names_of, span_names};
 ghost use Rattle.sp_tree_copies.specs.Walks.{Adds, KeepsNext, KeepsStanding};
 
 use crate::walk::Walk;
-use sp_core::{CoreCounter, Op};
+use sp_core::{CoreCounter, CoreSpan, Op};
 use sp_netlist::{NetId, NoMemory};
 use sp_tree_handed::Keeping;
 
@@ -62,6 +62,47 @@ pub(crate) fn name_bounds(
         name_ops(walk, around, &counter.from)?;
         name_ops(walk, around, &counter.until)?;
     }
+    Ok(())
+}
+
+/// Names those of a span: of its index, or of its first end and then of the other one.
+fn name_span(walk: &mut Walk, around: &[Option<NetId>], span: &CoreSpan) -> Result<(), NoMemory>
+    ensures adds { OnOk result (Adds (span_names (numbers_at around.now) (plain_span span.now ∷ [])) [] [] 0 0 walk.old walk.new) }
+    ensures stand { OnOk result ((core : PlainCore) (turns : List LoopTurns) (kept : List Keeping) (loops : List LoopCopies) → KeepsStanding core turns kept loops around.now walk.old walk.new) }
+{
+    match span {
+        CoreSpan::One(ops) => name_ops(walk, around, ops),
+        CoreSpan::Range(first, other) => {
+            name_ops(walk, around, first)?;
+            name_ops(walk, around, other)
+        }
+    }
+}
+
+/// Names those of spans, one after the other.
+fn name_spans(walk: &mut Walk, around: &[Option<NetId>], spans: &[CoreSpan]) -> Result<(), NoMemory>
+    ensures adds { OnOk result (Adds (span_names (numbers_at around.now) (map plain_span spans.now)) [] [] 0 0 walk.old walk.new) }
+    ensures stand { OnOk result ((core : PlainCore) (turns : List LoopTurns) (kept : List Keeping) (loops : List LoopCopies) → KeepsStanding core turns kept loops around.now walk.old walk.new) }
+{
+    for span in spans {
+        name_span(walk, around, span)?;
+    }
+    Ok(())
+}
+
+/// Names a load by the copy of its memory, behind the operations of its spans.
+pub(crate) fn name_load(
+    walk: &mut Walk,
+    around: &[Option<NetId>],
+    spans: &[CoreSpan],
+    mem: u32,
+) -> Result<(), NoMemory>
+    ensures adds { OnOk result (Adds (load_names (numbers_at around.now) mem (map plain_span spans.now)) [] [] 0 0 walk.old walk.new) }
+    ensures stand { OnOk result ((core : PlainCore) (turns : List LoopTurns) (kept : List Keeping) (loops : List LoopCopies) → KeepsStanding core turns kept loops around.now walk.old walk.new) }
+{
+    name_spans(walk, around, spans)?;
+    let net = net_at(around, mem);
+    walk.names.push(net)?;
     Ok(())
 }
 

@@ -6,7 +6,7 @@ use Rattle.sp_netlist.specs.Signals.{Signals}
 use Rattle.sp_gates.specs.Tested.{is_on}
 use Rattle.sp_core.specs.Declarations.{is_among}
 use Rattle.sp_core.specs.Events.{Event}
-use Rattle.sp_core.specs.PlainCore.{PlainOp, PlainCounter, PlainStages, inner, outer, PlainCore}
+use Rattle.sp_core.specs.PlainCore.{PlainOp, PlainCounter, PlainSpan, PlainStages, inner, outer, load, PlainCore}
 use Rattle.sp_plan.specs.PlainPlan.{PlainPlan, mem_plan, node_plan}
 use Rattle.sp_time.specs.Beats.{took_at, first_cycle}
 use Rattle.sp_machine.specs.Timeline.{slots_of, in_copies}
@@ -64,3 +64,10 @@ module _ (core : PlainCore) (plan : PlainPlan) (delays : Delays) where
       (s : Signals) (last n : ℕ) (ops : List PlainOp) (nets : CopyNets) (runs : List ListRun)
       → ((r : ListRun) (t : ℕ) → Contains runs r → r.cycle ≤ t → t < r.cycle + (list_ran core ops r).took → t ≤ last → AreNumbered s t nets r.copies)
       → (number t : ℕ) (e : Event) (h : Happens (all_listed core n ops runs) number t e) → t ≤ last → copy_at s t (nets e.mem) ≡ h.copy
+
+  -- and of a load, whose events are those of its spans' operations and those of the words that it moves
+  abbrev pub LoadsNameCopies : Type 0
+  LoadsNameCopies =
+      (s : Signals) (last k n dram m : ℕ) (spans : List PlainSpan) (nets : CopyNets) (runs : List Placed)
+      → ((r : Placed) (t : ℕ) → Contains runs r → r.cycle ≤ t → t < over_at core plan delays (load dram m spans) k n r → t ≤ last → AreNumbered s t nets r.copies)
+      → (number t : ℕ) (e : Event) (h : Happens (all_events core plan delays (load dram m spans) k n runs) number t e) → t ≤ last → copy_at s t (nets e.mem) ≡ h.copy

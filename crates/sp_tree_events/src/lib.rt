@@ -8,7 +8,9 @@ mod parts;
 mod told;
 
 pub use acts::{loops_renew, machines_keep, worked_owners};
-pub use copies::{inners_name_copies, lists_name_copies, numbers_stand, worked_standing};
+pub use copies::{
+    inners_name_copies, lists_name_copies, loads_name_copies, numbers_stand, worked_standing,
+};
 pub use owners::{bodies_own, runs_own, sides_own, stages_own, worked_deeds};
 pub use parts::{
     agreement, branch_tests_agree, machine_lists_agree, machines_agree, sides_agree, stages_agree,

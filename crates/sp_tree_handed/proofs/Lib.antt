@@ -1,3 +1,4 @@
 pub mod Joining
 mod Least
+pub mod Moving
 pub mod Owning

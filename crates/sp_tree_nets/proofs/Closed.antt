@@ -1,5 +1,5 @@
 -- A loop that is closed behind its stages.
-use Rattle.std.proofs.Common.{◌≡◌, ℕ, zero, suc, ◌+◌, ◌<◌, ◌≤◌, ◌^◌, inl, inr, ◌&&◌, nat_le, nat_lt, max, true, List, [], ◌∷◌, ◌++◌, length, slice_index, Contains, append_assoc, refl, sym, ◌∙◌, ap, subst, arith}
+use Rattle.std.proofs.Common.{◌≡◌, ℕ, zero, suc, ◌+◌, ◌<◌, ◌≤◌, ◌^◌, inl, inr, ◌&&◌, nat_le, nat_lt, max, true, List, [], ◌∷◌, ◌++◌, length, slice_index, Contains, append_assoc, refl, sym, ◌∙◌, ap, subst, arith, Option}
 use Rattle.std.proofs.lemmas.Bool.{cases_order, and_parts, leb-true}
 use Rattle.std.proofs.lemmas.List.Elements.{Contains-append_right, Contains-append_left, Contains-append_cases}
 use Rattle.std.specs.List.{list_all}
@@ -48,8 +48,11 @@ use Rattle.sp_stage_members.specs.Circuits.{MembersAreCircuits, SingleLanesAreFi
 use Rattle.sp_stage_members.specs.Members.{part_at, starts_in}
 use Rattle.sp_loop_circuits.specs.Laws.{ArePartsOf}
 use Rattle.sp_loop_circuits.specs.Loops.{IsClosed}
+use Rattle.sp_tree_handed.specs.declared.moves.TreeMove.{TreeMove}
 use Rattle.sp_tree_handed.specs.declared.owners.Keeping.{Keeping}
 use Rattle.sp_tree_handed.specs.declared.owners.LoopTurns.{LoopTurns}
+use Rattle.sp_tree_handed.proofs.Moving.{stage_ends_later}
+use Rattle.sp_tree_handed.specs.Moves.{StagesHaveEnds}
 use Rattle.sp_tree_nets.specs.Emitted.{CanEmit, IsTree}
 use Rattle.sp_tree_nets.specs.Stages.{AreStages, CanEmitStages, StagesIn, AreDivided, to_one}
 use Rattle.sp_tree_nets.proofs.Dividing.{ones_behind, others_behind, is_other, one_there, each_there, none_in_both}
@@ -93,7 +96,7 @@ lanes_some core around (c ∷ []) h =
     leb-true 1 c.par (and_parts (nat_le 1 c.par) (nat_le c.par 16) last.1).0
 lanes_some core around (c ∷ d ∷ rest) h = lanes_some core around (d ∷ rest) (and_parts (is_counter_right core around c) (list_all (is_counter_right core around) (d ∷ rest)) h).1
 
-module _ (d : Draft) (core : PlainCore) (plan : PlainPlan) (table : List AroundNets) (counters : List PlainCounter) (style : Style) (owned : List ℕ) (stages : PlainStages) (k n : ℕ) (can : CanEmit d core plan table (outer counters style owned stages) k n) where
+module _ (d : Draft) (core : PlainCore) (plan : PlainPlan) (table : List AroundNets) (ends : List (Option ℕ)) (counters : List PlainCounter) (style : Style) (owned : List ℕ) (stages : PlainStages) (k n : ℕ) (can : CanEmit d core plan table ends (outer counters style owned stages) k n) where
   rules : (are_counters_right core can.around counters ≡ true) × (are_lanes_right (lanes_of counters) stages ≡ true)
   rules = and_parts (are_counters_right core can.around counters) (are_lanes_right (lanes_of counters) stages) (node_right core can.around can.earlier (outer counters style owned stages) can.right.0)
 
@@ -103,7 +106,7 @@ module _ (d : Draft) (core : PlainCore) (plan : PlainPlan) (table : List AroundN
   pub loop_counters : AreCountersRight d table counters
   loop_counters = record { core = core; around = can.around; right = (and_parts (nat_le (length counters) 4 && nat_le (length counters + length can.around.counters) 1000) (list_all (is_counter_right core can.around) counters) rules.0).1; stand = can.stand }
 
-  pub loop_stages : (e : Draft) → Grows d e → CanEmitStages e core plan table counters stages (k + 1) (n + counters_size counters)
+  pub loop_stages : (e : Draft) → Grows d e → CanEmitStages e core plan table ends counters stages (k + 1) (n + counters_size counters)
   loop_stages e g = record {
     around = can.around;
     owned = owned;
@@ -111,7 +114,8 @@ module _ (d : Draft) (core : PlainCore) (plan : PlainPlan) (table : List AroundN
     right = can.right.1;
     stand = stand_later d e table can.around.counters g can.stand;
     timed = can.timed.1;
-    moves_none = can.moves_none;
+    loads_alone = can.loads_alone;
+    have_ends = subst (λ j. StagesHaveEnds e ends stages j) (omega arith) (stage_ends_later d e ends stages (suc k) g can.have_ends);
     times = subst (λ j. StagesHaveTime core plan stages j) (omega arith) can.times;
     places = subst (λ j. StagesHavePlaces plan stages j) (omega arith) can.places.1;
     planned = (let h = can.planned in omega (arith, h));
@@ -123,8 +127,8 @@ own_masks : (counters : List PlainCounter) (begun : OpenLoop) → AreMasksOf cou
 own_masks [] begun = tt
 own_masks (c ∷ counters) begun = refl
 
-module _ (a b c : Draft) (core : PlainCore) (plan : PlainPlan) (table : List AroundNets) (begun : OpenLoop) (counters : List PlainCounter) (stages : PlainStages) (slots : List ℕ) (k n : ℕ) (bs : List ActedList) (parts : List StagePart) (xs : List ActedList) (rs : List LoopTurns) (ks : List Keeping)
-    (was : Reserves a b (begun.part.step ∷ (answers_in bs ++ row_nets begun.rows.rows.items))) (st : AreStages b c core plan table begun counters stages slots (k + 1) (n + counters_size counters) parts xs rs ks) where
+module _ (a b c : Draft) (core : PlainCore) (plan : PlainPlan) (table : List AroundNets) (ends : List (Option ℕ)) (begun : OpenLoop) (counters : List PlainCounter) (stages : PlainStages) (slots : List ℕ) (k n : ℕ) (bs : List ActedList) (parts : List StagePart) (xs : List ActedList) (rs : List LoopTurns) (ks : List Keeping) (ms : List TreeMove)
+    (was : Reserves a b (begun.part.step ∷ (answers_in bs ++ row_nets begun.rows.rows.items))) (st : AreStages b c core plan table ends begun counters stages slots (k + 1) (n + counters_size counters) parts xs rs ks ms) where
   pub all_reserved : Reserves a c (begun.part.step ∷ (answers_in bs ++ (row_nets begun.rows.rows.items ++ st.nets)))
   all_reserved =
       subst (λ ns. Reserves a c (begun.part.step ∷ ns)) (append_assoc (answers_in bs) (row_nets begun.rows.rows.items) st.nets)
@@ -179,8 +183,8 @@ module _ (a b c : Draft) (core : PlainCore) (plan : PlainPlan) (table : List Aro
 
       pub loop_is : (d : Draft) (places : List (List (List ℕ))) (firsts : List ℕ) (done : ℕ) (style : Style) (owned : List ℕ) (own : LoopTurns) → own.start ≡ begun.part.start → own.owned.items ≡ owned → own.firsts.items ≡ firsts → Grows c d → IsClosed d begun parts places firsts done → ((s : Signals) → RunsOn s b.cells → CountsGroups s begun.part begun.nets)
           → HasBounds a b table n counters begun.part.counters.items bs → length begun.rows.rows.items ≡ length places → AreArranged places (slots_of (node_plan plan k)) → length (slots_of (node_plan plan k)) ≡ stage_count stages
-          → slots ≡ slot_numbers (node_plan plan k) → MembersAreCircuits → RowsTakeWords → IsTree a d core plan table (outer counters style owned stages) k n (record { start = begun.part.start; done = done }) (bs ++ xs)
-          (own ∷ rs) ks
+          → slots ≡ slot_numbers (node_plan plan k) → MembersAreCircuits → RowsTakeWords → IsTree a d core plan table ends (outer counters style owned stages) k n (record { start = begun.part.start; done = done }) (bs ++ xs)
+          (own ∷ rs) ks ms
       loop_is d places firsts done style owned own start_is owned_are firsts_are g closed counts has each arranged size slots_are members taken around earlier is stand s run =
           let p = node_plan plan k in
           let at_c = runs_earlier c d s g run in
@@ -192,7 +196,7 @@ module _ (a b c : Draft) (core : PlainCore) (plan : PlainPlan) (table : List Aro
           let nets = λ (i : ℕ). slot_nets begun.nets begun.rows.rows.items (nets_at table) counters (slot_at (slots_of p) i).slot in
           let child = λ (i : ℕ). (part_at parts i).child in
           let inside =
-          subst (λ j. StagesIn core plan s (own_near counters around.counters) stages j (n + counters_size counters) 0 nets child xs rs ks) (omega arith)
+          subst (λ j. StagesIn core plan s ends (own_near counters around.counters) stages j (n + counters_size counters) 0 nets child xs rs ks ms) (omega arith)
           (st.trees around (earlier ++ owned) owned is.1 (stand_later a b table around.counters was.grows stand) s at_c 0 nets child
           (λ m at e lt. ap (λ x. slot_nets begun.nets begun.rows.rows.items (nets_at table) counters x) (ap (λ q. (slot_at (slots_of p) q).slot) (plain_at m at e) ∙ plan_slot p m (let z = size in omega (arith, lt, z)) ∙ ap (λ ss. slice_index ss m) (sym slots_are)))
           (λ m at e lt. ap child (plain_at m at e))) in
@@ -221,6 +225,7 @@ module _ (a b c : Draft) (core : PlainCore) (plan : PlainPlan) (table : List Aro
             };
             handed = record { bounds = bs; inside = xs; all = refl; bound = bounds.acts; stand = inside.handed };
             owners = record { own = own; rest = rs; turns_are = refl; start_is = start_is; owned_are = owned_are; firsts_are = firsts_are; stages = inside.owners };
+            loads = inside.loads;
           }
         where
           plain_at : (m at : ℕ) → at ≡ 0 + m → at ≡ m

@@ -5,6 +5,8 @@ mod Going
 mod Lanes
 mod Later
 mod Listed
+mod Loading
+pub mod Moveless
 mod Opened
 mod Planned
 mod Renewing

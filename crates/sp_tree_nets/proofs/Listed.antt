@@ -5,13 +5,14 @@ use Rattle.sp_netlist.specs.Draft.{Draft}
 use Rattle.sp_gates.specs.Grows.{Grows}
 use Rattle.sp_gates.proofs.Growing.{Grows-join, Grows-same}
 use Rattle.sp_core.specs.Numbering.{counters_size, number_count}
-use Rattle.sp_core.specs.PlainCore.{PlainOp, PlainCounter, PlainNode, PlainStages, branch, fsm, inner, PlainCore}
+use Rattle.sp_core.specs.PlainCore.{PlainOp, PlainCounter, PlainSpan, single, range, PlainNode, PlainStages, branch, fsm, inner, PlainCore}
 use Rattle.sp_op_nets.specs.declared.acted.ActedList.{ActedList}
 use Rattle.sp_bound_nets.specs.Bounds.{bound_lists}
+use Rattle.sp_bound_nets.specs.Spans.{span_lists}
 use Rattle.sp_bound_nets.specs.Direct.{AreActedLists, IsActedList}
 use Rattle.sp_list_circuits.specs.Timed.{IsIssuedList}
 use Rattle.sp_inner_circuits.specs.Inner.{IsInnerActed}
-use Rattle.sp_tree_handed.specs.Lists.{numbered, standing, bounds_in, lists_in, lists_in_stages}
+use Rattle.sp_tree_handed.specs.Lists.{numbered, standing, bounds_in, spans_in, lists_in, lists_in_stages}
 use Rattle.sp_tree_handed.specs.Standing.{IsListStanding, AreListsStanding}
 use Rattle.sp_tree_handed.proofs.Joining.{list_later, lists_later, lists_join}
 use Rattle.sp_tree_nets.specs.Loops.{lists_of_loop}
@@ -31,6 +32,17 @@ bounds_stand d core (c ∷ counters) n (a ∷ b ∷ acted) h =
     (acted_stands d core n c.from a h.0, (acted_stands d core (n + length c.from) c.until b h.1.0, bounds_stand d core counters (n + (length c.from + length c.until)) acted rest))
 bounds_stand d core (c ∷ counters) n (a ∷ []) h = absurd h.1
 bounds_stand d core (c ∷ counters) n [] h = absurd h
+
+pub spans_stand : (d : Draft) (core : PlainCore) (spans : List PlainSpan) (n : ℕ) (acted : List ActedList) → AreActedLists d n (span_lists spans) acted → AreListsStanding d core (spans_in spans n) acted
+spans_stand d core [] n [] h = tt
+spans_stand d core [] n (a ∷ acted) h = absurd h
+spans_stand d core (single ops ∷ spans) n (a ∷ acted) h = (acted_stands d core n ops a h.0, spans_stand d core spans (n + length ops) acted h.1)
+spans_stand d core (single ops ∷ spans) n [] h = absurd h
+spans_stand d core (range xs ys ∷ spans) n (a ∷ b ∷ acted) h =
+    let rest = subst (λ m. AreActedLists d m (span_lists spans) acted) (add_assoc n (length xs) (length ys)) h.1.1 in
+    (acted_stands d core n xs a h.0, (acted_stands d core (n + length xs) ys b h.1.0, spans_stand d core spans (n + (length xs + length ys)) acted rest))
+spans_stand d core (range xs ys ∷ spans) n (a ∷ []) h = absurd h.1
+spans_stand d core (range xs ys ∷ spans) n [] h = absurd h
 
 -- an inner body's
 pub inner_lists : (d : Draft) (core : PlainCore) (counters : List PlainCounter) (owned : List ℕ) (ops : List PlainOp) (comb : Option ℕ) (n : ℕ) (acted : List ActedList) → IsInnerActed d core n counters ops acted

@@ -1,5 +1,5 @@
 -- A loop with stages, round these.
-use Rattle.std.proofs.Common.{◌≡◌, ℕ, ◌+◌, ◌≤◌, Bool, List, [], ◌∷◌, ◌++◌, length, Contains, refl, subst, arith}
+use Rattle.std.proofs.Common.{◌≡◌, ℕ, ◌+◌, ◌≤◌, Bool, List, [], ◌∷◌, ◌++◌, length, Contains, refl, subst, arith, Option}
 use Rattle.std.proofs.Math.Path.{fun_ext}
 use Rattle.sp_netlist.specs.declared.parts.Child.{Child}
 use Rattle.sp_netlist.specs.Draft.{Draft}
@@ -23,9 +23,12 @@ use Rattle.sp_tree_circuits.specs.Circuits.{slot_nets}
 use Rattle.sp_loop_nets.specs.declared.opening.OpenLoop.{OpenLoop}
 use Rattle.sp_loop_nets.specs.Fits.{counted_wires}
 use Rattle.sp_loop_nets.proofs.Promising.{rows_stand_later}
+use Rattle.sp_tree_handed.specs.declared.moves.TreeMove.{TreeMove}
 use Rattle.sp_tree_handed.specs.declared.owners.Keeping.{Keeping}
 use Rattle.sp_tree_handed.specs.declared.owners.LoopTurns.{LoopTurns}
 use Rattle.sp_tree_handed.specs.Lists.{lists_in}
+use Rattle.sp_tree_handed.proofs.Moving.{ends_later, stage_ends_later}
+use Rattle.sp_tree_handed.specs.Moves.{AreMovesStanding, slices_in}
 use Rattle.sp_tree_handed.specs.Standing.{AreListsStanding, AreTurnsStanding}
 use Rattle.sp_tree_nets.specs.Emitted.{CanEmit, IsTree}
 use Rattle.sp_tree_nets.specs.Stages.{CanEmitStages, IsStage, LoopStands}
@@ -37,8 +40,8 @@ pub loop_later : (a b : Draft) (begun : OpenLoop) (counters : List PlainCounter)
 loop_later a b begun counters nets r h = record { rows = rows_stand_later a b (counted_wires begun.nets) begun.rows.rows.items nets r h.rows; long = h.long; masks = h.masks }
 
 -- the first of stages, and the others behind it
-module _ (core : PlainCore) (plan : PlainPlan) (table : List AroundNets) (counters : List PlainCounter) (first last : ℕ) (comb : Bool) (node : PlainNode) (rest : PlainStages) (k n : ℕ) where
-  pub first_stage : (d : Draft) → CanEmitStages d core plan table counters (more_stage first last comb node rest) k n → CanEmitStages d core plan table counters (more_stage first last comb node no_stage) k n
+module _ (core : PlainCore) (plan : PlainPlan) (table : List AroundNets) (ends : List (Option ℕ)) (counters : List PlainCounter) (first last : ℕ) (comb : Bool) (node : PlainNode) (rest : PlainStages) (k n : ℕ) where
+  pub first_stage : (d : Draft) → CanEmitStages d core plan table ends counters (more_stage first last comb node rest) k n → CanEmitStages d core plan table ends counters (more_stage first last comb node no_stage) k n
   first_stage d can = record {
     around = can.around;
     owned = can.owned;
@@ -46,7 +49,8 @@ module _ (core : PlainCore) (plan : PlainPlan) (table : List AroundNets) (counte
     right = (can.right.0, tt);
     stand = can.stand;
     timed = (can.timed.0, tt);
-    moves_none = (can.moves_none.0, tt);
+    loads_alone = (can.loads_alone.0, tt);
+    have_ends = (can.have_ends.0, tt);
     times = (can.times.0, tt);
     places = (can.places.0, tt);
     planned = (let h = can.planned in omega (arith, h));
@@ -54,7 +58,7 @@ module _ (core : PlainCore) (plan : PlainPlan) (table : List AroundNets) (counte
     numbers = (let h = can.numbers in omega (arith, h));
   }
 
-  pub other_stages : (d e : Draft) → Grows d e → CanEmitStages d core plan table counters (more_stage first last comb node rest) k n → CanEmitStages e core plan table counters rest (k + node_count node) (n + number_count node)
+  pub other_stages : (d e : Draft) → Grows d e → CanEmitStages d core plan table ends counters (more_stage first last comb node rest) k n → CanEmitStages e core plan table ends counters rest (k + node_count node) (n + number_count node)
   other_stages d e g can = record {
     around = can.around;
     owned = can.owned;
@@ -62,7 +66,8 @@ module _ (core : PlainCore) (plan : PlainPlan) (table : List AroundNets) (counte
     right = can.right.1;
     stand = stand_later d e table can.around.counters g can.stand;
     timed = can.timed.1;
-    moves_none = can.moves_none.1;
+    loads_alone = can.loads_alone.1;
+    have_ends = stage_ends_later d e ends rest (k + node_count node) g can.have_ends.1;
     times = can.times.1;
     places = can.places.1;
     planned = (let h = can.planned in omega (arith, h));
@@ -71,19 +76,20 @@ module _ (core : PlainCore) (plan : PlainPlan) (table : List AroundNets) (counte
   }
 
 -- a stage, with the table inside of its slot
-module _ (core : PlainCore) (plan : PlainPlan) (table inside : List AroundNets) (begun : OpenLoop) (counters : List PlainCounter) (first last : ℕ) (comb : Bool) (node : PlainNode) (slot k n : ℕ) (d e : Draft) (nets : List ℕ) (g : Reserves d e nets) (loop : LoopStands d begun counters)
+module _ (core : PlainCore) (plan : PlainPlan) (table inside : List AroundNets) (ends : List (Option ℕ)) (begun : OpenLoop) (counters : List PlainCounter) (first last : ℕ) (comb : Bool) (node : PlainNode) (slot k n : ℕ) (d e : Draft) (nets : List ℕ) (g : Reserves d e nets) (loop : LoopStands d begun counters)
     (stands : (d : Draft) (near : List Near) → StandAround d table near → AreRows d (counted_wires begun.nets) begun.rows.rows.items → ((c : PlainCounter) → Contains counters c → lanes_of counters ≤ length begun.nets.masks.items) → StandAround d inside (own_near counters near)) where
   there : (near : List Near) → StandAround d table near → StandAround e inside (own_near counters near)
   there near h = stands e near (stand_later d e table near g.grows h) (loop_later d e begun counters nets g loop).rows loop.masks
 
-  pub stage_can : CanEmitStages d core plan table counters (more_stage first last comb node no_stage) k n → CanEmit e core plan inside node k n
+  pub stage_can : CanEmitStages d core plan table ends counters (more_stage first last comb node no_stage) k n → CanEmit e core plan inside ends node k n
   stage_can can = record {
     around = within can.around counters can.owned;
     earlier = can.earlier;
     right = can.right.0;
     stand = there can.around.counters can.stand;
     timed = can.timed.0;
-    moves_none = can.moves_none.0;
+    loads_alone = can.loads_alone.0;
+    have_ends = ends_later d e ends node k g.grows can.have_ends.0;
     times = can.times.0;
     places = can.places.0;
     planned = (let h = can.planned in omega (arith, h));
@@ -91,11 +97,11 @@ module _ (core : PlainCore) (plan : PlainPlan) (table inside : List AroundNets) 
     numbers = (let h = can.numbers in omega (arith, h));
   }
 
-  pub stage_is : (f : Draft) (child : Child) (acted : List ActedList) (turns : List LoopTurns) (kept : List Keeping) → nets ≡ child.start ∷ [] → Awaits e child.start 1 → Reserves e f (answers_in acted) → HasNet f child.done 1
-      → ((number : ℕ) → nets_at inside number ≡ slot_nets begun.nets begun.rows.rows.items (nets_at table) counters slot number) → IsTree e f core plan inside node k n child acted turns kept
-      → AreListsStanding f core (lists_in node n) acted → AreTurnsStanding f core turns kept
-      → IsStage d f core plan table begun counters first last node slot k n (record { child = child; first = first; last = last }) acted turns kept
-  stage_is f child acted turns kept nets_are start more done same tree lists owners = record {
+  pub stage_is : (f : Draft) (child : Child) (acted : List ActedList) (turns : List LoopTurns) (kept : List Keeping) (moves : List TreeMove) → nets ≡ child.start ∷ [] → Awaits e child.start 1 → Reserves e f (answers_in acted) → HasNet f child.done 1
+      → ((number : ℕ) → nets_at inside number ≡ slot_nets begun.nets begun.rows.rows.items (nets_at table) counters slot number) → IsTree e f core plan inside ends node k n child acted turns kept moves
+      → AreListsStanding f core (lists_in node n) acted → AreTurnsStanding f core turns kept → AreMovesStanding f (slices_in node k) moves
+      → IsStage d f core plan table ends begun counters first last node slot k n (record { child = child; first = first; last = last }) acted turns kept moves
+  stage_is f child acted turns kept moves nets_are start more done same tree lists owners loads = record {
     reserves = reserved_join d e f (child.start ∷ []) (answers_in acted) (subst (Reserves d e) nets_are g) more;
     first_is = refl;
     last_is = refl;
@@ -103,6 +109,7 @@ module _ (core : PlainCore) (plan : PlainPlan) (table inside : List AroundNets) 
     done = done;
     lists = lists;
     owners = owners;
+    loads = loads;
     tree = λ around earlier owned right stand s run.
-        tree_by core plan s (own_near counters around.counters) node k n acted turns kept (nets_at inside) (slot_nets begun.nets begun.rows.rows.items (nets_at table) counters slot) child child (fun_ext same) refl (tree (within around counters owned) earlier right (there around.counters stand) s run);
+        tree_by core plan s ends (own_near counters around.counters) node k n acted turns kept moves (nets_at inside) (slot_nets begun.nets begun.rows.rows.items (nets_at table) counters slot) child child (fun_ext same) refl (tree (within around counters owned) earlier right (there around.counters stand) s run);
   }

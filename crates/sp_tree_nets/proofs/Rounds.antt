@@ -1,5 +1,5 @@
 -- FSMs around their bodies, and inner bodies.
-use Rattle.std.proofs.Common.{◌≡◌, ℕ, ◌+◌, ◌&&◌, true, List, [], ◌∷◌, ◌++◌, length, append_assoc, refl, sym, ◌∙◌, ap, subst, arith, Option, None}
+use Rattle.std.proofs.Common.{◌≡◌, ℕ, suc, ◌+◌, ◌&&◌, true, List, [], ◌∷◌, ◌++◌, length, append_assoc, refl, sym, ◌∙◌, ap, subst, arith, Option, None}
 use Rattle.std.proofs.lemmas.Bool.{and_parts}
 use Rattle.std.proofs.lemmas.List.{append-nil}
 use Rattle.sp_words.specs.declared.types.Ty.TheVariants.{Bit}
@@ -31,9 +31,12 @@ use Rattle.sp_op_nets.proofs.Driving.{some_driven, stay}
 use Rattle.sp_op_nets.proofs.Reserving.{reserved_join}
 use Rattle.sp_list_circuits.specs.Turns.{IsInTurns, IsWordRight}
 use Rattle.sp_inner_circuits.specs.Inner.{IsInner, IsInnerRight, IsPlanned}
+use Rattle.sp_tree_handed.specs.declared.moves.TreeMove.{TreeMove}
 use Rattle.sp_tree_handed.specs.declared.owners.Keeping.{Keeping}
 use Rattle.sp_tree_handed.specs.declared.owners.LoopTurns.{LoopTurns}
 use Rattle.sp_tree_handed.specs.Owners.{keeping}
+use Rattle.sp_tree_handed.proofs.Moving.{ends_later}
+use Rattle.sp_tree_handed.specs.Moves.{HaveEnds}
 use Rattle.sp_tree_nets.specs.Emitted.{CanEmit, IsTree}
 use Rattle.sp_tree_nets.proofs.Later.{stand_later}
 use Rattle.sp_tree_nets.proofs.Sides.{answers_append, list_right, node_right, one_more}
@@ -47,8 +50,8 @@ machine_right core around earlier start state test body next h =
     let first = and_parts (is_reg (mem core state).kind) (is_word_list core around start (mem core state).ty) both.0 in
     let rest = and_parts (is_word_list core (with_state core around state) test Bit) (is_word_list core (with_state core around state) next (mem core state).ty) both.1 in (first.1, rest.0, rest.1)
 
-module _ (d : Draft) (core : PlainCore) (plan : PlainPlan) (table : List AroundNets) (start : List PlainOp) (state : ℕ) (test : List PlainOp) (body : PlainNode) (next : List PlainOp) (k n : ℕ)
-    (can : CanEmit d core plan table (fsm start state test body next) k n) where
+module _ (d : Draft) (core : PlainCore) (plan : PlainPlan) (table : List AroundNets) (ends : List (Option ℕ)) (start : List PlainOp) (state : ℕ) (test : List PlainOp) (body : PlainNode) (next : List PlainOp) (k n : ℕ)
+    (can : CanEmit d core plan table ends (fsm start state test body next) k n) where
   parts : (is_word_list core can.around start (mem core state).ty ≡ true) × (is_word_list core (with_state core can.around state) test Bit ≡ true) × (is_word_list core (with_state core can.around state) next (mem core state).ty ≡ true)
   parts = machine_right core can.around can.earlier start state test body next can.right.0
 
@@ -61,14 +64,15 @@ module _ (d : Draft) (core : PlainCore) (plan : PlainPlan) (table : List AroundN
   pub machine_next : (e : Draft) → Grows d e → IsWordRight e core table next (mem core state).ty
   machine_next e g = record { around = with_state core can.around state; right = parts.2; stand = stand_later d e table can.around.counters g can.stand }
 
-  pub machine_body : (e : Draft) → Grows d e → CanEmit e core plan table body (k + 1) (n + (length start + length test))
+  pub machine_body : (e : Draft) → Grows d e → CanEmit e core plan table ends body (k + 1) (n + (length start + length test))
   machine_body e g = record {
     around = with_state core can.around state;
     earlier = can.earlier ++ state ∷ [];
     right = can.right.1;
     stand = stand_later d e table can.around.counters g can.stand;
     timed = can.timed;
-    moves_none = can.moves_none;
+    loads_alone = can.loads_alone;
+    have_ends = subst (λ j. HaveEnds e ends body j) (one_more k) (ends_later d e ends body (suc k) g can.have_ends);
     times = subst (λ j. AllHaveTime core plan body j) (one_more k) can.times;
     places = subst (λ j. AllHavePlaces plan body j) (one_more k) can.places;
     planned = (let h = can.planned in omega (arith, h));
@@ -114,12 +118,12 @@ machine_answers first test body next =
     append_assoc (answers_of first.ops.items) (answers_of test.ops.items) (answers_in body ++ answers_of next.ops.items)
     ∙ ap (λ ns. answers_of first.ops.items ++ (answers_of test.ops.items ++ ns)) (ap (λ ns. answers_in body ++ ns) (sym (append-nil (answers_of next.ops.items))) ∙ sym (answers_append body (next ∷ [])))
 
-module _ (a b c d e : Draft) (core : PlainCore) (plan : PlainPlan) (table : List AroundNets) (start : List PlainOp) (state : ℕ) (test : List PlainOp) (body : PlainNode) (next : List PlainOp) (k n : ℕ) (begin done : ℕ) (first : Child) (begun : ℕ)
-    (check : Child) (tested : ℕ) (work : Child) (step : Child) (stepped : ℕ) (x y : ActedList) (xs : List ActedList) (z : ActedList) (rs : List LoopTurns) (ps : List Keeping) where
+module _ (a b c d e : Draft) (core : PlainCore) (plan : PlainPlan) (table : List AroundNets) (ends : List (Option ℕ)) (start : List PlainOp) (state : ℕ) (test : List PlainOp) (body : PlainNode) (next : List PlainOp) (k n : ℕ) (begin done : ℕ) (first : Child) (begun : ℕ)
+    (check : Child) (tested : ℕ) (work : Child) (step : Child) (stepped : ℕ) (x y : ActedList) (xs : List ActedList) (z : ActedList) (rs : List LoopTurns) (ps : List Keeping) (ms : List TreeMove) where
   pub machine_is : Grows a b → Grows b c → Grows c d → Grows d e → IsInTurns a b core table n start first begun x → IsInTurns a b core table (n + length start) test check tested y
-      → IsTree b c core plan table body (k + 1) (n + (length start + length test)) work xs rs ps → IsInTurns c d core table (n + (length start + length test) + number_count body) next step stepped z
-      → ((s : Signals) → RunsOn s e.cells → RunsFsm s begin first check tested work step done) → IsTree a e core plan table (fsm start state test body next) k n (record { start = begin; done = done }) (x ∷ y ∷ (xs ++ z ∷ [])) rs
-      ((keeping state first.done begun None ∷ keeping state step.done stepped None ∷ []) ++ ps)
+      → IsTree b c core plan table ends body (k + 1) (n + (length start + length test)) work xs rs ps ms → IsInTurns c d core table (n + (length start + length test) + number_count body) next step stepped z
+      → ((s : Signals) → RunsOn s e.cells → RunsFsm s begin first check tested work step done) → IsTree a e core plan table ends (fsm start state test body next) k n (record { start = begin; done = done }) (x ∷ y ∷ (xs ++ z ∷ [])) rs
+      ((keeping state first.done begun None ∷ keeping state step.done stepped None ∷ []) ++ ps) ms
   machine_is g h i j firsts tests tree nexts runs around earlier is stand s run =
       let right = machine_right core around earlier start state test body next is.0 in
       let inside = with_state core around state in
@@ -128,7 +132,7 @@ module _ (a b c d e : Draft) (core : PlainCore) (plan : PlainPlan) (table : List
       let at_b = runs_earlier b c s h at_c in
       let first_is = firsts plan around (list_right core around start (mem core state).ty right.0) stand s at_b in
       let test_is = tests plan inside (list_right core inside test Bit right.1) stand s at_b in
-      let body_is = subst (λ m. IsTree b c core plan table body m (n + (length start + length test)) work xs rs ps) (sym (one_more k)) tree inside (earlier ++ state ∷ []) is.1 (stand_later a b table around.counters g stand) s at_c in
+      let body_is = subst (λ m. IsTree b c core plan table ends body m (n + (length start + length test)) work xs rs ps ms) (sym (one_more k)) tree inside (earlier ++ state ∷ []) is.1 (stand_later a b table around.counters g stand) s at_c in
       let next_is = subst (λ m. IsInTurns c d core table m next step stepped z) (omega arith) nexts plan inside (list_right core inside next (mem core state).ty right.2) (stand_later a c table around.counters (Grows-join a b c g h) stand) s at_d in
       record {
         circuit = record {
@@ -147,24 +151,26 @@ module _ (a b c d e : Draft) (core : PlainCore) (plan : PlainPlan) (table : List
         };
         handed = record { first = x; test = y; body = xs; next = z; all = refl; begins = first_is.acted; tests = test_is.acted; goes = body_is.handed; steps = next_is.acted };
         owners = record { rest = ps; kept_are = refl; body = body_is.owners };
+        loads = body_is.loads;
       }
 
-module _ (a b : Draft) (core : PlainCore) (plan : PlainPlan) (table : List AroundNets) (counters : List PlainCounter) (owned : List ℕ) (ops : List PlainOp) (comb : Option ℕ) (k n : ℕ) where
-  pub inner_right : CanEmit a core plan table (inner counters owned ops comb) k n → IsInnerRight a core table counters ops
+module _ (a b : Draft) (core : PlainCore) (plan : PlainPlan) (table : List AroundNets) (ends : List (Option ℕ)) (counters : List PlainCounter) (owned : List ℕ) (ops : List PlainOp) (comb : Option ℕ) (k n : ℕ) where
+  pub inner_right : CanEmit a core plan table ends (inner counters owned ops comb) k n → IsInnerRight a core table counters ops
   inner_right can = record { around = can.around; owned = owned; comb = comb; right = node_right core can.around can.earlier (inner counters owned ops comb) can.right; stand = can.stand }
 
-  pub inner_planned : (p : PlainNodePlan) → p ≡ node_plan plan k → CanEmit a core plan table (inner counters owned ops comb) k n → IsPlanned core ops p
+  pub inner_planned : (p : PlainNodePlan) → p ≡ node_plan plan k → CanEmit a core plan table ends (inner counters owned ops comb) k n → IsPlanned core ops p
   inner_planned p e can = subst (IsPlanned core ops) (sym e) (record { many = can.times.each; paced = can.times.paced; leave = can.times.leaves })
 
-  pub inner_is : (p : PlainNodePlan) (child : Child) (acted : List ActedList) → p ≡ node_plan plan k → IsInner a b core table p n counters ops child acted → IsTree a b core plan table (inner counters owned ops comb) k n child acted [] []
+  pub inner_is : (p : PlainNodePlan) (child : Child) (acted : List ActedList) → p ≡ node_plan plan k → IsInner a b core table p n counters ops child acted → IsTree a b core plan table ends (inner counters owned ops comb) k n child acted [] [] []
   inner_is p child acted e body around earlier right stand s run =
       let w = body plan k around owned comb (sym e) (node_right core around earlier (inner counters owned ops comb) right) stand s run in
-      record { circuit = w.circuit; handed = record { bounds = w.bounds; inside = w.own ∷ []; all = w.are; bound = w.of_bounds; stand = w.of_own }; owners = (refl, refl) }
+      record { circuit = w.circuit; handed = record { bounds = w.bounds; inside = w.own ∷ []; all = w.are; bound = w.of_bounds; stand = w.of_own }; owners = (refl, refl); loads = refl }
 
   -- by the node as its function takes it
-  pub inner_tree : (node : PlainNode) → node ≡ inner counters owned ops comb → (turns : List LoopTurns) (kept : List Keeping) → turns ≡ [] → kept ≡ [] → (p : PlainNodePlan) (child : Child) (acted : List ActedList) → p ≡ node_plan plan k
-      → IsInner a b core table p n counters ops child acted → IsTree a b core plan table node k n child acted turns kept
-  inner_tree node is turns kept turns_is kept_is p child acted e body =
-      subst (λ v. IsTree a b core plan table v k n child acted turns kept) (sym is)
-      (subst (λ v. IsTree a b core plan table (inner counters owned ops comb) k n child acted v kept) (sym turns_is)
-      (subst (λ v. IsTree a b core plan table (inner counters owned ops comb) k n child acted [] v) (sym kept_is) (inner_is p child acted e body)))
+  pub inner_tree : (node : PlainNode) → node ≡ inner counters owned ops comb → (turns : List LoopTurns) (kept : List Keeping) (moves : List TreeMove) → turns ≡ [] → kept ≡ [] → moves ≡ [] → (p : PlainNodePlan) (child : Child) (acted : List ActedList) → p ≡ node_plan plan k
+      → IsInner a b core table p n counters ops child acted → IsTree a b core plan table ends node k n child acted turns kept moves
+  inner_tree node is turns kept moves turns_is kept_is moves_are p child acted e body =
+      subst (λ v. IsTree a b core plan table ends v k n child acted turns kept moves) (sym is)
+      (subst (λ v. IsTree a b core plan table ends (inner counters owned ops comb) k n child acted v kept moves) (sym turns_is)
+      (subst (λ v. IsTree a b core plan table ends (inner counters owned ops comb) k n child acted [] v moves) (sym kept_is)
+      (subst (λ v. IsTree a b core plan table ends (inner counters owned ops comb) k n child acted [] [] v) (sym moves_are) (inner_is p child acted e body))))

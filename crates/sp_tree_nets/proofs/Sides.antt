@@ -1,5 +1,5 @@
 -- Branches around their sides.
-use Rattle.std.proofs.Common.{◌≡◌, ℕ, suc, ◌+◌, ◌<◌, ◌^◌, true, List, [], ◌∷◌, ◌++◌, length, append_assoc, refl, sym, ◌∙◌, ap, subst, arith}
+use Rattle.std.proofs.Common.{◌≡◌, ℕ, suc, ◌+◌, ◌<◌, ◌^◌, true, List, [], ◌∷◌, ◌++◌, length, append_assoc, refl, sym, ◌∙◌, ap, subst, arith, Option}
 use Rattle.std.proofs.Math.Nat.{add_assoc}
 use Rattle.std.proofs.lemmas.Bool.{and_parts}
 use Rattle.sp_words.specs.declared.types.Ty.{Ty}
@@ -31,8 +31,11 @@ use Rattle.sp_op_nets.specs.Reserved.{Reserves}
 use Rattle.sp_op_nets.proofs.Driving.{some_driven, stay}
 use Rattle.sp_op_nets.proofs.Reserving.{reserved_join}
 use Rattle.sp_list_circuits.specs.Turns.{IsInTurns, IsWordRight}
+use Rattle.sp_tree_handed.specs.declared.moves.TreeMove.{TreeMove}
 use Rattle.sp_tree_handed.specs.declared.owners.Keeping.{Keeping}
 use Rattle.sp_tree_handed.specs.declared.owners.LoopTurns.{LoopTurns}
+use Rattle.sp_tree_handed.proofs.Moving.{ends_later}
+use Rattle.sp_tree_handed.specs.Moves.{HaveEnds}
 use Rattle.sp_tree_nets.specs.Emitted.{CanEmit, IsTree}
 use Rattle.sp_tree_nets.proofs.Later.{stand_later}
 
@@ -49,21 +52,22 @@ list_right core around ops ty h = (and_parts (are_operations_right core around o
 pub node_right : (core : PlainCore) (around : Around) (earlier : List ℕ) (node : PlainNode) → is_right_here core around earlier node ≡ true → is_node_right core around node ≡ true
 node_right core around earlier node h = (and_parts (is_node_right core around node) (is_owned_once core earlier (owned_by core node)) h).0
 
-module _ (d : Draft) (core : PlainCore) (plan : PlainPlan) (table : List AroundNets) (ops : List PlainOp) (first second : PlainNode) (k n : ℕ) (can : CanEmit d core plan table (branch ops first second) k n) where
+module _ (d : Draft) (core : PlainCore) (plan : PlainPlan) (table : List AroundNets) (ends : List (Option ℕ)) (ops : List PlainOp) (first second : PlainNode) (k n : ℕ) (can : CanEmit d core plan table ends (branch ops first second) k n) where
   pub branch_test : IsWordRight d core table ops Bit
   branch_test = record { around = can.around; right = node_right core can.around can.earlier (branch ops first second) can.right.0; stand = can.stand }
 
   pub branch_small : n + length ops < 2 ^ 30 + 1
   branch_small = (let h = can.numbers in omega (arith, h))
 
-  pub branch_one : (e : Draft) → Grows d e → CanEmit e core plan table first (k + 1) (n + length ops)
+  pub branch_one : (e : Draft) → Grows d e → CanEmit e core plan table ends first (k + 1) (n + length ops)
   branch_one e g = record {
     around = can.around;
     earlier = can.earlier;
     right = can.right.1;
     stand = stand_later d e table can.around.counters g can.stand;
     timed = can.timed.0;
-    moves_none = can.moves_none.0;
+    loads_alone = can.loads_alone.0;
+    have_ends = subst (λ j. HaveEnds e ends first j) (one_more k) (ends_later d e ends first (suc k) g can.have_ends.0);
     times = subst (λ j. AllHaveTime core plan first j) (one_more k) can.times.0;
     places = subst (λ j. AllHavePlaces plan first j) (one_more k) can.places.0;
     planned = (let h = can.planned in omega (arith, h));
@@ -71,14 +75,15 @@ module _ (d : Draft) (core : PlainCore) (plan : PlainPlan) (table : List AroundN
     numbers = (let h = can.numbers in omega (arith, h));
   }
 
-  pub branch_other : (e : Draft) → Grows d e → CanEmit e core plan table second (k + 1 + node_count first) (n + length ops + number_count first)
+  pub branch_other : (e : Draft) → Grows d e → CanEmit e core plan table ends second (k + 1 + node_count first) (n + length ops + number_count first)
   branch_other e g = record {
     around = can.around;
     earlier = can.earlier ++ owned_in first;
     right = can.right.2;
     stand = stand_later d e table can.around.counters g can.stand;
     timed = can.timed.1;
-    moves_none = can.moves_none.1;
+    loads_alone = can.loads_alone.1;
+    have_ends = subst (λ j. HaveEnds e ends second j) (ap (λ j. j + node_count first) (one_more k)) (ends_later d e ends second (suc k + node_count first) g can.have_ends.1);
     times = subst (λ j. AllHaveTime core plan second j) (ap (λ j. j + node_count first) (one_more k)) can.times.1;
     places = subst (λ j. AllHavePlaces plan second j) (ap (λ j. j + node_count first) (one_more k)) can.places.1;
     planned = (let h = can.planned in omega (arith, h));
@@ -113,20 +118,21 @@ module _ (a b c d : Draft) (start : ℕ) (test : Child) (tested : ℕ) (one othe
       some_driven a d e (test.start ∷ first ∷ second ∷ []) (xs ++ (ys ++ zs)) (test.start ∷ first ∷ second ∷ []) (subst (λ ns. Reserves a d (test.start ∷ first ∷ second ∷ ns)) (append_assoc xs ys zs) all)
       (subst (λ ns. Fills d e ns) same fills) (λ n h. h) (λ n h. h)
 
-module _ (a b c d e : Draft) (core : PlainCore) (plan : PlainPlan) (table : List AroundNets) (ops : List PlainOp) (first second : PlainNode) (k n : ℕ) (start done : ℕ) (test : Child) (tested : ℕ) (one other : Child) (list : ActedList) (xs ys : List ActedList)
-    (rs ss : List LoopTurns) (ps qs : List Keeping) where
-  pub branch_is : Grows a b → Grows b c → Grows c d → Grows d e → IsInTurns a b core table n ops test tested list → IsTree b c core plan table first (k + 1) (n + length ops) one xs rs ps
-      → IsTree c d core plan table second (k + 1 + node_count first) (n + length ops + number_count first) other ys ss qs → ((s : Signals) → RunsOn s e.cells → RunsBranch s start test tested one other done)
-      → IsTree a e core plan table (branch ops first second) k n (record { start = start; done = done }) (list ∷ (xs ++ ys)) (rs ++ ss) (ps ++ qs)
+module _ (a b c d e : Draft) (core : PlainCore) (plan : PlainPlan) (table : List AroundNets) (ends : List (Option ℕ)) (ops : List PlainOp) (first second : PlainNode) (k n : ℕ) (start done : ℕ) (test : Child) (tested : ℕ) (one other : Child) (list : ActedList) (xs ys : List ActedList)
+    (rs ss : List LoopTurns) (ps qs : List Keeping) (ms os : List TreeMove) where
+  pub branch_is : Grows a b → Grows b c → Grows c d → Grows d e → IsInTurns a b core table n ops test tested list → IsTree b c core plan table ends first (k + 1) (n + length ops) one xs rs ps ms
+      → IsTree c d core plan table ends second (k + 1 + node_count first) (n + length ops + number_count first) other ys ss qs os → ((s : Signals) → RunsOn s e.cells → RunsBranch s start test tested one other done)
+      → IsTree a e core plan table ends (branch ops first second) k n (record { start = start; done = done }) (list ∷ (xs ++ ys)) (rs ++ ss) (ps ++ qs) (ms ++ os)
   branch_is g h i j turns left right runs around earlier is stand s run =
       let at_d = runs_earlier d e s j run in
       let at_c = runs_earlier c d s i at_d in
       let tests = turns plan around (list_right core around ops Bit (node_right core around earlier (branch ops first second) is.0)) stand s (runs_earlier b c s h at_c) in
-      let one_is = subst (λ m. IsTree b c core plan table first m (n + length ops) one xs rs ps) (sym (one_more k)) left around earlier is.1 (stand_later a b table around.counters g stand) s at_c in
-      let other_is = subst (λ m. IsTree c d core plan table second m (n + (length ops + number_count first)) other ys ss qs) (sym (ap (λ m. m + node_count first) (one_more k)))
-      (subst (λ m. IsTree c d core plan table second (k + 1 + node_count first) m other ys ss qs) (add_assoc n (length ops) (number_count first)) right) around (earlier ++ owned_in first) is.2 (stand_later a c table around.counters (Grows-join a b c g h) stand) s at_d in
+      let one_is = subst (λ m. IsTree b c core plan table ends first m (n + length ops) one xs rs ps ms) (sym (one_more k)) left around earlier is.1 (stand_later a b table around.counters g stand) s at_c in
+      let other_is = subst (λ m. IsTree c d core plan table ends second m (n + (length ops + number_count first)) other ys ss qs os) (sym (ap (λ m. m + node_count first) (one_more k)))
+      (subst (λ m. IsTree c d core plan table ends second (k + 1 + node_count first) m other ys ss qs os) (add_assoc n (length ops) (number_count first)) right) around (earlier ++ owned_in first) is.2 (stand_later a c table around.counters (Grows-join a b c g h) stand) s at_d in
       record {
         circuit = record { test = test; tested = tested; chosen = one; left = other; circuit = runs s run; tests = tests.circuit; one = one_is.circuit; other = other_is.circuit };
         handed = record { test = list; one = xs; other = ys; all = refl; tests = tests.acted; firsts = one_is.handed; seconds = other_is.handed };
         owners = record { one = rs; other = ss; one_kept = ps; other_kept = qs; turns_are = refl; kept_are = refl; first = one_is.owners; second = other_is.owners };
+        loads = record { one = ms; other = os; moves_are = refl; first = one_is.loads; second = other_is.loads };
       }

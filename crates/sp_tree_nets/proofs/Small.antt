@@ -1,5 +1,5 @@
 -- The numbers of a core are small.
-use Rattle.std.proofs.Common.{◌+◌, ◌<◌, ◌≤◌, ◌^◌, [], arith}
+use Rattle.std.proofs.Common.{◌+◌, ◌<◌, ◌≤◌, ◌^◌, List, [], Option, arith, ℕ}
 use Rattle.std.proofs.lemmas.Bool.{ltb-true, false≢true}
 use Rattle.sp_netlist.specs.Draft.{Draft}
 use Rattle.sp_core.specs.Around.{nothing}
@@ -10,6 +10,7 @@ use Rattle.sp_plan.specs.PlainPlan.{PlainPlan}
 use Rattle.sp_plan_times.specs.Times.{PlansLeaveTime}
 use Rattle.sp_stage_places.specs.Planned.{PlansHavePlaces}
 use Rattle.sp_op_nets.specs.Table.{StandAround}
+use Rattle.sp_tree_handed.specs.Moves.{HaveEnds}
 use Rattle.sp_tree_nets.specs.Emitted.{CanEmit}
 use Rattle.sp_tree_nets.specs.Whole.{HasTreePlan}
 
@@ -42,14 +43,15 @@ pub nobody_stands : (d : Draft) → StandAround d [] nothing.counters
 nobody_stands d c lane has = absurd (false≢true has)
 
 -- by such a plan the whole tree can be emitted
-pub can_emit : (d : Draft) (core : PlainCore) (plan : PlainPlan) → IsCore core → HasTreePlan core plan → PlansLeaveTime → PlansHavePlaces → CanEmit d core plan [] core.root 0 0
-can_emit d core plan is h times places = record {
+pub can_emit : (d : Draft) (core : PlainCore) (plan : PlainPlan) (ends : List (Option ℕ)) → IsCore core → HaveEnds d ends core.root 0 → HasTreePlan core plan → PlansLeaveTime → PlansHavePlaces → CanEmit d core plan [] ends core.root 0 0
+can_emit d core plan ends is stand h times places = record {
   around = nothing;
   earlier = [];
   right = is.nodes;
   stand = nobody_stands d;
   timed = h.timed;
-  moves_none = h.moves_none;
+  loads_alone = h.loads_alone;
+  have_ends = stand;
   times = times core h.forms h.meets plan is h.timed h.valid h.latencies;
   places = places core h.forms h.meets plan is h.timed h.valid;
   planned = (let e = h.valid.nodes in omega (arith, e));

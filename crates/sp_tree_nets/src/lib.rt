@@ -4,6 +4,7 @@
 mod branches;
 mod loops;
 mod machines;
+mod moves;
 mod nodes;
 mod owners;
 mod tree;

@@ -10,16 +10,17 @@ use sp_netlist::NoMemory;
 use sp_op_nets::ActedList;
 use sp_plan::NodePlan;
 use sp_stage_members::{PlacedSlot, StagePart, arrange};
-use sp_tree_handed::TreeOwners;
+use sp_tree_handed::{TreeMove, TreeOwners};
 use std::alloc::Global;
 
-/// The stages of a loop as parts of it, the operations of their lists, in the order of their numbers, and what the owners in them
-/// do.
+/// The stages of a loop as parts of it, the operations of their lists, in the order of their numbers, what the owners in them do, and
+/// the loads in them.
 #[derive(Debug, Drop)]
 pub(crate) struct Stages {
     pub(crate) parts: Vec<StagePart>,
     pub(crate) acted: Vec<ActedList>,
     pub(crate) owners: TreeOwners,
+    pub(crate) moves: Vec<TreeMove>,
 }
 
 /// One of them.
@@ -28,6 +29,7 @@ pub(crate) struct OneStage {
     pub(crate) part: StagePart,
     pub(crate) acted: Vec<ActedList>,
     pub(crate) owners: TreeOwners,
+    pub(crate) moves: Vec<TreeMove>,
 }
 
 /// The stages of a loop in their places, by its plan. Where it hasn't a chain for each slot, it answers want of memory.

@@ -1,5 +1,5 @@
 //! The circuit of a node.
-ghost use Rattle.std.specs.Prelude.{◌≡◌, ℕ, ◌<◌, [], ◌∷◌, length, map, slice_index, IfOk};
+ghost use Rattle.std.specs.Prelude.{◌≡◌, ℕ, ◌+◌, ◌<◌, [], ◌∷◌, length, map, slice_index, IfOk};
 ghost use Rattle.sp_gates.specs.Nets.{HasNet};
 ghost use Rattle.sp_core.specs.CoreParts.{plain_core};
 ghost use Rattle.sp_core.specs.Plain.{plain_counter, plain_node, plain_stage_list};
@@ -8,6 +8,7 @@ ghost use Rattle.sp_op_nets.specs.Reserved.{Reserves};
 ghost use Rattle.sp_plan.specs.Plain.{plain_node_plan, plain_plan};
 ghost use Rattle.sp_plan.specs.PlainPlan.{node_plan};
 ghost use Rattle.sp_tree_handed.specs.Lists.{lists_in};
+ghost use Rattle.sp_tree_handed.specs.Moves.{AreMovesStanding, slices_in, slices_in_stages};
 ghost use Rattle.sp_tree_handed.specs.Standing.{AreListsStanding, HandedStand};
 ghost use Rattle.sp_tree_nets.specs.Emitted.{CanEmit, IsTree};
 ghost use Rattle.sp_tree_nets.specs.Loops.{CanEmitLoop, IsLoopTree, lists_of_loop};
@@ -16,6 +17,7 @@ ghost use Rattle.sp_tree_nets.specs.Stages.{AreStages, CanEmitStages, IsStage, L
 use crate::branches::{OpenBranch, begin_branch, branch_lists, end_branch};
 use crate::loops::{OneStage, Stages, loop_lists, stage_places};
 use crate::machines::{OpenMachine, begin_machine, end_machine, machine_lists, mem_ty};
+use crate::moves::{append_moves, both_moves, emit_load};
 use crate::owners::{both_owners, loop_owners, loop_turns, machine_owners, no_owners};
 use crate::tree::{TreeNets, append};
 use sp_core::{Core, CoreCounter, Node, Stage};
@@ -40,7 +42,8 @@ fn node_plan(plan: &Plan, index: u32) -> &NodePlan
 }
 
 /// Emits the circuit of a node of a core, and of all nodes in it, by a plan. `index` is the number of the node in preorder, and
-/// `number` that of its first operation; `around` has the nets of the counters around it. Transfers aren't emitted.
+/// `number` that of its first operation; `around` has the nets of the counters around it, and `ends` those by which its loads
+/// are done, by the numbers of their nodes. Of a load the nets of its slice alone are emitted; other transfers aren't.
 #[cycle(tree)]
 pub fn emit_node(
     alloc: Global,
@@ -51,16 +54,18 @@ pub fn emit_node(
     index: u32,
     number: u32,
     around: &[AroundNets],
+    ends: &[Option<NetId>],
     start: NetId,
 ) -> Result<TreeNets, NoMemory>
-    requires can { CanEmit builder.old (plain_core core.now) (plain_plan plan.now) around.now (plain_node node.now) index number }
+    requires can { CanEmit builder.old (plain_core core.now) (plain_plan plan.now) around.now ends.now (plain_node node.now) index number }
     requires start { HasNet builder.old start 1 }
     ensures reserves { IfOk result (λ tree. Reserves builder.old builder.new (answers_in tree.acted.items)) }
     ensures start { IfOk result (λ tree. tree.child.start ≡ start) }
     ensures done { IfOk result (λ tree. HasNet builder.new tree.child.done 1) }
     ensures lists { IfOk result (λ tree. AreListsStanding builder.new (plain_core core.now) (lists_in (plain_node node.now) number) tree.acted.items) }
     ensures owners { IfOk result (λ tree. HandedStand builder.new (plain_core core.now) tree.owners) }
-    ensures tree { IfOk result (λ tree. IsTree builder.old builder.new (plain_core core.now) (plain_plan plan.now) around.now (plain_node node.now) index number tree.child tree.acted.items tree.owners.turns.items tree.owners.kept.items) }
+    ensures moves { IfOk result (λ tree. AreMovesStanding builder.new (slices_in (plain_node node.now) index) tree.moves.items) }
+    ensures tree { IfOk result (λ tree. IsTree builder.old builder.new (plain_core core.now) (plain_plan plan.now) around.now ends.now (plain_node node.now) index number tree.child tree.acted.items tree.owners.turns.items tree.owners.kept.items tree.moves.items) }
 {
     match node {
         Node::Inner { counters, ops, .. } => {
@@ -72,6 +77,7 @@ pub fn emit_node(
                 child: inner.child,
                 acted: inner.acted,
                 owners: no_owners(alloc),
+                moves: Vec::new(alloc),
             })
         }
         Node::Branch { test, yes, no } => {
@@ -85,10 +91,10 @@ pub fn emit_node(
             let middle = number + test.len() as u32;
             let last = middle + count_numbers(yes);
             let one = emit_node(
-                alloc, builder, core, plan, yes, second, middle, around, yes_start,
+                alloc, builder, core, plan, yes, second, middle, around, ends, yes_start,
             )?;
             let other = emit_node(
-                alloc, builder, core, plan, no, third, last, around, no_start,
+                alloc, builder, core, plan, no, third, last, around, ends, no_start,
             )?;
             let child = end_branch(
                 alloc,
@@ -99,12 +105,14 @@ pub fn emit_node(
                 one.child,
                 other.child,
             )?;
+            let moves = both_moves(one.moves, other.moves)?;
             let acted = branch_lists(alloc, turns.acted, one.acted, other.acted)?;
             let owners = both_owners(one.owners, other.owners)?;
             Ok(TreeNets {
                 child,
                 acted,
                 owners,
+                moves,
             })
         }
         Node::Fsm {
@@ -132,6 +140,7 @@ pub fn emit_node(
                 index + 1,
                 middle,
                 around,
+                ends,
                 body_start,
             )?;
             let step = emit_turns(alloc, builder, core, next, ty, last, around, next_start)?;
@@ -151,6 +160,7 @@ pub fn emit_node(
                 child,
                 acted,
                 owners,
+                moves: work.moves,
             })
         }
         Node::Outer {
@@ -160,11 +170,15 @@ pub fn emit_node(
             ..
         } => {
             let tree = emit_loop(
-                alloc, stages, builder, core, plan, counters, owned, index, number, around, start,
+                alloc, stages, builder, core, plan, counters, owned, index, number, around, ends,
+                start,
             )?;
             Ok(tree)
         }
-        Node::Load { .. } => unreachable!(),
+        Node::Load { span, .. } => {
+            let tree = emit_load(alloc, builder, span, index, number, around, ends, start)?;
+            Ok(tree)
+        }
         Node::Store { .. } => unreachable!(),
         Node::Sparse { .. } => unreachable!(),
     }
@@ -183,16 +197,18 @@ fn emit_loop(
     index: u32,
     number: u32,
     around: &[AroundNets],
+    ends: &[Option<NetId>],
     start: NetId,
 ) -> Result<TreeNets, NoMemory>
-    requires can { CanEmitLoop builder.old (plain_core core.now) (plain_plan plan.now) around.now (map plain_counter counters.now) owned.now (plain_stage_list stages.now) index number }
+    requires can { CanEmitLoop builder.old (plain_core core.now) (plain_plan plan.now) around.now ends.now (map plain_counter counters.now) owned.now (plain_stage_list stages.now) index number }
     requires start { HasNet builder.old start 1 }
     ensures reserves { IfOk result (λ tree. Reserves builder.old builder.new (answers_in tree.acted.items)) }
     ensures start { IfOk result (λ tree. tree.child.start ≡ start) }
     ensures done { IfOk result (λ tree. HasNet builder.new tree.child.done 1) }
     ensures lists { IfOk result (λ tree. AreListsStanding builder.new (plain_core core.now) (lists_of_loop (map plain_counter counters.now) (plain_stage_list stages.now) number) tree.acted.items) }
     ensures owners { IfOk result (λ tree. HandedStand builder.new (plain_core core.now) tree.owners) }
-    ensures tree { IfOk result (λ tree. IsLoopTree builder.old builder.new (plain_core core.now) (plain_plan plan.now) around.now (map plain_counter counters.now) owned.now (plain_stage_list stages.now) index number tree.child tree.acted.items tree.owners.turns.items tree.owners.kept.items) }
+    ensures moves { IfOk result (λ tree. AreMovesStanding builder.new (slices_in_stages (plain_stage_list stages.now) (index + 1)) tree.moves.items) }
+    ensures tree { IfOk result (λ tree. IsLoopTree builder.old builder.new (plain_core core.now) (plain_plan plan.now) around.now ends.now (map plain_counter counters.now) owned.now (plain_stage_list stages.now) index number tree.child tree.acted.items tree.owners.turns.items tree.owners.kept.items tree.moves.items) }
 {
     loops_fit();
     single_lanes_are_first();
@@ -223,19 +239,21 @@ fn emit_loop(
         index + 1,
         next,
         around,
+        ends,
     )?;
-    let ends = close_loop(alloc, builder, &begun, &inside.parts, &places)?;
+    let closed = close_loop(alloc, builder, &begun, &inside.parts, &places)?;
     let child = Child {
         start,
-        done: ends.done,
+        done: closed.done,
     };
-    let own = loop_turns(alloc, start, owned, &ends.nets)?;
+    let own = loop_turns(alloc, start, owned, &closed.nets)?;
     let acted = loop_lists(begun.acted, inside.acted)?;
     let owners = loop_owners(alloc, own, inside.owners)?;
     Ok(TreeNets {
         child,
         acted,
         owners,
+        moves: inside.moves,
     })
 }
 
@@ -253,26 +271,29 @@ fn emit_stages(
     index: u32,
     number: u32,
     around: &[AroundNets],
+    ends: &[Option<NetId>],
 ) -> Result<Stages, NoMemory>
-    requires can { CanEmitStages builder.old (plain_core core.now) (plain_plan plan.now) around.now (map plain_counter counters.now) (plain_stage_list stages.now) index number }
+    requires can { CanEmitStages builder.old (plain_core core.now) (plain_plan plan.now) around.now ends.now (map plain_counter counters.now) (plain_stage_list stages.now) index number }
     requires loop_stands { LoopStands builder.old begun.now (map plain_counter counters.now) }
     requires each { length slots.now ≡ length stages.now }
     requires slots { (m : ℕ) → m < length slots.now → slice_index slots.now m < length begun.now.rows.rows.items }
-    ensures { IfOk result (λ all. AreStages builder.old builder.new (plain_core core.now) (plain_plan plan.now) around.now begun.now (map plain_counter counters.now) (plain_stage_list stages.now) slots.now index number all.parts.items all.acted.items all.owners.turns.items all.owners.kept.items) }
+    ensures { IfOk result (λ all. AreStages builder.old builder.new (plain_core core.now) (plain_plan plan.now) around.now ends.now begun.now (map plain_counter counters.now) (plain_stage_list stages.now) slots.now index number all.parts.items all.acted.items all.owners.turns.items all.owners.kept.items all.moves.items) }
 {
     let mut parts = Vec::new(alloc);
     let mut acted = Vec::new(alloc);
     let mut owners = no_owners(alloc);
+    let mut moves = Vec::new(alloc);
     let mut at: usize = 0;
     let mut second = index;
     let mut next = number;
     for stage in stages {
         let slot = slots[at] as usize;
         let one = emit_stage(
-            alloc, stage, builder, core, plan, begun, slot, counters, second, next, around,
+            alloc, stage, builder, core, plan, begun, slot, counters, second, next, around, ends,
         )?;
         parts.push(one.part)?;
         append(&mut acted, one.acted)?;
+        append_moves(&mut moves, one.moves)?;
         owners = both_owners(owners, one.owners)?;
         at += 1;
         second += count_nodes(&stage.node);
@@ -282,6 +303,7 @@ fn emit_stages(
         parts,
         acted,
         owners,
+        moves,
     })
 }
 
@@ -299,11 +321,12 @@ fn emit_stage(
     index: u32,
     number: u32,
     around: &[AroundNets],
+    ends: &[Option<NetId>],
 ) -> Result<OneStage, NoMemory>
-    requires can { CanEmitStages builder.old (plain_core core.now) (plain_plan plan.now) around.now (map plain_counter counters.now) (plain_stage_list (stage.now ∷ [])) index number }
+    requires can { CanEmitStages builder.old (plain_core core.now) (plain_plan plan.now) around.now ends.now (map plain_counter counters.now) (plain_stage_list (stage.now ∷ [])) index number }
     requires loop_stands { LoopStands builder.old begun.now (map plain_counter counters.now) }
     requires slot { slot < length begun.now.rows.rows.items }
-    ensures { IfOk result (λ one. IsStage builder.old builder.new (plain_core core.now) (plain_plan plan.now) around.now begun.now (map plain_counter counters.now) stage.now.first stage.now.last (plain_node stage.now.node) slot index number one.part one.acted.items one.owners.turns.items one.owners.kept.items) }
+    ensures { IfOk result (λ one. IsStage builder.old builder.new (plain_core core.now) (plain_plan plan.now) around.now ends.now begun.now (map plain_counter counters.now) stage.now.first stage.now.last (plain_node stage.now.node) slot index number one.part one.acted.items one.owners.turns.items one.owners.kept.items one.moves.items) }
 {
     let start = reserve(builder, 1)?;
     let rows = &begun.rows.rows;
@@ -317,6 +340,7 @@ fn emit_stage(
         index,
         number,
         &table,
+        ends,
         start,
     )?;
     let part = StagePart {
@@ -328,5 +352,6 @@ fn emit_stage(
         part,
         acted: tree.acted,
         owners: tree.owners,
+        moves: tree.moves,
     })
 }

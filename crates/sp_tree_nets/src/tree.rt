@@ -3,15 +3,16 @@ ghost use Rattle.std.specs.Prelude.{◌≡◌, ◌++◌, OnOk};
 
 use sp_netlist::{Child, NoMemory};
 use sp_op_nets::ActedList;
-use sp_tree_handed::TreeOwners;
+use sp_tree_handed::{TreeMove, TreeOwners};
 
 /// The start and the end of a tree of nodes, the operations of its lists, in the order of their numbers, for the memories that
-/// they name, and what the owners in it do to their memories.
+/// they name, what the owners in it do to their memories, and the loads in it.
 #[derive(Debug, Drop)]
 pub struct TreeNets {
     pub child: Child,
     pub acted: Vec<ActedList>,
     pub owners: TreeOwners,
+    pub moves: Vec<TreeMove>,
 }
 
 /// Further lists, behind those before.

@@ -1,5 +1,5 @@
-use Rattle.std.proofs.Common.{[], List, map, All, sym, subst, arith}
-use Rattle.std.proofs.lemmas.List.{take_all}
+use Rattle.std.proofs.Common.{◌+◌, [], ◌∷◌, List, length, map, All, sym, ◌∙◌, ap, subst, arith}
+use Rattle.std.proofs.lemmas.List.{length-append, length-take, take_all}
 use Rattle.sp_core.specs.Plain.{plain_span}
 use Rattle.sp_op_nets.specs.declared.acted.ActedList.{ActedList}
 use Rattle.sp_op_nets.specs.Acted.{answers_in}
@@ -16,6 +16,7 @@ loop-index-init c =
     let d = c.args.builder.now in
     record {
       reserves = subst (λ (acts : List ActedList). Reserves d d (answers_in acts)) (sym c.new-2.ensures.items) (same_reserved d);
+      each = ap (λ ks. length ks) c.new.ensures.items;
       ends = subst (λ (ks : List SpanNet). All (HasEnds d) ks) (sym c.new.ensures.items) (λ k x l. absurd (omega (arith, l)));
       next = omega arith;
       acted = subst (λ (acts : List ActedList). AreActedLists d c.args.number [] acts) (sym c.new-2.ensures.items) tt;
@@ -49,13 +50,22 @@ loop-index-preserved c =
     let old = c.args.builder.now in
     let mid = c.loop-index.builder in
     let new = c.add_span.new.builder in
+    let grown = ap (λ ks. length ks) e.adds.nets_are ∙ length-append c.loop-index.ends.nets.items (e.adds.net ∷ []) in
+    let before = length-take at all in
+    let after = length-take (at + 1) all in
     record {
       reserves = reserves_behind table n next all at x low is i.next old mid new c.loop-index.ends c.add_span.new.spans e.adds i.reserves;
+      each = (let h = i.each in omega (arith, h, grown, before, after, low));
       ends = ends_behind table n next all at x low is i.next old mid new c.loop-index.ends c.add_span.new.spans e.adds i.ends;
       next = next_behind table n next all at x low is i.next c.in_ok-next.next e.next;
       acted = acted_behind table n next all at x low is i.next old mid new c.loop-index.ends c.add_span.new.spans e.adds i.acted;
       spans = spans_behind table n next all at x low is i.next old mid new c.loop-index.ends c.add_span.new.spans e.adds i.reserves.grows i.spans;
     }
+
+pub returns-clause-each : goal.returns-clause-each
+returns-clause-each c =
+    let all = take_all c.loop-index.index c.args.spans.now (let past = c.loop-index-test.false in omega (arith, past)) in
+    c.loop-index.invariant.each ∙ ap (λ cs. length cs) all
 
 pub returns-clause-spans : goal.returns-clause-spans
 returns-clause-spans c =

@@ -1,3 +1,5 @@
+use Rattle.std.proofs.Common.{[], ◌∷◌, ◌++◌, ap, ◌∙◌}
+use Rattle.sp_netlist.specs.Cells.{load_unit}
 use Rattle.sp_gates.proofs.Growing.{Keeps-same}
 use Rattle.sp_channels.proofs.Standing.{can_load, load_promises, load_wires_are, load_unit_is, load_units, load_banks, load_longer}
 use Rattle.sp_channels.proofs.loads.add_load.Goals as goal
@@ -42,3 +44,8 @@ returns-clause-one_more c =
     let p = c.in_ok-port.ensures in
     let a = c.in_ok-add.ensures in
     load_units c.args.builder.now c.promise_load.new.builder c.add.new.self c.requires.draft p.same_cells p.keeps a.keeps a.draft c.args.channel c.args.dram c.args.width c.in_ok-port.port p.row p.promised a.added a.same_nets a.drivers c.requires.channel
+
+pub returns-clause-cells : goal.returns-clause-cells
+returns-clause-cells c =
+    let p = c.in_ok-port.port in
+    c.in_ok-add.ensures.added ∙ ap (λ cs. cs ++ load_unit c.args.channel c.args.dram p.ready p.word p.request p.last p.address ∷ []) c.in_ok-port.ensures.same_cells

@@ -1,79 +1,156 @@
-use Rattle.std.proofs.Common.{[], ◌++◌, sym, subst}
+use Rattle.std.proofs.Common.{◌≡◌, [], ◌++◌, sym, ap, subst, ◌∙◌}
 use Rattle.sp_gates.specs.Grows.{Fills}
 use Rattle.sp_gates.proofs.Growing.{HasNet-stays}
 use Rattle.sp_gates.proofs.Running.{runs_earlier}
 use Rattle.sp_core.specs.CoreParts.{plain_core}
 use Rattle.sp_plan.specs.Plain.{plain_plan}
 use Rattle.sp_op_nets.specs.Acted.{answers_in}
-use Rattle.sp_op_nets.specs.Reserved.{Reserves}
+use Rattle.sp_op_nets.specs.Reserved.{Reserves, Rise}
 use Rattle.sp_op_nets.specs.Table.{nets_at}
 use Rattle.sp_copy_nets.specs.Numbers.{StandNumbers}
 use Rattle.sp_access_nets.specs.Laws.{answer_nets}
+use Rattle.sp_tree_events.specs.CopiesStanding.{no_numbers}
 use Rattle.sp_tree_handed.specs.Lists.{lists_in}
+use Rattle.sp_tree_handed.specs.Moves.{HaveEnds, slices_in, AreMovesStanding}
 use Rattle.sp_tree_handed.specs.Standing.{AreListsStanding}
+use Rattle.sp_tree_handed.proofs.Moving.{moves_later}
 use Rattle.sp_tree_nets.specs.Whole.{IsWhole}
+use Rattle.sp_tree_copies.specs.Naming.{AreNamed}
+use Rattle.sp_load_units.specs.Units.{unit_wires_in, UnitsStand, HaveDone}
+use Rattle.sp_load_nets.specs.Laws.{channels_of}
+use Rattle.sp_load_nets.specs.Runs.{AreLoadRuns}
 use Rattle.sp_array_nets.specs.Banks.{wires_in}
 use Rattle.sp_array_nets.specs.Fits.{MemoriesFit}
 use Rattle.sp_array_nets.specs.Runs.{RunMemories}
-use Rattle.sp_stored_trees.proofs.Emitting.{TreeRuns, lists_stay, still_reserved, copies_fit, fits, filled, circuit}
+use Rattle.sp_stored_trees.proofs.Emitting.{TreeRuns, lists_stay, still_reserved, copies_fit, names_later, units_later, fits, filled, circuit}
 use Rattle.sp_stored_trees.proofs.emit.emit_stored_core.Goals as goal
+
+pub emit_core-requires-clause-ends : goal.emit_core-requires-clause-ends
+emit_core-requires-clause-ends c = subst (λ ends. HaveEnds c.args.builder.now ends (plain_core c.args.core.now).root 0) (sym c.deref.ensures.value) c.requires.loads.ends_stand
+
+pub emit_loads-requires-clause-units : goal.emit_loads-requires-clause-units
+emit_loads-requires-clause-units c =
+    let core = plain_core c.args.core.now in
+    let first = c.emit_core.new.builder in
+    let mid = c.emit_copies.new.builder in
+    let acted = c.in_ok-tree.tree.acted.items in
+    subst (UnitsStand mid core) (sym c.deref-4.ensures.value)
+    (units_later c.units_are_open.ensures c.units_stay.ensures c.args.builder.now mid core c.args.loads.now.units.items (answers_in acted) (still_reserved c.args.builder.now first mid (answers_in acted) c.in_ok-tree.ensures.reserves c.in_ok-copies.ensures.fills) c.requires.loads.units_stand)
+
+pub emit_loads-requires-clause-rise : goal.emit_loads-requires-clause-rise
+emit_loads-requires-clause-rise c = (c.requires.loads.from, subst (λ units. Rise c.requires.loads.from (unit_wires_in units)) (sym c.deref-4.ensures.value) c.requires.loads.rise)
+
+pub emit_loads-requires-clause-slices : goal.emit_loads-requires-clause-slices
+emit_loads-requires-clause-slices c =
+    let first = c.emit_core.new.builder in
+    let mid = c.emit_copies.new.builder in
+    let slices = slices_in (plain_core c.args.core.now).root 0 in
+    subst (AreMovesStanding mid slices) (sym c.deref-5.ensures.value) (moves_later first mid slices c.in_ok-tree.tree.moves.items c.in_ok-copies.ensures.fills.grows c.in_ok-tree.ensures.moves)
+
+pub emit_loads-requires-clause-names : goal.emit_loads-requires-clause-names
+emit_loads-requires-clause-names c = subst (StandNumbers c.emit_copies.new.builder) (sym c.deref-6.ensures.value) c.in_ok-copies.ensures.names
 
 pub emit_memories-requires : goal.emit_memories-requires
 emit_memories-requires c =
     let core = plain_core c.args.core.now in
+    let plan = plain_plan c.args.plan.now in
     let first = c.emit_core.new.builder in
     let mid = c.emit_copies.new.builder in
-    let acted = c.deref.result.now in
-    let copies = c.deref-2.result.now in
+    let late = c.emit_loads.new.builder in
+    let acted = c.deref-2.result.now in
+    let copies = c.deref-3.result.now in
     let owners = c.in_ok-copies.copies.owners in
+    let units = c.args.loads.now.units.items in
+    let accesses = c.in_ok-accesses.accesses.items in
+    let writes = c.in_ok-writes.writes.items in
     let f0 = c.in_ok-copies.ensures.fills in
-    let r = still_reserved c.args.builder.now first mid (answers_in acted) (subst (λ xs. Reserves c.args.builder.now first (answers_in xs)) (sym c.deref.ensures.value) c.in_ok-tree.ensures.reserves) f0 in
-    let lists = lists_stay first mid core (lists_in core.root 0) acted f0.grows (subst (AreListsStanding first core (lists_in core.root 0)) (sym c.deref.ensures.value) c.in_ok-tree.ensures.lists) in
+    let moved = subst (λ xs. Fills mid late (unit_wires_in xs)) c.deref-4.ensures.value c.in_ok-writes.ensures.fills in
+    let r = still_reserved c.args.builder.now first mid (answers_in acted) (subst (λ xs. Reserves c.args.builder.now first (answers_in xs)) (sym c.deref-2.ensures.value) c.in_ok-tree.ensures.reserves) f0 in
+    let lists =
+    lists_stay mid late core (lists_in core.root 0) acted moved.grows (lists_stay first mid core (lists_in core.root 0) acted f0.grows (subst (AreListsStanding first core (lists_in core.root 0)) (sym c.deref-2.ensures.value) c.in_ok-tree.ensures.lists)) in
     let a = c.in_ok-accesses.ensures in
-    subst (λ xs. MemoriesFit mid core (plain_plan c.args.plan.now) xs owners c.args.arguments.now c.args.arrays.now c.args.start) (sym c.deref-3.ensures.value)
-    (fits core (plain_plan c.args.plan.now) c.args.builder.now mid acted copies owners c.in_ok-accesses.accesses.items c.args.arguments.now c.args.arrays.now c.args.start c.requires.can r (a.answers mid lists) (a.stand mid lists)
-    (a.of_core mid lists) (a.queued mid lists) c.root-root.ensures.core (c.answers_are_of_reads.ensures core) lists (a.accesses mid lists) c.arrays_are_open.ensures c.arrays_stay.ensures c.requires.arguments c.requires.arrays c.requires.start
-    c.in_ok-copies.ensures.owners (record { renewed = c.in_ok-copies.ensures.renewed; kept = c.in_ok-copies.ensures.kept }) (a.copied mid lists (copies_fit mid copies (subst (StandNumbers mid) (sym c.deref-2.ensures.value) c.in_ok-copies.ensures.names))))
+    let w = c.in_ok-writes.ensures in
+    let all = c.deref-7.ensures.value ∙ c.in_ok-append.ensures in
+    subst (λ xs. MemoriesFit late core plan xs owners c.args.arguments.now c.args.arrays.now c.args.start) (sym all)
+    (fits core plan c.args.builder.now mid late acted copies owners accesses writes c.args.arguments.now c.args.arrays.now c.args.start units c.requires.can r moved (a.answers late lists) (a.stand late lists)
+    (a.of_core late lists) (a.queued late lists) c.root-root.ensures.core (c.answers_are_of_reads.ensures core) lists (a.accesses late lists) w.answers
+    w.stand w.copied w.queued w.within w.unanswered c.arrays_are_open.ensures c.arrays_stay.ensures (c.units_are_open.ensures c.args.builder.now core units c.requires.loads.units_stand) c.requires.loads.apart c.requires.arguments c.requires.arrays c.requires.start
+    c.in_ok-copies.ensures.owners (record { renewed = c.in_ok-copies.ensures.renewed; kept = c.in_ok-copies.ensures.kept }) (a.copied late lists (copies_fit late copies (names_later mid late copies moved.grows (subst (StandNumbers mid) (sym c.deref-3.ensures.value) c.in_ok-copies.ensures.names)))))
 
 pub returns-clause-fills : goal.returns-clause-fills
 returns-clause-fills c =
     let core = plain_core c.args.core.now in
+    let plan = plain_plan c.args.plan.now in
     let first = c.emit_core.new.builder in
     let mid = c.emit_copies.new.builder in
-    let acted = c.deref.result.now in
-    let copies = c.deref-2.result.now in
+    let late = c.emit_loads.new.builder in
+    let acted = c.deref-2.result.now in
+    let copies = c.deref-3.result.now in
     let owners = c.in_ok-copies.copies.owners in
+    let units = c.args.loads.now.units.items in
+    let accesses = c.in_ok-accesses.accesses.items in
+    let writes = c.in_ok-writes.writes.items in
     let f0 = c.in_ok-copies.ensures.fills in
-    let r = still_reserved c.args.builder.now first mid (answers_in acted) (subst (λ xs. Reserves c.args.builder.now first (answers_in xs)) (sym c.deref.ensures.value) c.in_ok-tree.ensures.reserves) f0 in
-    let lists = lists_stay first mid core (lists_in core.root 0) acted f0.grows (subst (AreListsStanding first core (lists_in core.root 0)) (sym c.deref.ensures.value) c.in_ok-tree.ensures.lists) in
+    let moved = subst (λ xs. Fills mid late (unit_wires_in xs)) c.deref-4.ensures.value c.in_ok-writes.ensures.fills in
+    let r = still_reserved c.args.builder.now first mid (answers_in acted) (subst (λ xs. Reserves c.args.builder.now first (answers_in xs)) (sym c.deref-2.ensures.value) c.in_ok-tree.ensures.reserves) f0 in
+    let lists =
+    lists_stay mid late core (lists_in core.root 0) acted moved.grows (lists_stay first mid core (lists_in core.root 0) acted f0.grows (subst (AreListsStanding first core (lists_in core.root 0)) (sym c.deref-2.ensures.value) c.in_ok-tree.ensures.lists)) in
     let a = c.in_ok-accesses.ensures in
-    let f = subst (λ xs. Fills mid c.emit_memories.new.builder (answer_nets xs ++ wires_in c.args.arrays.now)) c.deref-3.ensures.value c.in_ok-nets.ensures.fills in
-    filled core (plain_plan c.args.plan.now) c.args.builder.now mid acted copies owners c.in_ok-accesses.accesses.items c.args.arguments.now c.args.arrays.now c.args.start c.requires.can r (a.answers mid lists) (a.stand mid lists)
-    (a.of_core mid lists) (a.queued mid lists) c.root-root.ensures.core (c.answers_are_of_reads.ensures core) lists (a.accesses mid lists) c.emit_memories.new.builder f c.reserved_are_driven.ensures
+    let w = c.in_ok-writes.ensures in
+    let all = c.deref-7.ensures.value ∙ c.in_ok-append.ensures in
+    let f = subst (λ xs. Fills late c.emit_memories.new.builder (answer_nets xs ++ wires_in c.args.arrays.now)) all c.in_ok-nets.ensures.fills in
+    filled core plan c.args.builder.now mid late acted copies owners accesses writes c.args.arguments.now c.args.arrays.now c.args.start units c.requires.can r moved (a.answers late lists) (a.stand late lists)
+    (a.of_core late lists) (a.queued late lists) c.root-root.ensures.core (c.answers_are_of_reads.ensures core) lists (a.accesses late lists) w.answers
+    c.emit_memories.new.builder f c.reserved_are_driven.ensures
 
 pub returns-clause-done : goal.returns-clause-done
 returns-clause-done c =
-    HasNet-stays c.emit_copies.new.builder c.emit_memories.new.builder c.in_ok-tree.tree.child.done 1 c.in_ok-nets.ensures.fills.grows
-    (HasNet-stays c.emit_core.new.builder c.emit_copies.new.builder c.in_ok-tree.tree.child.done 1 c.in_ok-copies.ensures.fills.grows c.in_ok-tree.ensures.done)
+    HasNet-stays c.emit_loads.new.builder c.emit_memories.new.builder c.in_ok-tree.tree.child.done 1 c.in_ok-nets.ensures.fills.grows
+    (HasNet-stays c.emit_copies.new.builder c.emit_loads.new.builder c.in_ok-tree.tree.child.done 1 c.in_ok-writes.ensures.fills.grows
+    (HasNet-stays c.emit_core.new.builder c.emit_copies.new.builder c.in_ok-tree.tree.child.done 1 c.in_ok-copies.ensures.fills.grows c.in_ok-tree.ensures.done))
 
 pub returns-clause-circuit : goal.returns-clause-circuit
 returns-clause-circuit c =
     let core = plain_core c.args.core.now in
+    let plan = plain_plan c.args.plan.now in
     let first = c.emit_core.new.builder in
     let mid = c.emit_copies.new.builder in
-    let acted = c.deref.result.now in
-    let copies = c.deref-2.result.now in
+    let late = c.emit_loads.new.builder in
+    let acted = c.deref-2.result.now in
+    let copies = c.deref-3.result.now in
     let owners = c.in_ok-copies.copies.owners in
-    let f0 = c.in_ok-copies.ensures.fills in
-    let r = still_reserved c.args.builder.now first mid (answers_in acted) (subst (λ xs. Reserves c.args.builder.now first (answers_in xs)) (sym c.deref.ensures.value) c.in_ok-tree.ensures.reserves) f0 in
-    let lists = lists_stay first mid core (lists_in core.root 0) acted f0.grows (subst (AreListsStanding first core (lists_in core.root 0)) (sym c.deref.ensures.value) c.in_ok-tree.ensures.lists) in
-    let a = c.in_ok-accesses.ensures in
-    let plan = plain_plan c.args.plan.now in
-    let child = c.in_ok-tree.tree.child in
+    let units = c.args.loads.now.units.items in
     let accesses = c.in_ok-accesses.accesses.items in
-    let f = subst (λ xs. Fills mid c.emit_memories.new.builder (answer_nets xs ++ wires_in c.args.arrays.now)) c.deref-3.ensures.value c.in_ok-nets.ensures.fills in
-    let whole = subst (λ xs. IsWhole first core plan child xs c.in_ok-tree.tree.owners.turns.items c.in_ok-tree.tree.owners.kept.items) (sym c.deref.ensures.value) c.in_ok-tree.ensures.whole in
-    circuit core plan c.args.builder.now mid acted copies owners accesses c.args.arguments.now c.args.arrays.now c.args.start c.requires.can r (a.answers mid lists) (a.stand mid lists) (a.of_core mid lists) (a.queued mid lists) c.root-root.ensures.core (c.answers_are_of_reads.ensures core) lists (a.accesses mid lists) c.emit_memories.new.builder f child c.in_ok-nets.nets.words.items
-    (λ s run. let t = whole s (runs_earlier first mid s f0.grows run) in
-    subst (λ names. TreeRuns core plan s child acted names owners) (sym c.deref-2.ensures.value) (record { circuit = t.circuit; handed = t.handed; named = c.in_ok-copies.ensures.named s run c.requires.can.arrays.copies (nets_at []) child t.circuit t.owners }))
-    (λ s run. subst (λ xs. RunMemories core plan s xs owners c.args.arguments.now c.in_ok-nets.nets.words.items) c.deref-3.ensures.value (c.in_ok-nets.ensures.runs s run))
+    let writes = c.in_ok-writes.writes.items in
+    let f0 = c.in_ok-copies.ensures.fills in
+    let moved = subst (λ xs. Fills mid late (unit_wires_in xs)) c.deref-4.ensures.value c.in_ok-writes.ensures.fills in
+    let r = still_reserved c.args.builder.now first mid (answers_in acted) (subst (λ xs. Reserves c.args.builder.now first (answers_in xs)) (sym c.deref-2.ensures.value) c.in_ok-tree.ensures.reserves) f0 in
+    let lists =
+    lists_stay mid late core (lists_in core.root 0) acted moved.grows (lists_stay first mid core (lists_in core.root 0) acted f0.grows (subst (AreListsStanding first core (lists_in core.root 0)) (sym c.deref-2.ensures.value) c.in_ok-tree.ensures.lists)) in
+    let a = c.in_ok-accesses.ensures in
+    let w = c.in_ok-writes.ensures in
+    let all = c.deref-7.ensures.value ∙ c.in_ok-append.ensures in
+    let child = c.in_ok-tree.tree.child in
+    let ends = c.deref.result.now in
+    let slices = c.in_ok-tree.tree.moves.items in
+    let f = subst (λ xs. Fills late c.emit_memories.new.builder (answer_nets xs ++ wires_in c.args.arrays.now)) all c.in_ok-nets.ensures.fills in
+    let whole = subst (λ xs. IsWhole first core plan ends child xs c.in_ok-tree.tree.owners.turns.items c.in_ok-tree.tree.owners.kept.items slices) (sym c.deref-2.ensures.value) c.in_ok-tree.ensures.whole in
+    let ended = subst (λ xs. HaveDone xs units) (sym c.deref.ensures.value) c.requires.loads.done in
+    circuit core plan c.args.builder.now mid late acted copies owners accesses writes c.args.arguments.now c.args.arrays.now c.args.start units c.requires.can r moved (a.answers late lists) (a.stand late lists)
+    (a.of_core late lists) (a.queued late lists) c.root-root.ensures.core (c.answers_are_of_reads.ensures core) lists (a.accesses late lists) w.answers
+    c.emit_memories.new.builder f child c.in_ok-nets.nets.words.items
+    (λ s run.
+    let behind = runs_earlier mid late s moved.grows run in
+    let t = whole s (runs_earlier first mid s f0.grows behind) in
+    let g = run.setting in
+    let runs =
+    subst (λ names. AreLoadRuns core g s names units slices writes) (c.deref-6.ensures.value ∙ sym c.deref-3.ensures.value)
+    (subst (λ xs. AreLoadRuns core g s c.deref-6.result.now xs slices writes) c.deref-4.ensures.value (subst (λ xs. AreLoadRuns core g s c.deref-6.result.now c.deref-4.result.now xs writes) c.deref-5.ensures.value (w.runs s run))) in
+    record {
+      circuit = t.circuit;
+      handed = t.handed;
+      named = subst (λ names. AreNamed core plan s core.root [] (nets_at []) 0 child t.circuit no_numbers names owners.renewed.items owners.kept.items) (sym c.deref-3.ensures.value) (c.in_ok-copies.ensures.named s behind c.requires.can.arrays.copies (nets_at []) child t.circuit t.owners);
+      channels = channels_of core g s copies units slices writes runs;
+      loads = c.loads_are_had.ensures core plan g s (nets_at []) child ends copies units slices writes c.args.builder.now c.requires.loads.units_stand ended t.circuit t.loads runs;
+    })
+    (λ s run. subst (λ xs. RunMemories core plan s xs owners c.args.arguments.now c.in_ok-nets.nets.words.items) all (c.in_ok-nets.ensures.runs s run))

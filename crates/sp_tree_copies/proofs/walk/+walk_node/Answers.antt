@@ -78,6 +78,10 @@ pub returns-in_ok-name_bounds-in-Inner-clause-stand : goal.returns-in_ok-name_bo
 returns-in_ok-name_bounds-in-Inner-clause-stand t c =
     on_ok c.name_ops.result (λ f d all stand h. f (plain_core c.args.core.now) c.args.turns.now c.args.kept.now c.args.loops.now d all stand (c.in_ok-name_bounds-in-Inner.ensures.stand (plain_core c.args.core.now) c.args.turns.now c.args.kept.now c.args.loops.now d all stand h)) c.name_ops.ensures.stand
 
+pub returns-in-Load-clause-stand : goal.returns-in-Load-clause-stand
+returns-in-Load-clause-stand t c =
+    on_ok c.name_load.result (λ f d all stand h. f (plain_core c.args.core.now) c.args.turns.now c.args.kept.now c.args.loops.now d all stand h) c.name_load.ensures.stand
+
 pub returns-after-loop-stage-clause-walks : goal.returns-after-loop-stage-clause-walks
 returns-after-loop-stage-clause-walks t c =
     let items = c.deref-stage-items.result.now in

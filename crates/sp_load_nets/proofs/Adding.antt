@@ -1,0 +1,152 @@
+-- Loads that are emitted one after the other.
+use Rattle.std.proofs.Common.{◌≡◌, ℕ, zero, suc, ◌-◌, ◌<◌, ◌≤◌, List, [], ◌∷◌, ◌++◌, length, take, drop, slice_index_or, Contains, All, Option, refl, sym, ap, subst, ◌∙◌, arith, append_assoc}
+use Rattle.std.proofs.lemmas.List.{append-nil}
+use Rattle.std.proofs.lemmas.List.Elements.{All-nil, All-cons, All-head, All-tail, All-weaker, Contains-append_left, Contains-append_right}
+use Rattle.std.specs.List.{AllZip}
+use Rattle.sp_netlist.specs.Draft.{Draft}
+use Rattle.sp_netlist.specs.Signals.{Signals}
+use Rattle.sp_gates.specs.Grows.{Grows, Fills}
+use Rattle.sp_gates.specs.Runs.{RunsOn}
+use Rattle.sp_gates.proofs.Growing.{Fills-none, HasNet-stays}
+use Rattle.sp_core.specs.PlainCore.{PlainCore}
+use Rattle.sp_bound_nets.specs.declared.spans.SpanNet.{SpanNet}
+use Rattle.sp_bound_nets.specs.declared.spans.SpanNet.TheVariants.{One, Range}
+use Rattle.sp_bound_nets.specs.Spans.{HasEnds}
+use Rattle.sp_op_nets.specs.Reserved.{Rise}
+use Rattle.sp_op_nets.proofs.Giving.{above}
+use Rattle.sp_copy_nets.specs.Numbers.{StandNumbers}
+use Rattle.sp_access_nets.specs.declared.access.AccessNets.{AccessNets}
+use Rattle.sp_tree_handed.specs.declared.loads.CoreLoad.{CoreLoad}
+use Rattle.sp_tree_handed.specs.declared.moves.TreeMove.{TreeMove}
+use Rattle.sp_load_units.specs.declared.unit.LoadUnit.{LoadUnit}
+use Rattle.sp_load_units.specs.Units.{unit_wires, unit_wires_in, UnitStands}
+use Rattle.sp_load_units.specs.Walks.{UnitStandsAlone}
+use Rattle.sp_load_units.proofs.Standing.{unit_is_open, unit_stays}
+use Rattle.sp_load_nets.specs.Parts.{AreSlicesStanding, WriteStands, AddsWrites}
+use Rattle.sp_load_nets.specs.Runs.{LoadRun, AreLoadRuns}
+use Rattle.sp_load_nets.proofs.Writing.{write_later}
+use Rattle.sp_load_nets.proofs.Running.{run_before}
+
+-- the first one of a list, and the others
+abbrev pub others : {A : Type 0} → List A → List A
+others xs = take (length xs - 1) (drop 1 xs)
+
+all_taken : {A : Type 0} (xs : List A) (n : ℕ) → n ≡ length xs → take n xs ≡ xs
+all_taken [] zero e = refl
+all_taken [] (suc n) e = refl
+all_taken (x ∷ xs) zero e = absurd (omega (arith, e))
+all_taken (x ∷ xs) (suc n) e = ap (λ ys. x ∷ ys) (all_taken xs n (omega (arith, e)))
+
+pub first_is : {A : Type 0} (xs : List A) (x : A) → 1 ≤ length xs → x ≡ slice_index_or xs 0 x → xs ≡ x ∷ others xs
+first_is [] x l e = absurd (omega (arith, l))
+first_is (y ∷ xs) x l e = ap (λ z. z ∷ xs) (sym e) ∙ ap (λ ys. x ∷ ys) (sym (all_taken xs (length (y ∷ xs) - 1) (omega arith)))
+
+pub none_is : {A : Type 0} (xs : List A) → length xs < 1 → xs ≡ []
+none_is [] l = refl
+none_is (x ∷ xs) l = absurd (omega (arith, l))
+
+rise_lower : (a b : ℕ) (ns : List ℕ) → a ≤ b → Rise b ns → Rise a ns
+rise_lower a b [] l h = tt
+rise_lower a b (n ∷ ns) l h = ((let k = h.0 in omega (arith, l, k)), h.1)
+
+pub rise_from_none : (from : ℕ) (ns : List ℕ) → Rise from ns → Rise 0 ns
+rise_from_none from ns h = rise_lower 0 from ns (omega arith) h
+
+-- the wires of the first unit, and those of the others
+pub own_rise : (unit : LoadUnit) (units : List LoadUnit) → Rise 0 (unit_wires_in (unit ∷ units)) → Rise 0 (unit_wires unit)
+own_rise unit units h = (h.0, (h.1.0, (h.1.1.0, (h.1.1.1.0, tt))))
+
+pub later_rise : (unit : LoadUnit) (units : List LoadUnit) → Rise 0 (unit_wires_in (unit ∷ units)) → Rise 0 (unit_wires_in units)
+later_rise unit units h = rise_lower 0 (suc unit.done) (unit_wires_in units) (omega arith) h.1.1.1.1
+
+apart : (unit : LoadUnit) (units : List LoadUnit) → Rise 0 (unit_wires_in (unit ∷ units)) → (net : ℕ) → Contains (unit_wires_in units) net → Contains (unit_wires unit) net → ⊥
+apart unit units h net c own =
+    let past = above (suc unit.done) (unit_wires_in units) net h.1.1.1.1 c in
+    let l = h.1.0 in
+    let a = h.1.1.0 in
+    let e = h.1.1.1.0 in
+    below own l a e past
+  where
+    below : Contains (unit_wires unit) net → suc unit.port.request ≤ unit.port.last → suc unit.port.last ≤ unit.port.address → suc unit.port.address ≤ unit.done → suc unit.done ≤ net → ⊥
+    below (zero, m, is) l a e p = absurd (omega (arith, is, l, a, e, p))
+    below (suc zero, m, is) l a e p = absurd (omega (arith, is, l, a, e, p))
+    below (suc (suc zero), m, is) l a e p = absurd (omega (arith, is, l, a, e, p))
+    below (suc (suc (suc zero)), m, is) l a e p = absurd (omega (arith, is, l, a, e, p))
+    below (suc (suc (suc (suc k))), m, is) l a e p = absurd (omega (arith, m))
+
+-- those that come later still stand
+pub later_stand : (a b : Draft) (core : PlainCore) (unit : LoadUnit) (units : List LoadUnit) → Fills a b (unit_wires unit) → Rise 0 (unit_wires_in (unit ∷ units)) → All (UnitStandsAlone a core) units → All (UnitStandsAlone b core) units
+later_stand a b core unit units f rise h = each units (λ net c own. apart unit units rise net c own) h
+  where
+    each : (us : List LoadUnit) → ((net : ℕ) → Contains (unit_wires_in us) net → Contains (unit_wires unit) net → ⊥) → All (UnitStandsAlone a core) us → All (UnitStandsAlone b core) us
+    each [] out g = All-nil (UnitStandsAlone b core)
+    each (u ∷ us) out g =
+        let here = All-head (UnitStandsAlone a core) u us g in
+        All-cons (UnitStandsAlone b core) u us
+        (unit_stays a b core f.grows u.load u (λ net c. f.still_open net (unit_is_open a core u.load u here net c) (out net (Contains-append_left (unit_wires u) (unit_wires_in us) net c))) here)
+        (each us (λ net c. out net (Contains-append_right (unit_wires u) (unit_wires_in us) net c)) (All-tail (UnitStandsAlone a core) u us g))
+
+pub names_later : (a b : Draft) (names : List (Option ℕ)) → Grows a b → StandNumbers a names → StandNumbers b names
+names_later a b names g h = λ net c. HasNet-stays a b net 32 g (h net c)
+
+-- each unit is that of a load, so it is that of its own one
+pub stand_alone : (d : Draft) (core : PlainCore) (loads : List CoreLoad) (units : List LoadUnit) → AllZip (UnitStands d core) loads units → All (UnitStandsAlone d core) units
+stand_alone d core [] [] h = All-nil (UnitStandsAlone d core)
+stand_alone d core [] (u ∷ units) h = absurd h
+stand_alone d core (x ∷ loads) [] h = absurd h
+stand_alone d core (x ∷ loads) (u ∷ units) h = All-cons (UnitStandsAlone d core) u units (subst (λ load. UnitStands d core load u) (sym h.0.load_is) h.0) (stand_alone d core loads units h.1)
+
+-- slices that come later still stand
+span_later : (a b : Draft) (net : SpanNet) → Grows a b → HasEnds a net → HasEnds b net
+span_later a b (One net) g h = HasNet-stays a b net 32 g h
+span_later a b (Range from until) g h = (HasNet-stays a b from 32 g h.0, HasNet-stays a b until 32 g h.1)
+
+pub slices_later : (a b : Draft) (core : PlainCore) (units : List LoadUnit) (slices : List TreeMove) → Grows a b → AreSlicesStanding a core units slices → AreSlicesStanding b core units slices
+slices_later a b core [] [] g h = tt
+slices_later a b core [] (x ∷ slices) g h = absurd h
+slices_later a b core (unit ∷ units) [] g h = absurd h
+slices_later a b core (unit ∷ units) (x ∷ slices) g h = (
+  record { node = h.0.node; start = HasNet-stays a b x.start 1 g h.0.start; each = h.0.each; nets = All-weaker (HasEnds a) (HasEnds b) (λ net s. span_later a b net g s) x.nets.items h.0.nets },
+  slices_later a b core units slices g h.1,
+)
+
+-- there are as many as units
+pub no_slices : (d : Draft) (core : PlainCore) (units : List LoadUnit) (slices : List TreeMove) → units ≡ [] → AreSlicesStanding d core units slices → slices ≡ []
+no_slices d core [] [] e h = refl
+no_slices d core [] (x ∷ slices) e h = absurd h
+no_slices d core (unit ∷ units) slices e h = (let l = ap (λ (us : List LoadUnit). length us) e in absurd (omega (arith, l)))
+
+pub no_units : (d : Draft) (core : PlainCore) (units : List LoadUnit) (slices : List TreeMove) → slices ≡ [] → AreSlicesStanding d core units slices → units ≡ []
+no_units d core [] slices e h = refl
+no_units d core (unit ∷ units) [] e h = absurd h
+no_units d core (unit ∷ units) (x ∷ slices) e h = (let l = ap (λ (xs : List TreeMove). length xs) e in absurd (omega (arith, l)))
+
+pub no_fills : (d : Draft) (units : List LoadUnit) → units ≡ [] → Fills d d (unit_wires_in units)
+no_fills d units e = subst (λ us. Fills d d (unit_wires_in us)) (sym e) (Fills-none d)
+
+module _ (new : Draft) (core : PlainCore) (names : List (Option ℕ)) where
+  no_writes : (before : List AccessNets) → AddsWrites new core names [] [] before before
+  no_writes before = record { added = []; behind = sym (append-nil before); stand = All-nil (WriteStands new core); runs = λ s r. tt }
+
+  pub adds_none : (units : List LoadUnit) (slices : List TreeMove) (before : List AccessNets) → units ≡ [] → slices ≡ [] → AddsWrites new core names units slices before before
+  adds_none units slices before e f = subst (λ us. AddsWrites new core names us slices before before) (sym e) (subst (λ xs. AddsWrites new core names [] xs before before) (sym f) (no_writes before))
+
+  pub adds_more : (mid : Draft) (unit : LoadUnit) (units : List LoadUnit) (slice : TreeMove) (slices : List TreeMove) (a : AccessNets) (before between after : List AccessNets) → Grows mid new → WriteStands mid core a
+      → ((s : Signals) → (r : RunsOn s mid.cells) → LoadRun core r.setting s names unit slice a) → between ≡ before ++ a ∷ [] → AddsWrites new core names units slices between after → AddsWrites new core names (unit ∷ units) (slice ∷ slices) before after
+  adds_more mid unit units slice slices a before between after g stands runs e h = record {
+    added = a ∷ h.added;
+    behind = h.behind ∙ ap (λ xs. xs ++ h.added) e ∙ append_assoc before (a ∷ []) h.added;
+    stand = All-cons (WriteStands new core) a h.added (write_later mid new core a g stands) h.stand;
+    runs = λ s r. (runs s (run_before mid new s g r), h.runs s r);
+  }
+
+  -- where none came before
+  module _ (units : List LoadUnit) (slices : List TreeMove) (before after : List AccessNets) (h : AddsWrites new core names units slices before after) (none : before ≡ []) where
+    all_added : after ≡ h.added
+    all_added = h.behind ∙ ap (λ xs. xs ++ h.added) none
+
+    pub all_stand : All (WriteStands new core) after
+    all_stand = subst (All (WriteStands new core)) (sym all_added) h.stand
+
+    pub all_run : (s : Signals) → (r : RunsOn s new.cells) → AreLoadRuns core r.setting s names units slices after
+    all_run s r = subst (AreLoadRuns core r.setting s names units slices) (sym all_added) (h.runs s r)

@@ -1,0 +1,7 @@
+pub mod Fitting
+pub mod Writing
+pub mod Running
+pub mod Adding
+pub mod Nodes
+pub mod Having
+pub mod Slices

@@ -1,0 +1,67 @@
+//! The write of a load as an access of its memory.
+ghost use Rattle.std.specs.Prelude.{◌≡◌, ◌<◌, true, ◌∷◌, [], ◌++◌, length, None, IfOk};
+ghost use Rattle.sp_core.specs.declared.operation.OpKind.TheVariants.{Write};
+ghost use Rattle.sp_core.specs.CoreParts.{plain_core};
+ghost use Rattle.sp_core.specs.Declarations.{dims};
+ghost use Rattle.sp_access_nets.specs.Accesses.{copy_in};
+
+use sp_access_nets::AccessNets;
+use sp_core::{Core, OpKind};
+use sp_load_units::LoadUnit;
+use sp_netlist::{NetId, NoMemory};
+use sp_xfer::Loaded;
+
+/// The dimensions of the memory of a number.
+fn memory_dims(core: &Core, m: u32) -> &[u32]
+    requires { m < length (plain_core core.now).mems }
+    ensures { result.now ≡ dims (plain_core core.now) m }
+{
+    &core.mems()[m as usize].dims
+}
+
+/// Whether there is an index for each dimension of the memory.
+pub(crate) fn has_each_index(core: &Core, m: u32, loaded: &Loaded) -> bool
+    requires { m < length (plain_core core.now).mems }
+    ensures { result ≡ true → length loaded.now.indices.items ≡ length (dims (plain_core core.now) m) }
+{
+    loaded.indices.len() == memory_dims(core, m).len()
+}
+
+/// The net of the number of the copy on which the operation of a number acts.
+fn copy_net(names: &[Option<NetId>], number: u32) -> Option<NetId>
+    ensures { result ≡ copy_in names.now number }
+{
+    match names.get(number as usize) {
+        Some(net) => *net,
+        None => None,
+    }
+}
+
+/// The write of a load, of the word of its unit.
+pub(crate) fn write_of(
+    unit: &LoadUnit,
+    loaded: Loaded,
+    names: &[Option<NetId>],
+) -> Result<AccessNets, NoMemory>
+    ensures number { IfOk result (λ a. a.number ≡ unit.now.load.number) }
+    ensures mem { IfOk result (λ a. a.mem ≡ unit.now.load.mem) }
+    ensures kind { IfOk result (λ a. a.kind ≡ Write) }
+    ensures enable { IfOk result (λ a. a.enable ≡ loaded.write) }
+    ensures operands { IfOk result (λ a. a.operands.items ≡ loaded.indices.items ++ unit.now.port.word ∷ []) }
+    ensures copy { IfOk result (λ a. a.copy ≡ copy_in names.now unit.now.load.number) }
+    ensures answer { IfOk result (λ a. a.answer ≡ None) }
+{
+    let copy = copy_net(names, unit.load.number);
+    let enable = loaded.write;
+    let mut operands = loaded.indices;
+    operands.push(unit.port.word)?;
+    Ok(AccessNets {
+        number: unit.load.number,
+        kind: OpKind::Write,
+        mem: unit.load.mem,
+        enable,
+        operands,
+        copy,
+        answer: None,
+    })
+}

@@ -1,0 +1,11 @@
+//! Loads of a tree.
+use sp_bound_nets::SpanNet;
+use sp_netlist::NetId;
+
+/// A load in a tree: the number of its node, the net by which it is started, and the nets of the ends of its slice.
+#[derive(Debug, Drop)]
+pub struct TreeMove {
+    pub node: u32,
+    pub start: NetId,
+    pub nets: Vec<SpanNet>,
+}
