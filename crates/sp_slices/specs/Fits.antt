@@ -2,7 +2,7 @@
 use Rattle.std.specs.Prelude.{All}
 use Rattle.sp_netlist.specs.Draft.{Draft}
 use Rattle.sp_gates.specs.Nets.{HasNet}
-use Rattle.sp_counters.specs.Fits.{IsCounter}
+use Rattle.sp_counters.specs.Fits.{CountFits, IsCounter}
 use Rattle.sp_slices.specs.declared.part.Axis.{Axis}
 use Rattle.sp_slices.specs.declared.part.Move.{Move}
 use Rattle.sp_slices.specs.declared.part.Move.TheVariants.{One, Range}
@@ -19,6 +19,7 @@ pub record IsAxis (d : Draft) (a : Axis) : Type 0 where
   pub offset : HasNet d a.offset 32
 
 pub record IsWalk (d : Draft) (walk : Walk) : Type 0 where
+  pub counts : All (CountFits d) walk.counters.counters.items
   pub values : All (IsCounter d) walk.counted.counters.items
   pub more : HasNet d walk.counted.more 1
   pub axes : All (IsAxis d) walk.axes.items

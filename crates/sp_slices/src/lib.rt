@@ -6,9 +6,11 @@ mod addresses;
 mod axes;
 mod counts;
 mod part;
+mod some;
 mod walking;
 mod wide;
 
 pub use addresses::address;
 pub use part::{Axis, Move, Walk};
+pub use some::has_word;
 pub use walking::{range_offsets, walk};

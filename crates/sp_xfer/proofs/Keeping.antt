@@ -16,7 +16,7 @@ use Rattle.sp_slices.specs.declared.part.Move.TheVariants.{One, Range}
 use Rattle.sp_slices.specs.declared.part.Walk.{Walk}
 use Rattle.sp_slices.specs.Fits.{IsAxis, IsWalk}
 use Rattle.sp_slices.specs.Slices.{WalksSlice, offsets_of}
-use Rattle.sp_slices.proofs.Standing.{moves_stay, counters_stay, axes_stay, as_many, one_move_each}
+use Rattle.sp_slices.proofs.Standing.{moves_stay, counters_stay, axes_stay, as_many, one_move_each, counts_stay}
 use Rattle.sp_xfer.specs.declared.part.Load.{Load}
 use Rattle.sp_xfer.specs.declared.part.Moving.{Moving}
 use Rattle.sp_xfer.specs.declared.part.Wires.{Wires}
@@ -67,6 +67,7 @@ slice_stays a b dims moves g h = record { moves_fit = moves_stay a b moves g h.m
 
 pub walk_stays : (a b : Draft) (w : Walk) → Grows a b → IsWalk a w → IsWalk b w
 walk_stays a b w g h = record {
+  counts = counts_stay a b w.counters.counters.items g h.counts;
   values = counters_stay a b w.counted.counters.items g h.values;
   more = HasNet-stays a b w.counted.more 1 g h.more;
   axes = axes_stay a b w.axes.items g h.axes;

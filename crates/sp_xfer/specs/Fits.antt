@@ -54,7 +54,7 @@ pub record StoreFits (d : Draft) (part : Store) : Type 0 where
   pub request_word : part.port.request ≢ part.port.word
   pub last_word : part.port.last ≢ part.port.word
   pub address_word : part.port.address ≢ part.port.word
-  pub word : HasNet d part.word part.width
+  pub found : HasNet d part.found part.width
 
 pub record IsStored (d : Draft) (nets : Stored) : Type 0 where
   pub moving : IsMoving d nets.moving

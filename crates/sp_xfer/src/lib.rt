@@ -6,6 +6,7 @@ mod ahead;
 mod loads;
 mod moving;
 mod part;
+mod reader;
 mod stores;
 
 pub use loads::{emit_load, emit_load_to};

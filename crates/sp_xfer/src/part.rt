@@ -41,15 +41,15 @@ pub struct Loaded {
     pub indices: Vec<NetId>,
 }
 
-/// A store: its start, the nets of its channel's unit, the dimensions of the memory outside, what it takes of each, and a net with
-/// the word that was read, of that width.
+/// A store: its start, the nets of its channel's unit, the dimensions of the memory outside, what it takes of each, and the net of
+/// a reader, of that width, on which a word stands two cycles after it is read.
 #[derive(Debug, Drop)]
 pub struct Store {
     pub start: NetId,
     pub port: StorePort,
     pub dims: Vec<u32>,
     pub moves: Vec<Move>,
-    pub word: NetId,
+    pub found: NetId,
     pub width: u8,
 }
 

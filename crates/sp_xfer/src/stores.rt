@@ -5,6 +5,7 @@ ghost use Rattle.sp_gates.specs.Grows.{Fills};
 ghost use Rattle.sp_gates.specs.Nets.{HasNet};
 ghost use Rattle.sp_gates.specs.Runs.{RunsOn};
 ghost use Rattle.sp_gates.specs.Tested.{is_on};
+ghost use Rattle.sp_counters.specs.Counting.{have_values};
 ghost use Rattle.sp_slices.specs.Fits.{IsWalk};
 ghost use Rattle.sp_xfer.specs.Ahead.{RunsStore};
 ghost use Rattle.sp_xfer.specs.Fits.{IsStored, StoreFits};
@@ -12,30 +13,35 @@ ghost use Rattle.sp_xfer.specs.Fits.{IsStored, StoreFits};
 use crate::ahead::look_all;
 use crate::moving::{after, move_alone};
 use crate::part::{Store, Stored, Wires};
+use crate::reader::read_ahead;
 use sp_gates::{on_both, on_either, on_not, one};
 use sp_netlist::{Builder, NetId, NoMemory};
-use sp_slices::{Walk, walk as walk_through};
+use sp_slices::{Walk, has_word, walk as walk_through};
 use sp_taps::connect;
 use std::alloc::Global;
 
-/// A net that is 1 where a word is read: the first one at the start, and one where a walk goes on and another word is left.
+/// A net that is 1 where a word is read: the first one at the start, where there is one, and one where a walk goes on and another word is
+/// left.
 fn reading(builder: &mut Builder, start: NetId, step: NetId, look: &Walk) -> Result<NetId, NoMemory>
     requires start { HasNet builder.old start 1 }
     requires step { HasNet builder.old step 1 }
     requires look { IsWalk builder.old look.now }
     ensures fills { OnOk result (Fills builder.old builder.new []) }
     ensures net { IfOk result (λ net. HasNet builder.new net 1) }
-    ensures on { IfOk result (λ net. (s : Signals) → RunsOn s builder.new.cells → (t : ℕ) → is_on s net t ≡ (is_on s start t || (is_on s step t && (is_on s look.now.counted.more t && not (is_on s look.now.last t))))) }
+    ensures on { IfOk result (λ net. (s : Signals) → RunsOn s builder.new.cells → (t : ℕ) → is_on s net t ≡ ((is_on s start t && have_values s look.now.counters.counters.items t) || (is_on s step t && (is_on s look.now.counted.more t && not (is_on s look.now.last t))))) }
 {
+    let some = has_word(builder, look)?;
+    let first = on_both(builder, start, some)?;
     let before = on_not(builder, look.last)?;
     let left = on_both(builder, look.counted.more, before)?;
     let goes = on_both(builder, step, left)?;
-    let read = on_either(builder, start, goes)?;
+    let read = on_either(builder, first, goes)?;
     Ok(read)
 }
 
 /// Emits a store. Its slice is taken in the cycle of the start and asked for in the next one. The first word is read on the chip in
-/// the cycle of the start, the second one in the next, and each other one as a word moves. It is done in the cycle after the last
+/// the cycle of the start, the second one in the next, and each other one as a word moves; what is read stands two cycles later on the
+/// net of a reader. It is done in the cycle after the last
 /// word moved; without a word it is done two cycles after the start.
 pub fn emit_store(alloc: Global, builder: &mut Builder, part: &Store) -> Result<Stored, NoMemory>
     requires { StoreFits builder.old part.now }
@@ -57,7 +63,9 @@ pub fn emit_store(alloc: Global, builder: &mut Builder, part: &Store) -> Result<
     let look = walk_through(alloc, builder, part.start, step, &part.moves)?;
     let read = reading(builder, part.start, step, &look)?;
     let ahead = look_all(alloc, builder, part.start, &part.moves, &look.axes, always)?;
-    connect(builder, part.port.word, part.width, part.word, always)?;
+    let goes = on_either(builder, part.start, step)?;
+    let word = read_ahead(builder, part.width, goes, part.found, always)?;
+    connect(builder, part.port.word, part.width, word, always)?;
     Ok(Stored {
         moving,
         step,

@@ -33,6 +33,7 @@ returns-clause-fills c = Fills-join _ _ _ [] _ c.in_ok-always.ensures.fills (Fil
 
 pub returns-clause-nets : goal.returns-clause-nets
 returns-clause-nets c = record {
+  counts = counts_stay _ _ _ c.in_ok-followed.ensures.fills.grows (counts_stay _ _ _ c.in_ok-counted.ensures.fills.grows c.in_ok-counts.ensures.fit);
   values = counters_stay _ _ _ c.in_ok-followed.ensures.fills.grows c.in_ok-counted.ensures.nets.values;
   more = HasNet-stays _ _ _ _ c.in_ok-followed.ensures.fills.grows c.in_ok-counted.ensures.nets.more;
   axes = c.in_ok-followed.ensures.nets;

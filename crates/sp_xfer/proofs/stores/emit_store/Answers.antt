@@ -8,6 +8,7 @@ use Rattle.sp_slices.proofs.Standing.{moves_stay, axes_stay}
 use Rattle.sp_xfer.specs.Fits.{SliceFits}
 use Rattle.sp_xfer.specs.Moving.{MovesSlice}
 use Rattle.sp_xfer.specs.Ahead.{store_wires_of, look_offsets}
+use Rattle.sp_xfer.proofs.Reading.{connected}
 use Rattle.sp_xfer.proofs.Keeping.{wires_kept, wire_kept, wire_past, slice_stays, moving_stays, walk_stays, nets_stay}
 use Rattle.sp_xfer.proofs.stores.emit_store.Goals as goal
 
@@ -48,30 +49,41 @@ look_all-requires-clause-axes c = subst (All (IsAxis c.reading.new.builder)) (sy
 pub look_all-requires-clause-one : goal.look_all-requires-clause-one
 look_all-requires-clause-one c = IsOne-stays _ _ _ c.in_ok-read.ensures.fills.grows (IsOne-stays _ _ _ c.in_ok-look.ensures.fills.grows (IsOne-stays _ _ _ c.in_ok-step.ensures.fills.grows (IsOne-stays _ _ _ c.in_ok-begun.ensures.fills.grows (IsOne-stays _ _ _ c.in_ok-moving.ensures.fills.grows (c.in_ok-always.ensures.one)))))
 
-pub connect-requires-clause-net : goal.connect-requires-clause-net
-connect-requires-clause-net c = wire_kept _ _ _ c.args.part.now.width c.in_ok-ahead.ensures.fills (wire_kept _ _ _ c.args.part.now.width c.in_ok-read.ensures.fills (wire_kept _ _ _ c.args.part.now.width c.in_ok-look.ensures.fills (wire_kept _ _ _ c.args.part.now.width c.in_ok-step.ensures.fills (wire_kept _ _ _ c.args.part.now.width c.in_ok-begun.ensures.fills (wire_past _ _ _ _ _ _ c.args.part.now.width c.in_ok-moving.ensures.fills c.requires.request_word c.requires.last_word c.requires.address_word (wire_kept _ _ _ c.args.part.now.width c.in_ok-always.ensures.fills (c.requires.word_wire)))))))
+pub on_either-requires-2-clause-left : goal.on_either-requires-2-clause-left
+on_either-requires-2-clause-left c = HasNet-stays _ _ _ _ c.in_ok-ahead.ensures.fills.grows (HasNet-stays _ _ _ _ c.in_ok-read.ensures.fills.grows (HasNet-stays _ _ _ _ c.in_ok-look.ensures.fills.grows (HasNet-stays _ _ _ _ c.in_ok-step.ensures.fills.grows (HasNet-stays _ _ _ _ c.in_ok-begun.ensures.fills.grows (HasNet-stays _ _ _ _ c.in_ok-moving.ensures.fills.grows (HasNet-stays _ _ _ _ c.in_ok-always.ensures.fills.grows (c.requires.wires.start)))))))
 
-pub connect-requires-clause-from : goal.connect-requires-clause-from
-connect-requires-clause-from c = HasNet-stays _ _ _ _ c.in_ok-ahead.ensures.fills.grows (HasNet-stays _ _ _ _ c.in_ok-read.ensures.fills.grows (HasNet-stays _ _ _ _ c.in_ok-look.ensures.fills.grows (HasNet-stays _ _ _ _ c.in_ok-step.ensures.fills.grows (HasNet-stays _ _ _ _ c.in_ok-begun.ensures.fills.grows (HasNet-stays _ _ _ _ c.in_ok-moving.ensures.fills.grows (HasNet-stays _ _ _ _ c.in_ok-always.ensures.fills.grows (c.requires.word)))))))
+pub on_either-requires-2-clause-right : goal.on_either-requires-2-clause-right
+on_either-requires-2-clause-right c = HasNet-stays _ _ _ _ c.in_ok-ahead.ensures.fills.grows (HasNet-stays _ _ _ _ c.in_ok-read.ensures.fills.grows (HasNet-stays _ _ _ _ c.in_ok-look.ensures.fills.grows (c.in_ok-step.ensures.net)))
+
+pub read_ahead-requires-clause-found : goal.read_ahead-requires-clause-found
+read_ahead-requires-clause-found c = HasNet-stays _ _ _ _ c.in_ok-goes.ensures.fills.grows (HasNet-stays _ _ _ _ c.in_ok-ahead.ensures.fills.grows (HasNet-stays _ _ _ _ c.in_ok-read.ensures.fills.grows (HasNet-stays _ _ _ _ c.in_ok-look.ensures.fills.grows (HasNet-stays _ _ _ _ c.in_ok-step.ensures.fills.grows (HasNet-stays _ _ _ _ c.in_ok-begun.ensures.fills.grows (HasNet-stays _ _ _ _ c.in_ok-moving.ensures.fills.grows (HasNet-stays _ _ _ _ c.in_ok-always.ensures.fills.grows (c.requires.found))))))))
+
+pub read_ahead-requires-clause-one : goal.read_ahead-requires-clause-one
+read_ahead-requires-clause-one c = IsOne-stays _ _ _ c.in_ok-goes.ensures.fills.grows (IsOne-stays _ _ _ c.in_ok-ahead.ensures.fills.grows (IsOne-stays _ _ _ c.in_ok-read.ensures.fills.grows (IsOne-stays _ _ _ c.in_ok-look.ensures.fills.grows (IsOne-stays _ _ _ c.in_ok-step.ensures.fills.grows (IsOne-stays _ _ _ c.in_ok-begun.ensures.fills.grows (IsOne-stays _ _ _ c.in_ok-moving.ensures.fills.grows (c.in_ok-always.ensures.one)))))))
+
+pub connect-requires-clause-net : goal.connect-requires-clause-net
+connect-requires-clause-net c = wire_kept _ _ _ c.args.part.now.width c.in_ok-word.ensures.fills (wire_kept _ _ _ c.args.part.now.width c.in_ok-goes.ensures.fills (wire_kept _ _ _ c.args.part.now.width c.in_ok-ahead.ensures.fills (wire_kept _ _ _ c.args.part.now.width c.in_ok-read.ensures.fills (wire_kept _ _ _ c.args.part.now.width c.in_ok-look.ensures.fills (wire_kept _ _ _ c.args.part.now.width c.in_ok-step.ensures.fills (wire_kept _ _ _ c.args.part.now.width c.in_ok-begun.ensures.fills (wire_past _ _ _ _ _ _ c.args.part.now.width c.in_ok-moving.ensures.fills c.requires.request_word c.requires.last_word c.requires.address_word (wire_kept _ _ _ c.args.part.now.width c.in_ok-always.ensures.fills c.requires.word_wire))))))))
 
 pub connect-requires-clause-one : goal.connect-requires-clause-one
-connect-requires-clause-one c = IsOne-stays _ _ _ c.in_ok-ahead.ensures.fills.grows (IsOne-stays _ _ _ c.in_ok-read.ensures.fills.grows (IsOne-stays _ _ _ c.in_ok-look.ensures.fills.grows (IsOne-stays _ _ _ c.in_ok-step.ensures.fills.grows (IsOne-stays _ _ _ c.in_ok-begun.ensures.fills.grows (IsOne-stays _ _ _ c.in_ok-moving.ensures.fills.grows (c.in_ok-always.ensures.one))))))
+connect-requires-clause-one c = IsOne-stays _ _ _ c.in_ok-word.ensures.fills.grows (IsOne-stays _ _ _ c.in_ok-goes.ensures.fills.grows (IsOne-stays _ _ _ c.in_ok-ahead.ensures.fills.grows (IsOne-stays _ _ _ c.in_ok-read.ensures.fills.grows (IsOne-stays _ _ _ c.in_ok-look.ensures.fills.grows (IsOne-stays _ _ _ c.in_ok-step.ensures.fills.grows (IsOne-stays _ _ _ c.in_ok-begun.ensures.fills.grows (IsOne-stays _ _ _ c.in_ok-moving.ensures.fills.grows (c.in_ok-always.ensures.one))))))))
 
 pub returns-clause-fills : goal.returns-clause-fills
-returns-clause-fills c = Fills-join _ _ _ [] _ c.in_ok-always.ensures.fills (Fills-join _ _ _ (c.args.part.now.port.request ∷ c.args.part.now.port.last ∷ c.args.part.now.port.address ∷ []) _ c.in_ok-moving.ensures.fills (Fills-join _ _ _ [] _ c.in_ok-begun.ensures.fills (Fills-join _ _ _ [] _ c.in_ok-step.ensures.fills (Fills-join _ _ _ [] _ c.in_ok-look.ensures.fills (Fills-join _ _ _ [] _ c.in_ok-read.ensures.fills (Fills-join _ _ _ [] _ c.in_ok-ahead.ensures.fills (c.in_ok-connect.ensures.fills)))))))
+returns-clause-fills c = Fills-join _ _ _ [] _ c.in_ok-always.ensures.fills (Fills-join _ _ _ (c.args.part.now.port.request ∷ c.args.part.now.port.last ∷ c.args.part.now.port.address ∷ []) _ c.in_ok-moving.ensures.fills (Fills-join _ _ _ [] _ c.in_ok-begun.ensures.fills (Fills-join _ _ _ [] _ c.in_ok-step.ensures.fills (Fills-join _ _ _ [] _ c.in_ok-look.ensures.fills (Fills-join _ _ _ [] _ c.in_ok-read.ensures.fills (Fills-join _ _ _ [] _ c.in_ok-ahead.ensures.fills (Fills-join _ _ _ [] _ c.in_ok-goes.ensures.fills (Fills-join _ _ _ [] _ c.in_ok-word.ensures.fills c.in_ok-connect.ensures.fills))))))))
 
 pub returns-clause-nets : goal.returns-clause-nets
 returns-clause-nets c = record {
-  moving = moving_stays _ _ _ c.in_ok-connect.ensures.fills.grows (moving_stays _ _ _ c.in_ok-ahead.ensures.fills.grows (moving_stays _ _ _ c.in_ok-read.ensures.fills.grows (moving_stays _ _ _ c.in_ok-look.ensures.fills.grows (moving_stays _ _ _ c.in_ok-step.ensures.fills.grows (moving_stays _ _ _ c.in_ok-begun.ensures.fills.grows (c.in_ok-moving.ensures.nets))))));
-  look = walk_stays _ _ _ c.in_ok-connect.ensures.fills.grows (walk_stays _ _ _ c.in_ok-ahead.ensures.fills.grows (walk_stays _ _ _ c.in_ok-read.ensures.fills.grows (c.in_ok-look.ensures.nets)));
-  step = HasNet-stays _ _ _ _ c.in_ok-connect.ensures.fills.grows (HasNet-stays _ _ _ _ c.in_ok-ahead.ensures.fills.grows (HasNet-stays _ _ _ _ c.in_ok-read.ensures.fills.grows (HasNet-stays _ _ _ _ c.in_ok-look.ensures.fills.grows (c.in_ok-step.ensures.net))));
-  read = HasNet-stays _ _ _ _ c.in_ok-connect.ensures.fills.grows (HasNet-stays _ _ _ _ c.in_ok-ahead.ensures.fills.grows (c.in_ok-read.ensures.net));
-  indices = nets_stay _ _ _ c.in_ok-connect.ensures.fills.grows c.in_ok-ahead.ensures.nets;
+  moving = moving_stays _ _ _ c.in_ok-connect.ensures.fills.grows (moving_stays _ _ _ c.in_ok-word.ensures.fills.grows (moving_stays _ _ _ c.in_ok-goes.ensures.fills.grows (moving_stays _ _ _ c.in_ok-ahead.ensures.fills.grows (moving_stays _ _ _ c.in_ok-read.ensures.fills.grows (moving_stays _ _ _ c.in_ok-look.ensures.fills.grows (moving_stays _ _ _ c.in_ok-step.ensures.fills.grows (moving_stays _ _ _ c.in_ok-begun.ensures.fills.grows (c.in_ok-moving.ensures.nets))))))));
+  look = walk_stays _ _ _ c.in_ok-connect.ensures.fills.grows (walk_stays _ _ _ c.in_ok-word.ensures.fills.grows (walk_stays _ _ _ c.in_ok-goes.ensures.fills.grows (walk_stays _ _ _ c.in_ok-ahead.ensures.fills.grows (walk_stays _ _ _ c.in_ok-read.ensures.fills.grows (c.in_ok-look.ensures.nets)))));
+  step = HasNet-stays _ _ _ _ c.in_ok-connect.ensures.fills.grows (HasNet-stays _ _ _ _ c.in_ok-word.ensures.fills.grows (HasNet-stays _ _ _ _ c.in_ok-goes.ensures.fills.grows (HasNet-stays _ _ _ _ c.in_ok-ahead.ensures.fills.grows (HasNet-stays _ _ _ _ c.in_ok-read.ensures.fills.grows (HasNet-stays _ _ _ _ c.in_ok-look.ensures.fills.grows (c.in_ok-step.ensures.net))))));
+  read = HasNet-stays _ _ _ _ c.in_ok-connect.ensures.fills.grows (HasNet-stays _ _ _ _ c.in_ok-word.ensures.fills.grows (HasNet-stays _ _ _ _ c.in_ok-goes.ensures.fills.grows (HasNet-stays _ _ _ _ c.in_ok-ahead.ensures.fills.grows (c.in_ok-read.ensures.net))));
+  indices = nets_stay _ _ _ c.in_ok-connect.ensures.fills.grows (nets_stay _ _ _ c.in_ok-word.ensures.fills.grows (nets_stay _ _ _ c.in_ok-goes.ensures.fills.grows c.in_ok-ahead.ensures.nets));
 }
 
 pub returns-clause-runs : goal.returns-clause-runs
 returns-clause-runs c = λ s r.
-    let r_ahead = runs_earlier _ _ s c.in_ok-connect.ensures.fills.grows r in
+    let r_word = runs_earlier _ _ s c.in_ok-connect.ensures.fills.grows r in
+    let r_goes = runs_earlier _ _ s c.in_ok-word.ensures.fills.grows r_word in
+    let r_ahead = runs_earlier _ _ s c.in_ok-goes.ensures.fills.grows r_goes in
     let r_read = runs_earlier _ _ s c.in_ok-ahead.ensures.fills.grows r_ahead in
     let r_look = runs_earlier _ _ s c.in_ok-read.ensures.fills.grows r_read in
     let r_step = runs_earlier _ _ s c.in_ok-look.ensures.fills.grows r_look in
@@ -84,5 +96,5 @@ returns-clause-runs c = λ s r.
       looks = subst (λ ms. WalksSlice s c.args.part.now.start c.in_ok-step.step ms c.in_ok-look.look) c.deref-3.ensures.value (c.in_ok-look.ensures.walks s r_look);
       reads = c.in_ok-read.ensures.on s r_read;
       indices = λ t. c.in_ok-ahead.ensures.words s r_ahead t ∙ ap₂ (λ ms xs. look_offsets s c.args.part.now.start ms xs t) c.deref-4.ensures.value c.deref-5.ensures.value;
-      word = c.in_ok-connect.ensures.word s r;
+      ahead = connected s _ _ _ _ (c.in_ok-goes.ensures.on s r_goes) (c.in_ok-connect.ensures.word s r) (c.in_ok-word.ensures.reads s r_word);
     }
