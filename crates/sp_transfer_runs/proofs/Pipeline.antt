@@ -5,8 +5,8 @@ use Rattle.sp_netlist.specs.Signals.{Signals}
 use Rattle.sp_gates.specs.Tested.{is_on}
 use Rattle.sp_machine.specs.Transfers.{word_cycle, look_cycle}
 use Rattle.sp_part_runs.specs.BodiesRuns.{IsOnAt}
+use Rattle.sp_xfer.specs.Ahead.{ReadsAhead}
 use Rattle.sp_xfer.specs.Moving.{was}
-use Rattle.sp_transfer_runs.specs.Stores.{ReadsAhead}
 use Rattle.sp_transfer_runs.proofs.Cycles.{word_within}
 use Rattle.sp_transfer_runs.proofs.Looks.{looks_rise}
 use Rattle.sp_transfer_runs.proofs.Moved.{or_right, or_left_off}
@@ -80,12 +80,12 @@ module _ {R : Type 0} (cycle num : R → ℕ) (delay : R → ℕ → ℕ) (runs 
       ∙ steps (suc u) ∙ or_left_off (is_on s start u) (is_on s ready (suc u)) (still u (omega (arith, a, first)) (omega (arith, m)) (omega (arith, k)))
       ∙ not_ready (suc j) (suc u) a b m k
 
-  pub comes : (found word : ℕ) (asked : ℕ → ℕ) → ReadsAhead s goes found word asked → (j : ℕ) → j < num r → cycle r + word_cycle (delay r) j ≤ upto → s.net (cycle r + word_cycle (delay r) j) word ≡ asked (look j)
-  comes found word asked h j x l =
+  pub comes : (found word : ℕ) → ReadsAhead s goes found word → (j : ℕ) → j < num r → cycle r + word_cycle (delay r) j ≤ upto → s.net (cycle r + word_cycle (delay r) j) word ≡ s.net (suc (suc (look j))) found
+  comes found word h j x l =
       let w = word_within (delay r) j (num r) x in
       let a = looks_rise (delay r) j (suc j) (omega arith) in
       let b = looks_rise (delay r) (suc j) (suc (suc j)) (omega arith) in
-      stands_until (λ t. s.net t word) (λ t. s.net t found) goes h.second (look (suc j)) (look (suc (suc j))) (omega (arith, b)) (goes_at (suc j) (omega (arith, x)) (omega (arith, x)) (omega (arith, b, l)))
+      stands_until (λ t. s.net t word) h.next goes h.second (look (suc j)) (look (suc (suc j))) (omega (arith, b)) (goes_at (suc j) (omega (arith, x)) (omega (arith, x)) (omega (arith, b, l)))
       (λ t y z. quiet_between (suc j) t y z (omega (arith, z, w)) (omega (arith, z, l)))
-      ∙ stands_until (λ t. s.net t found) asked goes h.first (look j) (look (suc j)) (omega (arith, a)) (goes_at j (omega (arith, x)) (omega (arith, x)) (omega (arith, a, b, l)))
+      ∙ stands_until h.next (λ t. s.net (suc (suc t)) found) goes h.first (look j) (look (suc j)) (omega (arith, a)) (goes_at j (omega (arith, x)) (omega (arith, x)) (omega (arith, a, b, l)))
       (λ t y z. quiet_between j t y z (omega (arith, z, b, w)) (omega (arith, z, b, l)))

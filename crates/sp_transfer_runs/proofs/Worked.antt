@@ -14,7 +14,7 @@ use Rattle.sp_slices.specs.declared.part.Move.TheVariants.{Range}
 use Rattle.sp_slices.specs.Slices.{CountMoves, no_move, one_move, FollowAxes, no_axis, one_axis, all_ended, values_at, offsets_of, WalksSlice}
 use Rattle.sp_xfer.specs.Ahead.{RunsStore, look_offsets}
 use Rattle.sp_xfer.specs.Moving.{MovesSlice, RunsLoad, was, words_at}
-use Rattle.sp_transfer_runs.specs.Worked.{waves, HaveWalk, walk_of, moving_of, load_of, store_of, stored_of, WorkedTransfers}
+use Rattle.sp_transfer_runs.specs.Worked.{wave_at, waves, HaveWalk, walk_of, moving_of, load_of, store_of, stored_of, WorkedTransfers}
 
 -- the first cycles, and all others
 cycles : (P : ℕ → Type 0) → P 0 → P 1 → P 2 → P 3 → P 4 → P 5 → P 6 → P 7 → ((t : ℕ) → P (suc (suc (suc (suc (suc (suc (suc (suc t))))))))) → (t : ℕ) → P t
@@ -145,6 +145,14 @@ loads dims moves counts counters masks axes indices d e h i = record {
   indices = subst₂ (λ is os. (t : ℕ) → words_at waves (suc t) is ≡ words_at waves t os) (sym i) (subst₂ (λ ms xs. 9 ∷ [] ≡ offsets_of ms xs) (sym e) (sym h.axes_are) refl) (cycles _ refl refl refl refl refl refl refl refl (λ t. refl));
 }
 
+reads_ahead : (t : ℕ) → is_on waves 18 t ≡ ((is_on waves 0 t && have_values waves (the_count ∷ []) t) || (is_on waves 13 t && (is_on waves 17 t && not (is_on waves 15 t))))
+unfolding wrap value_of has_sign modulo
+reads_ahead = cycles _ refl refl refl refl refl refl refl refl (λ t. refl)
+
+-- the word that was asked for last, which comes two cycles later
+abbrev next : (cycle : ℕ) → ℕ
+next t = wave_at (record { first = 0 ∷ 10 ∷ 11 ∷ 11 ∷ []; others = 0 }) t
+
 stores : (dims : Vec ℕ) (moves : Vec Move) (counts : Vec Count) (counters : Vec Counter) (masks : Vec ℕ) (axes : Vec Axis) (counts' : Vec Count) (counters' : Vec Counter) (masks' : Vec ℕ) (axes' : Vec Axis) (indices : Vec ℕ) → dims.items ≡ 4 ∷ [] → moves.items ≡ Range 5 6 ∷ []
     → HaveWalk 4 3 9 counts counters masks axes → HaveWalk 14 15 16 counts' counters' masks' axes' → indices.items ≡ 19 ∷ []
     → RunsStore waves (store_of dims moves) (stored_of (moving_of counts counters masks axes) counts' counters' masks' axes' indices)
@@ -152,19 +160,16 @@ stores dims moves counts counters masks axes counts' counters' masks' axes' indi
   moves = slice_moves dims.items moves.items counts counters masks axes d e h;
   steps = cycles _ refl refl refl refl refl refl refl refl (λ t. refl);
   looks = walks 13 17 15 14 15 16 moves.items counts' counters' masks' axes' e h' walk_ahead refl;
-  reads = cycles _ refl refl refl refl refl refl refl refl (λ t. refl);
+  reads = subst (λ cs. (t : ℕ) → is_on waves 18 t ≡ ((is_on waves 0 t && have_values waves cs t) || (is_on waves 13 t && (is_on waves 17 t && not (is_on waves 15 t))))) (sym h'.counts_are) reads_ahead;
   indices = subst (λ is. (t : ℕ) → words_at waves t is ≡ look_offsets waves 0 moves.items axes'.items t) (sym i) (subst₂ (λ ms xs. (t : ℕ) → words_at waves t (19 ∷ []) ≡ look_offsets waves 0 ms xs t) (sym e) (sym h'.axes_are) one_ahead);
-  word = λ t. refl;
+  ahead = record { next = next; first = cycles _ refl refl refl refl refl refl refl refl (λ t. refl); second = cycles _ refl refl refl refl refl refl refl refl (λ t. refl) };
 }
 
 pub worked_transfers : WorkedTransfers
 unfolding value_of has_sign wrap modulo word_add
 worked_transfers = record {
   loads = loads;
-  stores = λ dims moves counts counters masks axes counts' counters' masks' axes' indices d e h h' i. (
-    stores dims moves counts counters masks axes counts' counters' masks' axes' indices d e h h' i,
-    record { first = cycles _ refl refl refl refl refl refl refl refl (λ t. refl); second = cycles _ refl refl refl refl refl refl refl refl (λ t. refl) },
-  );
+  stores = stores;
   spans = (refl, refl, tt);
   slice = record { fits = ((lit< tt, lit< tt), tt); some = lit≤ tt; few = lit< tt; inside = λ e. refl };
   groups = refl;

@@ -63,7 +63,7 @@ store_fits a d first start from until word port part h row w f ready s x y z = r
   request_word = rw h.port_is (let i = row.request in let k = row.word in λ e. absurd (omega (arith, i, k, e)));
   last_word = rw h.port_is (let i = row.last in let k = row.word in λ e. absurd (omega (arith, i, k, e)));
   address_word = rw h.port_is (let i = row.address in let k = row.word in λ e. absurd (omega (arith, i, k, e)));
-  word = rw (h.width_is, h.word_is) z;
+  found = rw (h.width_is, h.found_is) z;
 }
   where
     wires_are : store_wires_of part ≡ record { start = start; ready = port.ready; request = port.request; last = port.last; address = port.address }

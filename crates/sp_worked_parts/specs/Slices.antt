@@ -17,12 +17,12 @@ pub record IsLoad (start : ℕ) (port : LoadPort) (from until : ℕ) (part : Loa
   pub dims_are : part.dims.items ≡ 24 ∷ []
   pub moves_are : part.moves.items ≡ Move.Range from until ∷ []
 
-pub record IsStore (start : ℕ) (port : StorePort) (from until word : ℕ) (part : Store) : Type 0 where
+pub record IsStore (start : ℕ) (port : StorePort) (from until found : ℕ) (part : Store) : Type 0 where
   pub start_is : part.start ≡ start
   pub port_is : part.port ≡ port
   pub dims_are : part.dims.items ≡ 24 ∷ []
   pub moves_are : part.moves.items ≡ Move.Range from until ∷ []
-  pub word_is : part.word ≡ word
+  pub found_is : part.found ≡ found
   pub width_is : part.width ≡ 32
 
 -- the nets of both
@@ -34,5 +34,4 @@ pub record LoadSeen (d : Draft) (seen : Loading) : Type 0 where
 pub record StoreSeen (d : Draft) (seen : Saving) : Type 0 where
   pub read_net : HasNet d seen.read 1
   pub index_net : HasNet d seen.index 32
-  pub step_net : HasNet d seen.step 1
   pub done_net : HasNet d seen.done 1

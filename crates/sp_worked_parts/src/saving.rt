@@ -12,7 +12,7 @@ use crate::machine::begin;
 use crate::outputs::{output, second_output};
 use crate::slices::{dram, first_of, range, size};
 use sp_channels::{StorePort, add_store};
-use sp_gates::{constant, drive, hold, on_either, one};
+use sp_gates::{constant, drive, hold, one};
 use sp_netlist::{Builder, Cell, NetId, Netlist, NoMemory};
 use sp_xfer::{Store, Stored, emit_store};
 use std::alloc::Global;
@@ -23,9 +23,9 @@ fn store(
     port: StorePort,
     from: NetId,
     until: NetId,
-    word: NetId,
+    found: NetId,
 ) -> Result<Store, NoMemory>
-    ensures { IfOk result (IsStore start port from until word) }
+    ensures { IfOk result (IsStore start port from until found) }
 {
     let dims = size(alloc)?;
     let moves = range(alloc, from, until)?;
@@ -34,39 +34,29 @@ fn store(
         port,
         dims,
         moves,
-        word,
+        found,
         width: 32,
     })
 }
 
-/// Drives the word that was read at an index, which is 10 and the index: there are two registers on its way, which go on where
-/// the store is started and where its walk does.
-fn reader(
-    builder: &mut Builder,
-    z: NetId,
-    index: NetId,
-    start: NetId,
-    step: NetId,
-) -> Result<(), NoMemory>
+/// Drives the word that was read at an index two cycles before, which is 10 and the index. `one` is always 1.
+fn reader(builder: &mut Builder, z: NetId, index: NetId, one: NetId) -> Result<(), NoMemory>
     requires z { Awaits builder.old z 32 }
     requires index { HasNet builder.old index 32 }
-    requires start { HasNet builder.old start 1 }
-    requires step { HasNet builder.old step 1 }
+    requires one { HasNet builder.old one 1 }
     ensures fills { OnOk result (Fills builder.old builder.new (z ∷ [])) }
 {
-    let goes = on_either(builder, start, step)?;
     let found = plus(builder, index, 10)?;
-    let tap = hold(builder, 32, 0, found, goes)?;
-    drive(builder, z, 32, 0, tap, goes)?;
+    let tap = hold(builder, 32, 0, found, one)?;
+    drive(builder, z, 32, 0, tap, one)?;
     Ok(())
 }
 
-/// Where a word is read on the chip, at which index, where its registers go on, and where the store is done.
+/// Where a word is read on the chip, at which index, and where the store is done.
 #[derive(Clone, Copy)]
 struct Seen {
     read: NetId,
     index: NetId,
-    step: NetId,
     done: NetId,
 }
 
@@ -77,12 +67,12 @@ fn look(nets: &Stored, other: NetId) -> Seen
     Seen {
         read: nets.read,
         index,
-        step: nets.step,
         done: nets.moving.done,
     }
 }
 
-/// The store, which is started in cycle 0. Where a word is read, `y` takes its index as a digit; `z` is the word that was read.
+/// The store, which is started in cycle 0. Where a word is read, `y` takes its index as a digit; `z` is the word that was read two
+/// cycles before.
 fn emit(
     alloc: Global,
     builder: &mut Builder,
@@ -110,12 +100,12 @@ fn emit(
     let stored = emit_store(alloc, builder, &part)?;
     let nets = look(&stored, first);
     collect(builder, y, nets.index, nets.read)?;
-    reader(builder, z, nets.index, start, nets.step)?;
+    reader(builder, z, nets.index, always)?;
     Ok(nets.done)
 }
 
 /// A store to the words from one index up to another one as a netlist, which is done where the store is. Word k of the slice is
-/// 10 + k, and the digits of its output `y` are the indices that were read on the chip; `z` is the word that is to move.
+/// 10 + k, and the digits of its output `y` are the indices that were read on the chip; `z` has the words that were read.
 pub fn worked_save(alloc: Global, from: u32, until: u32) -> Result<Netlist, NoMemory> {
     let mut builder = Builder::new(alloc);
     let y = output(alloc, &mut builder)?;

@@ -38,11 +38,8 @@ reader-requires-clause-z c =
 pub reader-requires-clause-index : goal.reader-requires-clause-index
 reader-requires-clause-index c = HasNet-stays _ _ _ _ c.in_ok-collect.ensures.fills.grows ((c.look-nets.ensures c.emit_store.new.builder c.in_ok-stored.ensures.nets (HasNet-stays _ _ _ _ c.in_ok-stored.ensures.fills.grows (HasNet-stays _ _ _ _ c.in_ok-past.ensures.fills.grows (c.in_ok-first.ensures.net)))).index_net)
 
-pub reader-requires-clause-start : goal.reader-requires-clause-start
-reader-requires-clause-start c = HasNet-stays _ _ _ _ c.in_ok-collect.ensures.fills.grows (HasNet-stays _ _ _ _ c.in_ok-stored.ensures.fills.grows (HasNet-stays _ _ _ _ c.in_ok-past.ensures.fills.grows (HasNet-stays _ _ _ _ c.in_ok-first.ensures.fills.grows (c.in_ok-start.ensures.net))))
-
-pub reader-requires-clause-step : goal.reader-requires-clause-step
-reader-requires-clause-step c = HasNet-stays _ _ _ _ c.in_ok-collect.ensures.fills.grows ((c.look-nets.ensures c.emit_store.new.builder c.in_ok-stored.ensures.nets (HasNet-stays _ _ _ _ c.in_ok-stored.ensures.fills.grows (HasNet-stays _ _ _ _ c.in_ok-past.ensures.fills.grows (c.in_ok-first.ensures.net)))).step_net)
+pub reader-requires-clause-one : goal.reader-requires-clause-one
+reader-requires-clause-one c = HasNet-stays _ _ _ _ c.in_ok-collect.ensures.fills.grows (HasNet-stays _ _ _ _ c.in_ok-stored.ensures.fills.grows (HasNet-stays _ _ _ _ c.in_ok-past.ensures.fills.grows (HasNet-stays _ _ _ _ c.in_ok-first.ensures.fills.grows (HasNet-stays _ _ _ _ c.in_ok-start.ensures.fills.grows c.in_ok-always.ensures.one.net_stands))))
 
 pub returns-clause-fills : goal.returns-clause-fills
 returns-clause-fills c = unit_driven c.args.builder.now c.add_store.new.builder c.constant-2.new.builder c.emit_store.new.builder c.reader.new.builder (store_wires c.in_ok-port.port) (c.args.y ∷ c.args.z ∷ []) c.in_ok-port.ensures.promises (Fills-join _ _ _ [] [] c.in_ok-always.ensures.fills (Fills-join _ _ _ [] [] c.in_ok-start.ensures.fills (Fills-join _ _ _ [] [] c.in_ok-first.ensures.fills c.in_ok-past.ensures.fills)))

@@ -6,6 +6,5 @@ pub returns : goal.returns
 returns c = λ d h other. record {
   read_net = h.read;
   index_net = c.first_of-index.ensures d (subst (All (λ net. HasNet d net 32)) (sym c.deref.ensures.value) h.indices) other;
-  step_net = h.step;
   done_net = h.moving.done;
 }
