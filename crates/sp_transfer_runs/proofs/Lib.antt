@@ -12,6 +12,7 @@ pub mod Loads
 pub mod Looks
 pub mod Moved
 pub mod Moving
+pub mod MovingStores
 pub mod Numbers
 pub mod Parts
 pub mod Passing

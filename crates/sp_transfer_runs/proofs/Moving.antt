@@ -19,9 +19,13 @@ use Rattle.sp_transfer_runs.specs.Loads.{LoadGoes, LoadsWork}
 use Rattle.sp_transfer_runs.specs.Runs.{taken_in, total_of, Moves}
 use Rattle.sp_transfer_runs.specs.Moving.{HasLoad, LoadRuns, LoadsMove}
 
-same_taken : (delays : Delays) (k : ℕ) (took other : ℕ → ℕ) → ((i : ℕ) → took i ≡ other i) → (asked : ℕ) (runs : List Placed) → AreTaken delays k took asked runs → AreTaken delays k other asked runs
+pub same_taken : (delays : Delays) (k : ℕ) (took other : ℕ → ℕ) → ((i : ℕ) → took i ≡ other i) → (asked : ℕ) (runs : List Placed) → AreTaken delays k took asked runs → AreTaken delays k other asked runs
 same_taken delays k took other e asked [] a = tt
 same_taken delays k took other e asked (r ∷ runs) a = ((λ ask l. a.0 ask l ∙ e (asked + ask)), same_taken delays k took other e (asked + waits (total_of r)) runs a.1)
+
+-- what is so up to a cycle is so up to the one before
+pub earlier : {wire : ℕ → Bool} {Q : ℕ → Type 0} {t : ℕ} → IsOnAt wire Q (suc t) → IsOnAt wire Q t
+earlier on = record { on = λ u l q. on.on u (omega (arith, l)) q; only = λ u l e. on.only u (omega (arith, l)) e }
 
 module _ (core : PlainCore) (plan : PlainPlan) (delays : Delays) (work : LoadsWork core plan delays) (answer : ChannelsAnswer core plan delays) (g : Setting) (s : Signals) (bound last k n r m : ℕ) (took : ℕ → ℕ) (spans : List PlainSpan) (spanned : List SpanNets) (c : Child) (runs : List Placed)
     (w : HasLoad core g s bound took r spanned c) (h : LoadRuns core plan delays s took last k n r m spans runs) (few : last ≤ bound) where
@@ -48,9 +52,6 @@ module _ (core : PlainCore) (plan : PlainPlan) (delays : Delays) (work : LoadsWo
       (record { from = h.from; until = h.until; in_turn = h.in_turn; did = h.did; stand = stand })
       (record { ready = ready; unit = w.unit; found = λ u is v le does. h.found u is v (omega (arith, l, le)) does })
       t (omega arith) (subst (λ net. IsStarted s net (rans core plan delays (load r m spans) k n runs) t) (sym w.starts) started)
-
-  earlier : {wire : ℕ → Bool} {Q : ℕ → Type 0} {t : ℕ} → IsOnAt wire Q (suc t) → IsOnAt wire Q t
-  earlier on = record { on = λ u l q. on.on u (omega (arith, l)) q; only = λ u l e. on.only u (omega (arith, l)) e }
 
   ready_to : (t : ℕ) → t ≤ last → Started t → Stand t → IsOnAt (is_on s w.part.port.ready) (Moves delays k runs) t
   ready_to zero l started stand = (answer.of_load r m spans g s w.before w.channel w.part.port.ready w.part.port.request w.part.port.last bound k n runs asked).0

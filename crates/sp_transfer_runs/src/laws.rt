@@ -9,7 +9,7 @@ ghost use Rattle.sp_transfer_runs.specs.Channels.{ChannelsAnswer};
 ghost use Rattle.sp_transfer_runs.specs.Choice.{DelaysAreChosen};
 ghost use Rattle.sp_transfer_runs.specs.Delays.{DelaysAreThere};
 ghost use Rattle.sp_transfer_runs.specs.Loads.{LoadsDo, LoadsWork};
-ghost use Rattle.sp_transfer_runs.specs.Moving.{LoadsMove};
+ghost use Rattle.sp_transfer_runs.specs.Moving.{LoadsMove, StoresMove};
 ghost use Rattle.sp_transfer_runs.specs.Stores.{StoresDo, StoresWork};
 ghost use Rattle.sp_transfer_runs.specs.Taken.{SlicesAreTaken};
 ghost use Rattle.sp_transfer_runs.specs.Trees.{TransfersMoveAll};
@@ -88,6 +88,14 @@ pub fn loads_move()
     ensures { (core : PlainCore) (plan : PlainPlan) (delays : Delays) → LoadsMove core plan delays }
 {
     loads_work();
+    channels_answer();
+}
+
+/// So does a store, and what it does but for the words that go to its DRAM hangs on no word that it reads.
+pub fn stores_move()
+    ensures { (core : PlainCore) (plan : PlainPlan) (delays : Delays) → StoresMove core plan delays }
+{
+    stores_work();
     channels_answer();
 }
 

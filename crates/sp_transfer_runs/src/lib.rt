@@ -5,5 +5,5 @@ mod laws;
 
 pub use laws::{
     channels_answer, delays_are_chosen, delays_are_there, loads_move, loads_work, slices_are_taken,
-    slices_are_words, stores_work, transfers_move_all, worked_transfers,
+    slices_are_words, stores_move, stores_work, transfers_move_all, worked_transfers,
 };

@@ -6,7 +6,7 @@ use Rattle.sp_node_runs.specs.FitsLaws.{PartsFit}
 use Rattle.sp_node_runs.specs.RunsLaws.{SidesComeInTurn, BodiesComeInTurn, StagesComeInTurn}
 use Rattle.sp_tree_runs.specs.BodiesScoped.{ScopedParts}
 use Rattle.sp_transfer_runs.specs.Trees.{TransfersMoveAll}
-use Rattle.sp_transfer_runs.specs.Moving.{LoadsMove}
+use Rattle.sp_transfer_runs.specs.Moving.{LoadsMove, StoresMove}
 
 pub record Laws (core : PlainCore) (plan : PlainPlan) (delays : Delays) : Type 0 where
   pub sides_turn : SidesComeInTurn core plan delays
@@ -16,3 +16,4 @@ pub record Laws (core : PlainCore) (plan : PlainPlan) (delays : Delays) : Type 0
   pub parts : ScopedParts core plan delays
   pub moved : TransfersMoveAll core plan delays
   pub loads : LoadsMove core plan delays
+  pub stores : StoresMove core plan delays

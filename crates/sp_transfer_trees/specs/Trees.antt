@@ -1,5 +1,4 @@
--- The transfers of a tree over all runs of its root: each load goes as the timeline says where it is started and the nets of its slice
--- stand. Of stores nothing is said here but that they are done in time.
+-- The transfers of a tree over all runs of its root: each goes as the timeline says where it is started and the nets of its slice stand.
 use Rattle.std.specs.Prelude.{◌≡◌, ℕ, ◌+◌, ◌≤◌, true, List, [], ◌∷◌}
 use Rattle.sp_netlist.specs.declared.parts.Child.{Child}
 use Rattle.sp_netlist.specs.Signals.{Setting, Signals}
@@ -9,7 +8,7 @@ use Rattle.sp_core.specs.History.{History}
 use Rattle.sp_core.specs.Invariant.{IsRight, IsCore}
 use Rattle.sp_core.specs.MemoryRules.{are_memories_right}
 use Rattle.sp_core.specs.Numbering.{spans_size}
-use Rattle.sp_core.specs.PlainCore.{PlainSpan, PlainNode, load, PlainCore}
+use Rattle.sp_core.specs.PlainCore.{PlainSpan, PlainNode, load, store, PlainCore}
 use Rattle.sp_core.specs.Scope.{in_lanes, no_scope}
 use Rattle.sp_fitting.specs.Fitting.{HistoryFits}
 use Rattle.sp_plan.specs.PlainPlan.{PlainPlan}
@@ -26,16 +25,18 @@ use Rattle.sp_tree_circuits.specs.Answers.{EachTransfer, SlicesStand, MovesInTim
 use Rattle.sp_tree_circuits.specs.Circuits.{Circuit}
 use Rattle.sp_tree_circuits.specs.Laws.{DidRuns, core_run}
 use Rattle.sp_transfer_runs.specs.Loads.{LoadGoes}
+use Rattle.sp_transfer_runs.specs.Stores.{StoreGoes}
 use Rattle.sp_transfer_runs.specs.Told.{AreFoundInDram}
 use Rattle.sp_transfer_runs.specs.Trees.{AllMoved, EachMoved}
 use Rattle.sp_transfer_runs.specs.Delays.{delays_of, AllTaken}
-use Rattle.sp_transfer_runs.specs.Moving.{HasLoad}
+use Rattle.sp_transfer_runs.specs.Moving.{HasLoad, HasStore}
 
 module _ (core : PlainCore) (plan : PlainPlan) (delays : Delays) (g : Setting) (s : Signals) (bound last : ℕ) (took : (node ask : ℕ) → ℕ) where
-  -- a load has its circuit and its channel, and what it reads is found in its DRAM
+  -- a transfer has its circuit and its channel, and what a load reads is found in its DRAM
   abbrev pub HasTransfer : PlainNode → (node n : ℕ) → List Scoped → Child → List SpanNets → Type 0
   HasTransfer (load r m spans) k n qs c nets =
       HasLoad core g s bound (took k) r nets c × AreFoundInDram s r (dims core (dram_number core r)) (all_events core plan delays (load r m spans) k n (placed qs)) last (n + spans_size spans)
+  HasTransfer (store r m spans) k n qs c nets = HasStore core g s bound (took k) r nets c
   HasTransfer node k n qs c nets = MovesInTime core plan delays s last node k n qs c nets
 
   -- up to a cycle it goes as the timeline says, by whichever parts it has its circuit and its channel
@@ -43,8 +44,14 @@ module _ (core : PlainCore) (plan : PlainPlan) (delays : Delays) (g : Setting) (
     pub has : HasLoad core g s bound (took k) r nets c
     pub goes : (w : HasLoad core g s bound (took k) r nets c) (t : ℕ) → t ≤ last → IsStarted s c.start (rans core plan delays (load r m spans) k n (placed qs)) t → SlicesStand core plan delays s qs nets t → LoadGoes core plan delays s w.part w.nets t k n r m spans (placed qs)
 
+  -- so does a store
+  pub record StoreGoesSo (r m : ℕ) (spans : List PlainSpan) (k n : ℕ) (qs : List Scoped) (c : Child) (nets : List SpanNets) : Type 0 where
+    pub has : HasStore core g s bound (took k) r nets c
+    pub goes : (w : HasStore core g s bound (took k) r nets c) (t : ℕ) → t ≤ last → IsStarted s c.start (rans core plan delays (store r m spans) k n (placed qs)) t → SlicesStand core plan delays s qs nets t → StoreGoes core plan delays s w.part w.nets t k n r m spans (placed qs)
+
   abbrev pub TransferGoes : PlainNode → (node n : ℕ) → List Scoped → Child → List SpanNets → Type 0
   TransferGoes (load r m spans) k n qs c nets = LoadGoesSo r m spans k n qs c nets
+  TransferGoes (store r m spans) k n qs c nets = StoreGoesSo r m spans k n qs c nets
   TransferGoes node k n qs c nets = MovesInTime core plan delays s last node k n qs c nets
 
   -- so each of a tree does that has its circuit, in runs whose transfers moved all words and took the delays of their channels

@@ -11,7 +11,7 @@ ghost use Rattle.sp_transfer_trees.specs.Given.{Laws};
 ghost use Rattle.sp_transfer_trees.specs.Trees.{TreesTransfer, GoingIsMoving, CoresTransfer};
 
 use sp_node_runs::{bodies_come_in_turn, parts_fit, sides_come_in_turn, stages_come_in_turn};
-use sp_transfer_runs::{delays_are_there, loads_move, transfers_move_all};
+use sp_transfer_runs::{delays_are_there, loads_move, stores_move, transfers_move_all};
 use sp_tree_events::{agreement, machines_agree, sides_agree, stages_agree};
 use sp_tree_runs::parts_are_done;
 
@@ -26,9 +26,10 @@ fn laws_below()
     parts_are_done();
     transfers_move_all();
     loads_move();
+    stores_move();
 }
 
-/// Each load of a tree goes as the timeline says, where it is started and the nets of its slice stand, by the equations of its circuit
+/// Each load and each store of a tree goes as the timeline says, where it is started and the nets of its slice stand, by the equations of its circuit
 /// and of its channel: in runs whose transfers moved all words and took the delays of their channels.
 pub fn trees_transfer()
     ensures { (core : PlainCore) (plan : PlainPlan) (delays : Delays) (g : Setting) (s : Signals) (bound : ℕ) (last : ℕ) (took : ℕ → ℕ → ℕ) → TreesTransfer core plan delays g s bound last took }
@@ -36,12 +37,12 @@ pub fn trees_transfer()
     laws_below();
 }
 
-/// A load that goes so is done where its runs are over, as the circuit of a tree asks of its transfers.
+/// A transfer that goes so is done where its runs are over, as the circuit of a tree asks of its transfers.
 pub fn going_is_moving()
     ensures { (core : PlainCore) (plan : PlainPlan) (delays : Delays) (g : Setting) (s : Signals) (bound : ℕ) (last : ℕ) (took : ℕ → ℕ → ℕ) → GoingIsMoving core plan delays g s bound last took }
 {}
 
-/// In a run of a core each of its loads goes so, in the timeline by the delays that are chosen by what its channels took.
+/// In a run of a core each of its transfers goes so, in the timeline by the delays that are chosen by what its channels took.
 pub fn cores_transfer()
     ensures { (core : PlainCore) (plan : PlainPlan) → CoresTransfer core plan }
 {

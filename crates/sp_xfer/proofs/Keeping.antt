@@ -20,9 +20,10 @@ use Rattle.sp_slices.proofs.Standing.{moves_stay, counters_stay, axes_stay, as_m
 use Rattle.sp_xfer.specs.declared.part.Load.{Load}
 use Rattle.sp_xfer.specs.declared.part.Moving.{Moving}
 use Rattle.sp_xfer.specs.declared.part.Wires.{Wires}
-use Rattle.sp_xfer.specs.Fits.{WiresFit, SliceFits, LoadFits, IsMoving}
+use Rattle.sp_xfer.specs.Fits.{WiresFit, SliceFits, LoadFits, IsMoving, StoreFits}
 use Rattle.sp_xfer.specs.Moving.{was, words_at, wires_of}
-use Rattle.sp_xfer.specs.Ahead.{are_over, look_offsets, more_index}
+use Rattle.sp_xfer.specs.Ahead.{are_over, look_offsets, more_index, store_wires_of}
+use Rattle.sp_xfer.specs.declared.part.Store.{Store}
 
 -- a register that is driven so
 pub was_on : (late next : ℕ → Bool) → late 0 ≡ false → ((t : ℕ) → late (suc t) ≡ next t) → (t : ℕ) → late t ≡ was next t
@@ -119,14 +120,15 @@ pub index_words : (s : Signals) (t : ℕ) (m : Move) (net w : ℕ) (nets ws : Li
 index_words s t (One i) net w nets ws e f = f
 index_words s t (Range x y) net w nets ws e f = ap₂ (λ a b. a ∷ b) e f
 
-pub wire_past : (a b : Draft) (x y z net width : ℕ) → Fills a b (x ∷ y ∷ z ∷ []) → x ≢ net → y ≢ net → z ≢ net → IsWire a net width → IsWire b net width
-wire_past a b x y z net width f px py pz h = wire_stays a b net width f.grows (f.still_open net (wire_open a net width h) not_there) h
+pub wire_past : (a b : Draft) (w x y z net width : ℕ) → Fills a b (w ∷ x ∷ y ∷ z ∷ []) → w ≢ net → x ≢ net → y ≢ net → z ≢ net → IsWire a net width → IsWire b net width
+wire_past a b w x y z net width f pw px py pz h = wire_stays a b net width f.grows (f.still_open net (wire_open a net width h) not_there) h
   where
-    not_there : Contains (x ∷ y ∷ z ∷ []) net → ⊥
-    not_there (zero, l, e) = px e
-    not_there (suc zero, l, e) = py e
-    not_there (suc (suc zero), l, e) = pz e
-    not_there (suc (suc (suc k)), l, e) = absurd (omega (arith, l))
+    not_there : Contains (w ∷ x ∷ y ∷ z ∷ []) net → ⊥
+    not_there (zero, l, e) = pw e
+    not_there (suc zero, l, e) = px e
+    not_there (suc (suc zero), l, e) = py e
+    not_there (suc (suc (suc zero)), l, e) = pz e
+    not_there (suc (suc (suc (suc k))), l, e) = absurd (omega (arith, l))
 
 -- the word of a flag
 pub flag_small : (b : Bool) → (if b then 1 else 0) < 2
@@ -142,7 +144,7 @@ pub awaited_net : (d : Draft) (net width : ℕ) → Awaits d net width → HasNe
 awaited_net d net width h = record { wide = h.wide; ready = inl h.kept }
 
 -- it isn't one that is computed
-kept_apart : (d : Draft) (done net width : ℕ) → IsKept d done → IsWire d net width → done ≢ net
+pub kept_apart : (d : Draft) (done net width : ℕ) → IsKept d done → IsWire d net width → done ≢ net
 kept_apart d done net width k h e = let a = subst (IsKept d) e k in let b = ap (option_map (λ (p : ℕ × Bool). p.1)) h.promised in absurd (let f = sym b ∙ a in cc)
 
 pub wires_beside : (a b : Draft) (done : ℕ) (w : Wires) → Fills a b (done ∷ []) → IsKept a done → WiresFit a w → WiresFit b w
@@ -175,3 +177,15 @@ wires_on a b own w o h = record {
 
 pub load_fits_on : (a b : Draft) (own : ℕ) (part : Load) → Opens a b own → LoadFits a part → LoadFits b part
 load_fits_on a b own part o h = record { wires = wires_on a b own (wires_of part) o h.wires; slice = slice_stays a b part.dims.items part.moves.items o.grows h.slice }
+
+pub store_fits_on : (a b : Draft) (own : ℕ) (part : Store) → Opens a b own → StoreFits a part → StoreFits b part
+store_fits_on a b own part o h = record {
+  wires = wires_on a b own (store_wires_of part) o h.wires;
+  slice = slice_stays a b part.dims.items part.moves.items o.grows h.slice;
+  width = h.width;
+  word_wire = wire_on a b own part.port.word part.width o h.word_wire;
+  request_word = h.request_word;
+  last_word = h.last_word;
+  address_word = h.address_word;
+  found = HasNet-stays a b part.found part.width o.grows h.found;
+}

@@ -11,4 +11,4 @@ mod stores;
 
 pub use loads::{emit_load, emit_load_to};
 pub use part::{Load, Loaded, Moving, Store, Stored, Wires};
-pub use stores::emit_store;
+pub use stores::{emit_store, emit_store_to};

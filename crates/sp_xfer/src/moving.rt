@@ -14,7 +14,7 @@ ghost use Rattle.sp_xfer.specs.Fits.{IsMoving, SliceFits, WiresFit};
 ghost use Rattle.sp_xfer.specs.Moving.{MovesSlice, was};
 
 use crate::part::{Moving, Wires};
-use sp_gates::{drive_after, on_both, on_either, on_not, one, reserve};
+use sp_gates::{drive_after, on_both, on_either, on_not, reserve};
 use sp_netlist::{Builder, Cell, CellOp, NetId, NoMemory};
 use sp_slices::{Move, Walk, address, walk as walk_through};
 use sp_taps::connect;
@@ -163,25 +163,4 @@ pub(crate) fn move_slice(
         moved: nets.moved,
         done,
     })
-}
-
-/// Moves a slice, with a net of its own for where it is done.
-pub(crate) fn move_alone(
-    alloc: Global,
-    builder: &mut Builder,
-    wires: &Wires,
-    dims: &[u32],
-    moves: &[Move],
-    always: NetId,
-) -> Result<Moving, NoMemory>
-    requires wires { WiresFit builder.old wires.now }
-    requires slice { SliceFits builder.old dims.now moves.now }
-    requires one { IsOne builder.old always }
-    ensures fills { OnOk result (Fills builder.old builder.new (wires.now.request ∷ wires.now.last ∷ wires.now.address ∷ [])) }
-    ensures nets { IfOk result (IsMoving builder.new) }
-    ensures moves { IfOk result (λ m. (s : Signals) → RunsOn s builder.new.cells → MovesSlice s wires.now dims.now moves.now m) }
-{
-    let done = reserve(builder, 1)?;
-    let moving = move_slice(alloc, builder, wires, dims, moves, done, always)?;
-    Ok(moving)
 }

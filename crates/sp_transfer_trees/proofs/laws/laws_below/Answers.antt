@@ -9,4 +9,5 @@ returns c core plan delays = record {
   parts = c.parts_are_done.ensures.parts core plan delays;
   moved = c.transfers_move_all.ensures core plan delays;
   loads = c.loads_move.ensures core plan delays;
+  stores = c.stores_move.ensures core plan delays;
 }
