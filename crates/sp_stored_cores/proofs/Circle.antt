@@ -63,8 +63,8 @@ use Rattle.sp_owner_runs.specs.Acting.{CoresOwn}
 use Rattle.sp_owner_runs.specs.Naming.{CoresNameCopies, CoresNameLoads, PlansHaveNumbers}
 use Rattle.sp_bank_runs.specs.Laws.{GoesWell, ValidPlansGoWell}
 use Rattle.sp_scalar_words.specs.InTime.{MemoriesInTime, ArgumentsGiven}
-use Rattle.sp_array_words.specs.Laws.{MemoriesAnswer, MemoriesHold}
 use Rattle.sp_array_nets.specs.Runs.{RunMemories}
+use Rattle.sp_array_words.specs.Laws.{MemoriesAnswer, MemoriesHold}
 use Rattle.sp_array_words.specs.Loads.{LoadsInTime, LoadsWriteInWhole}
 use Rattle.sp_array_words.specs.Stores.{StoresReadInTime}
 use Rattle.sp_stored_cores.specs.Circuits.{IsStoredCore, StoredCircuit, StartsOnce}
@@ -74,8 +74,8 @@ use Rattle.sp_stored_cores.specs.Outside.{LoadsReadInput, LoadsWriteMemory}
 use Rattle.sp_stored_cores.specs.Quiet.{CoreEventsAreTimed, NothingBeginsAtOnce, RunsTakeTime}
 use Rattle.sp_stored_cores.proofs.Elements.{each_in}
 use Rattle.sp_stored_cores.proofs.Loads.{TransferActs, both_give, transfers_follow, items_stand, transfers_act}
-use Rattle.sp_stored_cores.proofs.NoStore.{with_no_store, no_store_reads}
 use Rattle.sp_stored_cores.proofs.Loaded.{LoadKnown, LoadPlaced, LoadGoing, LoadActs, of_itself, has_so, loads_in_time}
+use Rattle.sp_stored_cores.proofs.NoStore.{with_no_store, no_store_reads}
 
 -- the laws by which it is
 pub record ClosingLaws (core : PlainCore) (plan : PlainPlan) (delays : Delays) : Type 0 where
