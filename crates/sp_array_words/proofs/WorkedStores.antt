@@ -1,12 +1,15 @@
 -- The read of a store that acts in time, by hand.
-use Rattle.std.proofs.Common.{◌≡◌, ℕ, ◌+◌, ◌==◌, Bool, true, false, if◌then◌else◌, inl, inr, [], ◌∷◌, Some, refl, sym, ap, subst, ◌∙◌, arith, eq-eqb, eqb-true}
+use Rattle.std.specs.Prelude.{min}
+use Rattle.std.proofs.Common.{◌≡◌, ℕ, ◌+◌, ◌-◌, ◌==◌, Bool, true, false, if◌then◌else◌, inl, inr, [], ◌∷◌, Some, refl, sym, ap, subst, ◌∙◌, arith, eq-eqb, eqb-true}
 use Rattle.std.specs.List.{Contains}
 use Rattle.std.proofs.lemmas.Bool.{false≢true}
 use Rattle.sp_core.specs.declared.operation.OpKind.TheVariants.{Read}
 use Rattle.sp_core.specs.Declarations.{kind_of}
 use Rattle.sp_core.specs.Events.{reads, writes, Event, Moment, touches}
 use Rattle.sp_core.specs.Latency.{read_latency}
+use Rattle.sp_plan.specs.PlainPlan.{PlainPlan, mem_plan}
 use Rattle.sp_machine.specs.Stamps.{Stamped}
+use Rattle.sp_core_ports.specs.UsedReaders.{duplicate_at}
 use Rattle.sp_mem.specs.Copies.{copy_at}
 use Rattle.sp_transfer_runs.specs.Told.{Reads}
 use Rattle.sp_tree_events.specs.ToldItems.{transfer, NodeHas}
@@ -15,7 +18,7 @@ use Rattle.sp_bank_words.specs.Accesses.{reads_in}
 use Rattle.sp_bank_words.proofs.Acts.{act_or, act_word}
 use Rattle.sp_access_nets.specs.declared.access.AccessNets.{AccessNets}
 use Rattle.sp_scalar_nets.proofs.Picked.{first_or_later, none_there}
-use Rattle.sp_array_words.specs.ExampleStores.{storing_core, store_event, storing_events, storing_signals, IsItsRead, WorkedStore}
+use Rattle.sp_array_words.specs.ExampleStores.{storing_core, reading_core, store_event, storing_events, storing_signals, IsItsRead, WorkedStore}
 use Rattle.sp_array_words.specs.Stores.{IsStoring, ReadsInTime, StoresReadInTime}
 
 -- the event that reads
@@ -123,5 +126,8 @@ no_longer h =
     let some : Reads (reads_in 0 storing_events) 2 6 = h.enabled.only 6 (omega arith) refl in
     absurd (let clash : 4 ≡ 6 = its_cycle 6 some.2.happens.copy some.2.event some.2.happens.there in omega (arith, clash))
 
+duplicates : (plan : PlainPlan) → (mem_plan plan 0).duplicates ≡ 2 → (duplicate_at reading_core plan 0 1 ≡ 0) × (duplicate_at reading_core plan 0 4 ≡ 1)
+duplicates plan e = (ap (λ d. min 0 (d - 1)) e, ap (λ d. min 1 (d - 1)) e)
+
 pub worked_store : WorkedStore
-worked_store = record { in_time = λ a last is. in_time a is last; answered = is_answered; not_of_all = λ a is h. not_all a is h; not_longer = no_longer }
+worked_store = record { in_time = λ a last is. in_time a is last; answered = is_answered; not_of_all = λ a is h. not_all a is h; not_longer = no_longer; own_duplicate = duplicates }

@@ -1,14 +1,17 @@
 -- A worked store: its read acts at the event that reads its SRAM, and not at the one of the same number that writes the DRAM.
 use Rattle.std.specs.Prelude.{◌≡◌, ℕ, ◌==◌, ◌||◌, if◌then◌else◌, List, [], ◌∷◌, Some, None, codes}
 use Rattle.sp_words.specs.declared.kind.Kind.TheVariants.{Sram}
+use Rattle.sp_words.specs.declared.kind.Style.TheVariants.{Pipe}
 use Rattle.sp_words.specs.Types.{int_type}
 use Rattle.sp_netlist.specs.Signals.{Signals, idle}
 use Rattle.sp_core.specs.declared.operation.OpKind.TheVariants.{Read}
 use Rattle.sp_core.specs.Events.{Act, reads, writes, Event, touches}
-use Rattle.sp_core.specs.ExampleForms.{mem_of, port, core}
+use Rattle.sp_core.specs.ExampleForms.{lit, read, stages, mem_of, port, core}
 use Rattle.sp_core.specs.ExampleTransfers.{whole}
-use Rattle.sp_core.specs.PlainCore.{PlainCore, store}
+use Rattle.sp_core.specs.PlainCore.{PlainCore, inner, outer, store}
+use Rattle.sp_plan.specs.PlainPlan.{PlainPlan, mem_plan}
 use Rattle.sp_machine.specs.Stamps.{Stamped}
+use Rattle.sp_core_ports.specs.UsedReaders.{duplicate_at}
 use Rattle.sp_circuit_ops.specs.declared.ops.WordNet.{WordNet}
 use Rattle.sp_memory_words.specs.Answers.{IsAnswered, NamesCopies}
 use Rattle.sp_bank_words.specs.Accesses.{reads_in}
@@ -18,6 +21,10 @@ use Rattle.sp_array_words.specs.Stores.{ReadsInTime, StoresReadInTime}
 -- a core that stores its SRAM, memory 0, in its DRAM, which is memory 1; the store has number 2, behind the ends of its slice
 abbrev pub storing_core : PlainCore
 storing_core = core (mem_of (codes "t") Sram int_type (4 ∷ []) None ∷ []) (port (codes "c") (4 ∷ []) ∷ []) (store 0 0 (whole 4 ∷ []))
+
+-- one in which an inner body reads the SRAM before the store does, which has number 4
+abbrev pub reading_core : PlainCore
+reading_core = core (mem_of (codes "t") Sram int_type (4 ∷ []) None ∷ []) (port (codes "c") (4 ∷ []) ∷ []) (outer [] Pipe [] (stages (inner [] [] (lit 0 ∷ read 0 (0 ∷ []) ∷ []) None ∷ store 0 0 (whole 4 ∷ []) ∷ [])))
 
 abbrev pub store_event : (mem : ℕ) → Act → Event
 store_event m act = record { number = 2; standing = record { path = []; counters = [] }; mem = m; indices = 2 ∷ []; act = act }
@@ -53,3 +60,5 @@ pub record WorkedStore : Type 0 where
   -- it doesn't name the copy of the event that writes the DRAM, and isn't to be enabled there
   pub not_of_all : (a : AccessNets) → IsItsRead a → NamesCopies storing_signals storing_events 6 2 a.copy → ⊥
   pub not_longer : ReadsInTime storing_signals (reads_in 0 storing_events) 6 2 2 (3 ∷ []) → ⊥
+  -- where the plan has a duplicate for each, the body reads the first one, and the store the second one
+  pub own_duplicate : (plan : PlainPlan) → (mem_plan plan 0).duplicates ≡ 2 → (duplicate_at reading_core plan 0 1 ≡ 0) × (duplicate_at reading_core plan 0 4 ≡ 1)
