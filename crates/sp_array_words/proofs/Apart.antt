@@ -1,4 +1,4 @@
--- Loads write to SRAMs alone, so the circuits of other memories are asked by operations alone.
+-- Loads write to SRAMs alone, and stores read SRAMs alone, so the circuits of other memories are asked by operations alone.
 use Rattle.std.proofs.Common.{◌≡◌, ◌≢◌, ℕ, suc, ◌==◌, ◌&&◌, Bool, false, cond, List, [], ◌∷◌, ◌++◌, map, refl, sym, ap, subst, ◌∙◌, ne_eqb, arith}
 use Rattle.std.specs.List.{Contains, filter}
 use Rattle.std.proofs.lemmas.List.{append-nil}
@@ -20,6 +20,7 @@ use Rattle.sp_scalar_nets.specs.Runs.{IsFollowed, RunsWord}
 use Rattle.sp_fifo_nets.specs.Lists.{put_of}
 use Rattle.sp_fifo_nets.specs.Runs.{RunsFifo}
 use Rattle.sp_array_words.specs.Loads.{LoadsInTime}
+use Rattle.sp_array_words.specs.Stores.{StoresReadInTime}
 
 -- what passes in no element of a list behind another one
 module _ {A : Type 0} (p : A → Bool) where
@@ -30,22 +31,31 @@ module _ {A : Type 0} (p : A → Bool) where
   pub none_behind : (xs ys : List A) → ((y : A) → Contains ys y → p y ≡ false) → filter p (xs ++ ys) ≡ filter p xs
   none_behind xs ys h = filter-append p xs ys ∙ ap (λ zs. filter p xs ++ zs) (none_passes ys h) ∙ append-nil (filter p xs)
 
-module _ (core : PlainCore) (s : Signals) (events : List Stamped) (last : ℕ) (accesses loading : List AccessNets) (loads : LoadsInTime core s events last loading) (m : ℕ) (other : kind_of core m ≢ Sram) where
-  -- no load writes to it
-  elsewhere : (a : AccessNets) → Contains loading a → (a.mem == m) ≡ false
-  elsewhere a c = ne_eqb a.mem m (λ e. other (ap (kind_of core) (sym e) ∙ (loads.is_loading a c).sram))
+module _ (core : PlainCore) (s : Signals) (events : List Stamped) (last : ℕ) (accesses loading storing : List AccessNets) (loads : LoadsInTime core s events last loading) (stores : StoresReadInTime core s events last storing) (m : ℕ) (other : kind_of core m ≢ Sram) where
+  -- no load writes to it, and no store reads it
+  unloaded : (a : AccessNets) → Contains loading a → (a.mem == m) ≡ false
+  unloaded a c = ne_eqb a.mem m (λ e. other (ap (kind_of core) (sym e) ∙ (loads.is_loading a c).sram))
 
-  to_it : (kind : OpKind) → filter (is_to m kind) (accesses ++ loading) ≡ filter (is_to m kind) accesses
-  to_it kind = none_behind (is_to m kind) accesses loading (λ a c. ap (λ b. b && is_same_access kind a.kind) (elsewhere a c))
+  unstored : (a : AccessNets) → Contains storing a → (a.mem == m) ≡ false
+  unstored a c = ne_eqb a.mem m (λ e. other (ap (kind_of core) (sym e) ∙ (stores.is_storing a c).sram))
 
-  readers : filter (is_reader m) (accesses ++ loading) ≡ filter (is_reader m) accesses
-  readers = none_behind (is_reader m) accesses loading (λ a c. ap (λ b. b && is_answered a.answer) (elsewhere a c))
+  -- what passes in a test that asks for the memory is of operations
+  of_operations : (test : AccessNets → Bool) → filter (λ a. (a.mem == m) && test a) (accesses ++ loading ++ storing) ≡ filter (λ a. (a.mem == m) && test a) accesses
+  of_operations test =
+      none_behind (λ (a : AccessNets). (a.mem == m) && test a) (accesses ++ loading) storing (λ a c. ap (λ b. b && test a) (unstored a c))
+      ∙ none_behind (λ (a : AccessNets). (a.mem == m) && test a) accesses loading (λ a c. ap (λ b. b && test a) (unloaded a c))
 
-  pub followed_apart : (net : ℕ) → IsFollowed s (accesses ++ loading) m net → IsFollowed s accesses m net
-  followed_apart net h a w c = h a w (Contains-append_left accesses loading a c)
+  to_it : (kind : OpKind) → filter (is_to m kind) (accesses ++ loading ++ storing) ≡ filter (is_to m kind) accesses
+  to_it kind = of_operations (λ a. is_same_access kind a.kind)
+
+  readers : filter (is_reader m) (accesses ++ loading ++ storing) ≡ filter (is_reader m) accesses
+  readers = of_operations (λ a. is_answered a.answer)
+
+  pub followed_apart : (net : ℕ) → IsFollowed s (accesses ++ loading ++ storing) m net → IsFollowed s accesses m net
+  followed_apart net h a w c = h a w (Contains-append_left (accesses ++ loading) storing a (Contains-append_left accesses loading a c))
 
   module _ (plan : PlainPlan) (owners : OwnerNets) where
-    pub word_apart : (net : ℕ) → RunsWord core plan s (accesses ++ loading) owners m net → RunsWord core plan s accesses owners m net
+    pub word_apart : (net : ℕ) → RunsWord core plan s (accesses ++ loading ++ storing) owners m net → RunsWord core plan s accesses owners m net
     word_apart net r = record {
       part = r.part;
       nets = r.nets;
@@ -62,7 +72,7 @@ module _ (core : PlainCore) (s : Signals) (events : List Stamped) (last : ℕ) (
       runs = r.runs;
     }
 
-    pub fifo_apart : (bank : ℕ) → RunsFifo core plan s (accesses ++ loading) owners m bank → RunsFifo core plan s accesses owners m bank
+    pub fifo_apart : (bank : ℕ) → RunsFifo core plan s (accesses ++ loading ++ storing) owners m bank → RunsFifo core plan s accesses owners m bank
     fifo_apart bank r = record {
       part = r.part;
       stores = r.stores;

@@ -1,4 +1,4 @@
--- The accesses of an SRAM, of operations and of loads, are those of its circuit, and each read is answered.
+-- The accesses of an SRAM, of operations, loads and stores, are those of its circuit, and each read is answered.
 use Rattle.std.proofs.Common.{◌≡◌, ◌≢◌, ℕ, suc, ◌<◌, ◌^◌, ◌⊎◌, inl, inr, List, [], ◌∷◌, ◌++◌, map, All, Option, Some, None, refl, sym, ap, subst, ◌∙◌, arith}
 use Rattle.std.specs.List.{AllZip, Contains, filter}
 use Rattle.std.proofs.lemmas.List.Elements.{All-contains, Contains-append_left, Contains-append_right, Contains-append_cases}
@@ -45,10 +45,13 @@ use Rattle.sp_scalar_nets.proofs.Picked.{picked}
 use Rattle.sp_scalar_words.specs.InTime.{MemoriesInTime}
 use Rattle.sp_array_nets.specs.Arrays.{IsArrayOf}
 use Rattle.sp_array_nets.specs.Touches.{IsReadBy, IsWriteBy}
+use Rattle.sp_array_words.specs.Laws.{ReadsAnswered}
 use Rattle.sp_array_words.specs.Loads.{LoadsInTime}
+use Rattle.sp_array_words.specs.Stores.{ReadsInTime, StoresReadInTime}
 use Rattle.sp_array_words.proofs.Lists.{numbers_zip, both_at, ends}
 use Rattle.sp_array_words.proofs.Changes.{IsWritten, is_written}
 use Rattle.sp_array_words.proofs.Loading.{load_goes}
+use Rattle.sp_array_words.proofs.Storing.{store_goes}
 
 -- the numbers of the accesses that are to be answered by a memory, and of those that write to it
 abbrev pub reading : (mem : ℕ) → List AccessNets → List ℕ
@@ -57,10 +60,15 @@ reading m accesses = map (λ (a : AccessNets). a.number) (filter (is_reader m) a
 abbrev pub writing : (mem : ℕ) → List AccessNets → List ℕ
 writing m accesses = map (λ (a : AccessNets). a.number) (filter (is_to m Write) accesses)
 
+-- after how many cycles an answer comes, where there is one
+abbrev after_of : Option WordNet → ℕ
+after_of (Some w) = w.after
+after_of None = 0
+
 no_argument : (k : Kind) → k ≡ Sram → k ≢ ArgIn
 no_argument k e h = absurd (cc (e, h))
 
-module _ (core : PlainCore) (plan : PlainPlan) (s : Signals) (events : List Stamped) (last : ℕ) (accesses loading : List AccessNets) (owners : OwnerNets) (h : MemoriesInTime core s events last accesses owners) (loads : LoadsInTime core s events last loading) (first : Place → Option Contents)
+module _ (core : PlainCore) (plan : PlainPlan) (s : Signals) (events : List Stamped) (last : ℕ) (accesses loading storing : List AccessNets) (owners : OwnerNets) (h : MemoriesInTime core s events last accesses owners) (loads : LoadsInTime core s events last loading) (stores : StoresReadInTime core s events last storing) (first : Place → Option Contents)
     (well : HappensWell core plan events first) (inside : Each (λ (x : Stamped). IsInside core x.moment) events) (stays : OperationsStay core plan) (m : ℕ) (sram : kind_of core m ≡ Sram) where
   -- an access of a kind to the memory
   record IsOne (a : AccessNets) (kind : OpKind) : Type 0 where
@@ -107,39 +115,72 @@ module _ (core : PlainCore) (plan : PlainPlan) (s : Signals) (events : List Stam
       (subst (λ j. WritesInTime s (writes_in j events) last a.number (loaded_at core (kind_of core j) j) a.enable (index_words Write a.operands.items) (word_that_changes Write a.operands.items)) o.mem (loads.act a o.there))
       (subst (λ j. NamesCopies s (writes_in j events) last a.number a.copy) o.mem (loads.named a o.there))
 
-  module _ (picks : PicksAccessesTo) (part : Banked) (is : IsArrayOf core plan (accesses ++ loading) m part) where
-    a_read : (a : AccessNets) → Contains (filter (is_reader m) (accesses ++ loading)) a → IsOne a Read
+  -- and the read of a store
+  record IsStore (a : AccessNets) : Type 0 where
+    there : Contains storing a
+    mem : a.mem ≡ m
+
+  store_reads : (a : AccessNets) (touch : Touch) → IsStore a → IsReadBy core plan a touch → ReadGoes core plan s m (reads_in m events) last a.number touch
+  store_reads a touch o is =
+      store_goes core plan s events last m h.right.memories inside sram a touch is
+      (subst (λ j. ReadsInTime s (reads_in j events) last a.number a.enable a.operands.items) o.mem (stores.act a o.there))
+      (subst (λ j. NamesCopies s (reads_in j events) last a.number a.copy) o.mem (stores.named a o.there))
+
+  module _ (picks : PicksAccessesTo) (part : Banked) (is : IsArrayOf core plan (accesses ++ loading ++ storing) m part) where
+    -- an access of all, of an operation, a load or a store
+    among : (a : AccessNets) → Contains (accesses ++ loading ++ storing) a → Contains accesses a ⊎ (Contains loading a ⊎ Contains storing a)
+    among a c = elim (Contains-append_cases (accesses ++ loading) storing a c) [
+      | inl before ↦ elim (Contains-append_cases accesses loading a before) [ inl op ↦ inl op | inr load ↦ inr (inl load) ]
+      | inr store ↦ inr (inr store)
+    ]
+
+    of_operation : (a : AccessNets) → Contains accesses a → Contains (accesses ++ loading ++ storing) a
+    of_operation a c = Contains-append_left (accesses ++ loading) storing a (Contains-append_left accesses loading a c)
+
+    of_load : (a : AccessNets) → Contains loading a → Contains (accesses ++ loading ++ storing) a
+    of_load a c = Contains-append_left (accesses ++ loading) storing a (Contains-append_right accesses loading a c)
+
+    a_read : (a : AccessNets) → Contains (filter (is_reader m) (accesses ++ loading ++ storing)) a → IsOne a Read ⊎ IsStore a
     a_read a c =
-        let f = filter_from (is_reader m) (accesses ++ loading) a c in
+        let f = filter_from (is_reader m) (accesses ++ loading ++ storing) a c in
         let r = reader_answers m a f.1 in
-        elim (Contains-append_cases accesses loading a f.0) [
-          | inl there ↦ record {
+        elim (among a f.0) [
+          | inl there ↦ inl (record {
             there = there;
             mem = r.0;
             kind_is = elim (h.asked a r.1 there r.2) [
               | inl read ↦ read
               | inr take ↦ absurd (let other : Fifo ≡ Sram = sym take.1 ∙ ap (kind_of core) r.0 ∙ sram in cc)
             ];
-          }
-          | inr load ↦ absurd (let none : Some r.1 ≡ None = sym r.2 ∙ (loads.is_loading a load).unanswered in cc)
+          })
+          | inr (inl load) ↦ absurd (let none : Some r.1 ≡ None = sym r.2 ∙ (loads.is_loading a load).unanswered in cc)
+          | inr (inr store) ↦ inr (record { there = store; mem = r.0 })
         ]
 
-    a_write : (a : AccessNets) → Contains (filter (is_to m Write) (accesses ++ loading)) a → IsOne a Write ⊎ IsLoad a
-    a_write a c =
-        let f = filter_from (is_to m Write) (accesses ++ loading) a c in
-        let p = (picks m Write a refl).0 f.1 in
-        elim (Contains-append_cases accesses loading a f.0) [ inl there ↦ inl (record { there = there; mem = p.0; kind_is = p.1 }) | inr load ↦ inr (record { there = load; mem = p.0 }) ]
+    read_there : (a : AccessNets) → IsOne a Read ⊎ IsStore a → a.mem ≡ m
+    read_there a (inl o) = o.mem
+    read_there a (inr o) = o.mem
 
-    is_writing : (a : AccessNets) → Contains (accesses ++ loading) a → a.mem ≡ m → a.kind ≡ Write → (n : ℕ) → a.number ≡ n → Contains (writing m (accesses ++ loading)) n
-    is_writing a c p k n e = subst (Contains (writing m (accesses ++ loading))) e (picked (λ (b : AccessNets). b.number) (is_to m Write) (accesses ++ loading) a c ((picks m Write a refl).1 p k))
+    a_write : (a : AccessNets) → Contains (filter (is_to m Write) (accesses ++ loading ++ storing)) a → IsOne a Write ⊎ IsLoad a
+    a_write a c =
+        let f = filter_from (is_to m Write) (accesses ++ loading ++ storing) a c in
+        let p = (picks m Write a refl).0 f.1 in
+        elim (among a f.0) [
+          | inl there ↦ inl (record { there = there; mem = p.0; kind_is = p.1 })
+          | inr (inl load) ↦ inr (record { there = load; mem = p.0 })
+          | inr (inr store) ↦ absurd (let clash : Read ≡ Write = sym (stores.is_storing a store).kind_is ∙ p.1 in cc)
+        ]
+
+    is_writing : (a : AccessNets) → Contains (accesses ++ loading ++ storing) a → a.mem ≡ m → a.kind ≡ Write → (n : ℕ) → a.number ≡ n → Contains (writing m (accesses ++ loading ++ storing)) n
+    is_writing a c p k n e = subst (Contains (writing m (accesses ++ loading ++ storing))) e (picked (λ (b : AccessNets). b.number) (is_to m Write) (accesses ++ loading ++ storing) a c ((picks m Write a refl).1 p k))
 
     -- a change is the write of one of them
-    changed_by : (x : Stamped) → Contains events x → moved_memory x.moment ≡ m → (w : IsWritten core plan events first well m sram x.moment) → Contains (writing m (accesses ++ loading)) w.event.number
+    changed_by : (x : Stamped) → Contains events x → moved_memory x.moment ≡ m → (w : IsWritten core plan events first well m sram x.moment) → Contains (writing m (accesses ++ loading ++ storing)) w.event.number
     changed_by x there p w = elim w.by [
-      | inl op ↦ let a = h.all_operations m w.event.number Write refl op in is_writing a.0 (Contains-append_left accesses loading a.0 a.1) a.3 a.4 w.event.number a.2
+      | inl op ↦ let a = h.all_operations m w.event.number Write refl op in is_writing a.0 (of_operation a.0 a.1) a.3 a.4 w.event.number a.2
       | inr load ↦
           let a = loads.all_loads m w.event.number load.0 x.cycle sram load.1 happens in
-          is_writing a.0 (Contains-append_right accesses loading a.0 a.1) a.3 (loads.is_loading a.0 a.1).kind_is w.event.number a.2
+          is_writing a.0 (of_load a.0 a.1) a.3 (loads.is_loading a.0 a.1).kind_is w.event.number a.2
     ]
       where
         happens : SomeHappens (writes_in m events) w.event.number x.cycle
@@ -159,13 +200,13 @@ module _ (core : PlainCore) (plan : PlainPlan) (s : Signals) (events : List Stam
           },
         )
 
-    pub memory_of : IsMemoryOf core plan events m part (reading m (accesses ++ loading)) (writing m (accesses ++ loading))
+    pub memory_of : IsMemoryOf core plan events m part (reading m (accesses ++ loading ++ storing)) (writing m (accesses ++ loading ++ storing))
     memory_of = record {
       layout = is.layout;
       copies = is.copies;
       duplicates = is.duplicates;
-      each_read = numbers_zip (λ (a : AccessNets). a.number) (IsReadBy core plan) (λ n r. r.duplicate ≡ duplicate_at core plan m n) (filter (is_reader m) (accesses ++ loading)) part.reads.items
-          (λ a r c by. by.duplicate ∙ ap (λ j. duplicate_at core plan j a.number) (a_read a c).mem) is.reads;
+      each_read = numbers_zip (λ (a : AccessNets). a.number) (IsReadBy core plan) (λ n r. r.duplicate ≡ duplicate_at core plan m n) (filter (is_reader m) (accesses ++ loading ++ storing)) part.reads.items
+          (λ a r c by. by.duplicate ∙ ap (λ j. duplicate_at core plan j a.number) (read_there a (a_read a c))) is.reads;
       all = λ x there d p c. (let w = is_written core plan events first well m sram x there d p c in (w.event, w.word, w.touch, w.act, changed_by x there p w));
     }
 
@@ -174,20 +215,46 @@ module _ (core : PlainCore) (plan : PlainPlan) (s : Signals) (events : List Stam
       write_of a touch (inl o) by = write_goes go a touch o by
       write_of a touch (inr o) by = load_writes a touch o by
 
-      pub memory_goes : MemoryGoes core plan s m events last part (reading m (accesses ++ loading)) (writing m (accesses ++ loading))
+      read_of : (a : AccessNets) (touch : Touch) → IsOne a Read ⊎ IsStore a → IsReadBy core plan a touch → ReadGoes core plan s m (reads_in m events) last a.number touch
+      read_of a touch (inl o) by = read_goes go a touch o by
+      read_of a touch (inr o) by = store_reads a touch o by
+
+      pub memory_goes : MemoryGoes core plan s m events last part (reading m (accesses ++ loading ++ storing)) (writing m (accesses ++ loading ++ storing))
       memory_goes = record {
-        each_read = numbers_zip (λ (a : AccessNets). a.number) (IsReadBy core plan) (ReadGoes core plan s m (reads_in m events) last) (filter (is_reader m) (accesses ++ loading)) part.reads.items (λ a r c by. read_goes go a r (a_read a c) by) is.reads;
-        each_write = numbers_zip (λ (a : AccessNets). a.number) IsWriteBy (WriteGoes s (writes_in m events) last) (filter (is_to m Write) (accesses ++ loading)) part.writes.items (λ a w c by. write_of a w (a_write a c) by) is.writes;
+        each_read = numbers_zip (λ (a : AccessNets). a.number) (IsReadBy core plan) (ReadGoes core plan s m (reads_in m events) last) (filter (is_reader m) (accesses ++ loading ++ storing)) part.reads.items (λ a r c by. read_of a r (a_read a c) by) is.reads;
+        each_write = numbers_zip (λ (a : AccessNets). a.number) IsWriteBy (WriteGoes s (writes_in m events) last) (filter (is_to m Write) (accesses ++ loading ++ storing)) part.writes.items (λ a w c by. write_of a w (a_write a c) by) is.writes;
       }
 
-      pub answered : AllZip (λ n (r : Touch). acting.IsAnswered s (reads_in m events) (suc (suc last)) n Read r.word 2) (reading m (accesses ++ loading)) part.reads.items
-          → (a : AccessNets) (w : WordNet) → Contains accesses a → a.mem ≡ m → a.kind ≡ Read → a.answer ≡ Some w → IsAnswered s events (suc last) a.number Read w.after w.net
-      answered answers a w c p k e =
+      abbrev AreTold : Type 0
+      AreTold = AllZip (λ n (r : Touch). acting.IsAnswered s (reads_in m events) (suc (suc last)) n Read r.word 2) (reading m (accesses ++ loading ++ storing)) part.reads.items
+
+      -- the touch of an access that is to be answered, and what it is told
+      touch_of : AreTold → (a : AccessNets) (w : WordNet) → Contains (accesses ++ loading ++ storing) a → a.mem ≡ m → a.answer ≡ Some w
+          → (r : Touch) × IsReadBy core plan a r × acting.IsAnswered s (reads_in m events) (suc (suc last)) a.number Read r.word 2
+      touch_of answers a w c p e =
+          both_at (λ (b : AccessNets). b.number) (IsReadBy core plan) (λ n (t : Touch). acting.IsAnswered s (reads_in m events) (suc (suc last)) n Read t.word 2) (filter (is_reader m) (accesses ++ loading ++ storing)) part.reads.items is.reads answers a
+          (filter_has (is_reader m) (accesses ++ loading ++ storing) a c (answers_reader m a w p e))
+
+      told_within : AreTold → (a : AccessNets) (w : WordNet) → Contains (accesses ++ loading ++ storing) a → a.mem ≡ m → a.answer ≡ Some w → acting.IsAnswered s (reads_in m events) (suc (suc last)) a.number Read w.net 2
+      told_within answers a w c p e =
+          let r = touch_of answers a w c p e in
+          subst (λ net. acting.IsAnswered s (reads_in m events) (suc (suc last)) a.number Read net 2) (r.1.word ∙ ap answer_net e) r.2
+
+      of_operations : AreTold → (a : AccessNets) (w : WordNet) → Contains accesses a → a.mem ≡ m → a.kind ≡ Read → a.answer ≡ Some w → IsAnswered s events (suc last) a.number Read w.after w.net
+      of_operations answers a w c p k e =
           let o : IsOne a Read = record { there = c; mem = p; kind_is = k } in
           let kind : kind_of core a.mem ≡ Sram = ap (kind_of core) p ∙ sram in
           let after : w.after ≡ 2 = (All-contains (AccessStands h.draft core) accesses a h.stand c).later w k e (no_argument (kind_of core a.mem) kind) ∙ ap read_latency kind in
-          let r = both_at (λ (b : AccessNets). b.number) (IsReadBy core plan) (λ n (t : Touch). acting.IsAnswered s (reads_in m events) (suc (suc last)) n Read t.word 2) (filter (is_reader m) (accesses ++ loading)) part.reads.items is.reads answers a
-          (filter_has (is_reader m) (accesses ++ loading) a (Contains-append_left accesses loading a c) (answers_reader m a w p e)) in
-          let net : r.0.word ≡ w.net = r.1.word ∙ ap answer_net e in
-          let now = (go (suc (suc last)) a.number r.0).answers (stays events first well m a.number Read (operation a Read o)) r.0.word 2 r.2 in
-          subst (λ n. IsAnswered s events (suc last) a.number Read n w.net) (sym after) (subst (λ n. IsAnswered s events (suc last) a.number Read 2 n) net (λ t x happens until v act. now t x happens (omega (arith, until)) v act))
+          let r = touch_of answers a w (of_operation a c) p e in
+          let now = (go (suc (suc last)) a.number r.0).answers (stays events first well m a.number Read (operation a Read o)) w.net 2 (told_within answers a w (of_operation a c) p e) in
+          subst (λ n. IsAnswered s events (suc last) a.number Read n w.net) (sym after) (λ t x happens until v act. now t x happens (omega (arith, until)) v act)
+
+      of_stores : AreTold → (a : AccessNets) (w : WordNet) → Contains storing a → a.mem ≡ m → a.answer ≡ Some w → IsAnswered s (reads_in m events) (suc last) a.number Read w.after w.net
+      of_stores answers a w c p e =
+          let is_store = stores.is_storing a c in
+          let after : w.after ≡ 2 = ap after_of (sym e ∙ is_store.answer) ∙ is_store.after ∙ ap read_latency is_store.sram in
+          let now = told_within answers a w (Contains-append_right (accesses ++ loading) storing a c) p e in
+          subst (λ n. IsAnswered s (reads_in m events) (suc last) a.number Read n w.net) (sym after) (λ t x happens until v act. now t x happens (omega (arith, until)) v act)
+
+      pub answered : AreTold → ReadsAnswered s events last accesses storing m
+      answered answers = record { operations = of_operations answers; stores = of_stores answers }

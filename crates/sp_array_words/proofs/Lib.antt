@@ -1,8 +1,11 @@
 mod Lists
 mod Changes
 mod Loading
+mod Storing
 mod Apart
 mod Among
+mod Stored
 mod Going
 mod Whole
 mod Worked
+mod WorkedStores

@@ -33,11 +33,11 @@ use Rattle.sp_scalar_nets.proofs.Picked.{unmapped}
 use Rattle.sp_array_nets.specs.Touches.{IsWriteBy}
 use Rattle.sp_array_words.proofs.Lists.{ends}
 
-abbrev are_small : List ℕ → Bool
+abbrev pub are_small : List ℕ → Bool
 are_small ds = list_all (λ d. nat_le d (2 ^ 26)) ds
 
 -- indices inside of a memory have no sign
-small_indices : (ds is : List ℕ) → are_inside ds (map pos is) ≡ true → are_small ds ≡ true → All (λ i. i < 2 ^ 31) is
+pub small_indices : (ds is : List ℕ) → are_inside ds (map pos is) ≡ true → are_small ds ≡ true → All (λ i. i < 2 ^ 31) is
 small_indices [] [] h k = λ i d l. absurd (omega (arith, l))
 small_indices [] (i ∷ is) h k = absurd (false≢true h)
 small_indices (d ∷ ds) [] h k = λ i e l. absurd (omega (arith, l))
@@ -48,7 +48,7 @@ small_indices (d ∷ ds) (i ∷ is) h k =
     let few = leb-true d (2 ^ 26) b.0 in
     All-cons (λ i. i < 2 ^ 31) i is (omega (arith, below, few)) (small_indices ds is a.1 b.1)
 
-on_chip : (core : PlainCore) (m : ℕ) → kind_of core m ≡ Sram → nat_lt m (length core.mems) ≡ true
+pub on_chip : (core : PlainCore) (m : ℕ) → kind_of core m ≡ Sram → nat_lt m (length core.mems) ≡ true
 on_chip core m sram = by (nat_lt m (length core.mems)) refl sram
   where
     by : (b : Bool) → nat_lt m (length core.mems) ≡ b → (if b then (mem core m).kind else Dram) ≡ Sram → nat_lt m (length core.mems) ≡ true

@@ -2,6 +2,7 @@
 
 ghost use Rattle.sp_array_words.specs.Laws.{ArraysAnswer, MemoriesAnswer, MemoriesHold};
 ghost use Rattle.sp_array_words.specs.Loads.{LoadsWriteInWhole, NothingIsLoaded};
+ghost use Rattle.sp_array_words.specs.Stores.{NothingIsStored, StoresAreAnswered, StoresReadInWhole};
 ghost use Rattle.sp_core.specs.PlainCore.{PlainCore};
 ghost use Rattle.sp_machine.specs.Transfers.{Delays};
 ghost use Rattle.sp_plan.specs.PlainPlan.{PlainPlan};
@@ -23,8 +24,23 @@ pub fn nothing_is_loaded()
     ensures { (core : PlainCore) → NothingIsLoaded core }
 {}
 
-/// In a run that goes well, where accesses, the writes of loads and owners do what the timeline has up to a cycle, each read of an
-/// SRAM is answered with its word up to the next cycle.
+/// What reads in time by the events of a store's own runs does so by those of the whole that read its memory.
+pub fn stores_read_in_whole()
+    ensures { StoresReadInWhole }
+{}
+
+/// What is answered by the events of the whole that read a store's memory is answered by those of the store's own runs.
+pub fn stores_are_answered()
+    ensures { StoresAreAnswered }
+{}
+
+/// A core without transfers has no reads of stores.
+pub fn nothing_is_stored()
+    ensures { (core : PlainCore) → NothingIsStored core }
+{}
+
+/// In a run that goes well, where accesses, the writes of loads, the reads of stores and owners do what the timeline has up to a cycle,
+/// each read of an SRAM is answered with its word up to the next cycle.
 pub fn arrays_answer()
     ensures { (core : PlainCore) (plan : PlainPlan) (delays : Delays) → ArraysAnswer core plan delays }
 {

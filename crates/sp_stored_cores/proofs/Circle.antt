@@ -63,8 +63,10 @@ use Rattle.sp_owner_runs.specs.Acting.{CoresOwn}
 use Rattle.sp_owner_runs.specs.Naming.{CoresNameCopies, CoresNameLoads, PlansHaveNumbers}
 use Rattle.sp_bank_runs.specs.Laws.{GoesWell, ValidPlansGoWell}
 use Rattle.sp_scalar_words.specs.InTime.{MemoriesInTime, ArgumentsGiven}
+use Rattle.sp_array_nets.specs.Runs.{RunMemories}
 use Rattle.sp_array_words.specs.Laws.{MemoriesAnswer, MemoriesHold}
 use Rattle.sp_array_words.specs.Loads.{LoadsInTime, LoadsWriteInWhole}
+use Rattle.sp_array_words.specs.Stores.{StoresReadInTime}
 use Rattle.sp_stored_cores.specs.Circuits.{IsStoredCore, StoredCircuit, StartsOnce}
 use Rattle.sp_stored_cores.specs.Closing.{RunsByPlan, DramsGiven, GoesAlong}
 use Rattle.sp_stored_cores.specs.Loads.{took_by, LoadStands, LoadsAre}
@@ -73,6 +75,7 @@ use Rattle.sp_stored_cores.specs.Quiet.{CoreEventsAreTimed, NothingBeginsAtOnce,
 use Rattle.sp_stored_cores.proofs.Elements.{each_in}
 use Rattle.sp_stored_cores.proofs.Loads.{TransferActs, both_give, transfers_follow, items_stand, transfers_act}
 use Rattle.sp_stored_cores.proofs.Loaded.{LoadKnown, LoadPlaced, LoadGoing, LoadActs, of_itself, has_so, loads_in_time}
+use Rattle.sp_stored_cores.proofs.NoStore.{with_no_store, no_store_reads}
 
 -- the laws by which it is
 pub record ClosingLaws (core : PlainCore) (plan : PlainPlan) (delays : Delays) : Type 0 where
@@ -260,13 +263,20 @@ module _ (core : PlainCore) (plan : PlainPlan) (all_laws : (delays : Delays) →
   loads : (t : ℕ) → t ≤ bound → Going t → LoadsInTime core s (core_timed core plan delays h).events t x.loading
   loads t le a = subst (λ es. LoadsInTime core s es t x.loading) (laws.timed h) (loads_told t le a)
 
+  -- no store reads
+  stores : (t : ℕ) → StoresReadInTime core s (core_timed core plan delays h).events t []
+  stores t = no_store_reads core plan delays laws.reads is.right is.loads_alone input h left goes s t
+
+  memories : RunMemories core plan s (x.accesses ++ x.loading ++ []) x.owners arguments words
+  memories = with_no_store core plan s (x.accesses ++ x.loading) x.owners arguments words x.memories
+
   answered : (t : ℕ) → t ≤ bound → Going t → Answered core plan s (core_events core plan delays h) (suc t) core.root [] (nets_at []) 0 0 c x.circuit
   answered t le a =
       laws.tree s (core_events core plan delays h) (suc t) (nets_at []) c x.circuit _ x.acted x.accesses x.accesses_are x.handed
       (λ b w there answer. (
-      let so = laws.answer input h left goes well is.timed s t x.accesses x.loading x.owners (in_time t a) (loads t le a) x.draft x.queued is.stored arguments words x.memories given
-      (λ q v here arg ans u e happens. (let l = late q.number u e happens in omega (arith, l))) b w there answer in
-      subst (λ es. IsAnswered s es (suc t) b.number b.kind w.after w.net) (sym (laws.timed h)) so))
+      let all = laws.answer input h left goes well is.timed s t x.accesses x.loading [] x.owners (in_time t a) (loads t le a) (stores t) x.draft x.queued is.stored arguments words memories given
+      (λ q v here arg ans u e happens. (let l = late q.number u e happens in omega (arith, l))) in
+      subst (λ es. IsAnswered s es (suc t) b.number b.kind w.after w.net) (sym (laws.timed h)) (all.operations b w there answer)))
 
   at_first : Answered core plan s (core_events core plan delays h) 0 core.root [] (nets_at []) 0 0 c x.circuit
   at_first =
@@ -295,7 +305,7 @@ module _ (core : PlainCore) (plan : PlainPlan) (all_laws : (delays : Delays) →
 
   holds : (m t : ℕ) → t ≤ bound → m < length core.mems → (mem core m).kind ≡ ArgOut → (core_timed core plan delays h).took ≤ t → s.net t (slice_index words m) ≡ slice_index_or (words_of (left m)) 0 0
   holds m t low l out le =
-      let stands = laws.hold s (core_timed core plan delays h).events t x.accesses x.loading x.owners input (in_time t (going t low)) (loads t low (going t low)) well arguments words x.memories m l (is_output m l out) t (omega arith) in
+      let stands = laws.hold s (core_timed core plan delays h).events t x.accesses x.loading [] x.owners input (in_time t (going t low)) (loads t low (going t low)) (stores t) well arguments words memories m l (is_output m l out) t (omega arith) in
       let sums : content is_place (does core) (events_of core (core_timed core plan delays h).events) t (first_contents core input) (copy_place m 0) ≡ one_cell core (slice_index_or (words_of (left m)) 0 0) =
       goes.found.in_time.last t (copy_place m 0) (each_event core t (core_timed core plan delays h).events (sooner (core_timed core plan delays h).took t (core_timed core plan delays h).events le before)) ∙ goes.found.outs m l out in
       stands (slice_index_or (words_of (left m)) 0 0) sums

@@ -3,6 +3,7 @@ mod Early
 mod Elements
 mod Loaded
 mod Loads
+mod NoStore
 mod OnChip
 mod Reading
 mod Storing
