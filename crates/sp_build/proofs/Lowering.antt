@@ -20,7 +20,7 @@ use Rattle.sp_plans.specs.Laws.{ChosenAreValid}
 use Rattle.sp_tree_handed.specs.Lists.{NumberedOps, numbered, standing, bounds_in, spans_in, lists_in, lists_in_stages}
 use Rattle.sp_array_nets.specs.Kinds.{IsEmitted, AreEmitted}
 use Rattle.sp_tree_handed.specs.Standing.{BoundsReadArguments}
-use Rattle.sp_tree_nets.specs.Emitted.{HasNoStore, HaveNoStore}
+use Rattle.sp_tree_handed.specs.Loads.{HasNoStore, HaveNoStore}
 use Rattle.sp_tree_nets.specs.Whole.{HasTreePlan}
 use Rattle.sp_stored_cores.specs.Quiet.{HasNoCounters}
 use Rattle.sp_lower.specs.Carries.{CanLower}
@@ -231,9 +231,9 @@ can_lower p plan valid is by arrays planned short h =
           meets = planned.meets;
           valid = valid core (forms_of p) planned.meets plan is planned.is_planned;
           timed = timed core core.root b.tree;
-          loads_alone = loads_alone core core.root b.tree;
           latencies = short;
         };
+        loads_alone = loads_alone core core.root b.tree;
         stored = stored core b.are_stored;
         arrays = arrays (forms_of p) planned.meets
             (record { is_core = is; is_timed = timed core core.root b.tree; by_lane = by; valid = valid core (forms_of p) planned.meets plan is planned.is_planned })

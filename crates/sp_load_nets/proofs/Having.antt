@@ -26,7 +26,7 @@ use Rattle.sp_access_nets.specs.declared.access.AccessNets.{AccessNets}
 use Rattle.sp_access_nets.specs.Accesses.{copy_in}
 use Rattle.sp_tree_handed.specs.declared.loads.CoreLoad.{CoreLoad}
 use Rattle.sp_tree_handed.specs.declared.moves.TreeMove.{TreeMove}
-use Rattle.sp_tree_handed.specs.Loads.{core_load, loads_in, loads_in_stages}
+use Rattle.sp_tree_handed.specs.Loads.{HasNoStore, HaveNoStore, core_load, loads_in, loads_in_stages}
 use Rattle.sp_tree_handed.specs.Moves.{end_at, IsOneMove, AreMoves, StagesMove}
 use Rattle.sp_stored_cores.specs.Loads.{Channel, IsLoadWrite, LoadsOfBoth, OneLoad, LoadsAre, StageLoadsAre, LoadStands}
 use Rattle.sp_load_units.specs.declared.unit.LoadUnit.{LoadUnit}
@@ -137,36 +137,36 @@ module _ (core : PlainCore) (g : Setting) (s : Signals) (ends names : List (Opti
           }
 
       mutual
-        taken_in : (node : PlainNode) (near : List Near) (env : Nets) (k n : ℕ) (qs : List Scoped) (c : Child) (w : Circuit core plan s node near env k c) (one : List TreeMove) → AreMoves core plan s ends node near env k c w one
+        taken_in : (node : PlainNode) → HasNoStore node → (near : List Near) (env : Nets) (k n : ℕ) (qs : List Scoped) (c : Child) (w : Circuit core plan s node near env k c) (one : List TreeMove) → AreMoves core plan s ends node near env k c w one
             → (units : List LoadUnit) (slices more : List TreeMove) (accesses : List AccessNets) (loads : List CoreLoad) → slices ≡ one ++ more → loads_of units ≡ loads_in node k n ++ loads → AllHad units slices accesses
             → Rest (LoadsAre core plan delays s Stands node near env k n qs c w) more accesses loads
-        taken_in (branch ops first second) near env k n qs c w one x units slices more accesses loads e of h =
+        taken_in (branch ops first second) none near env k n qs c w one x units slices more accesses loads e of h =
             let front = loads_in first (suc k) (n + length ops) in
             let back = loads_in second (suc k + node_count first) (n + (length ops + number_count first)) in
-            let a = taken_in first near env (suc k) (n + length ops) (scoped_sides core plan delays ops k true qs) w.chosen w.one x.one x.first units slices (x.other ++ more) accesses (back ++ loads)
+            let a = taken_in first none.0 near env (suc k) (n + length ops) (scoped_sides core plan delays ops k true qs) w.chosen w.one x.one x.first units slices (x.other ++ more) accesses (back ++ loads)
             (e ∙ ap (λ xs. xs ++ more) x.moves_are ∙ append_assoc x.one x.other more) (of ∙ append_assoc front back loads) h in
-            let b = taken_in second near env (suc k + node_count first) (n + (length ops + number_count first)) (scoped_sides core plan delays ops k false qs) w.left w.other x.other x.second a.left (x.other ++ more) more a.other loads
+            let b = taken_in second none.1 near env (suc k + node_count first) (n + (length ops + number_count first)) (scoped_sides core plan delays ops k false qs) w.left w.other x.other x.second a.left (x.other ++ more) more a.other loads
             refl a.of_left a.had_left in
             both_taken (LoadsAre core plan delays s Stands first near env (suc k) (n + length ops) (scoped_sides core plan delays ops k true qs) w.chosen w.one)
             (LoadsAre core plan delays s Stands second near env (suc k + node_count first) (n + (length ops + number_count first)) (scoped_sides core plan delays ops k false qs) w.left w.other) (x.other ++ more) more accesses (back ++ loads) loads a b
-        taken_in (fsm start state ops node after) near env k n qs c w one x units slices more accesses loads e of h =
-            taken_in node near env (suc k) (n + (length start + length ops)) (scoped_bodies core plan delays start ops after node k n qs) w.body w.goes one x units slices more accesses loads e of h
-        taken_in (outer counters style owned stages) near env k n qs c w one x units slices more accesses loads e of h =
-            taken_in_stages stages (own_near counters near) (suc k) (n + counters_size counters) 0 (λ i. slot_nets w.nets w.rows env counters (slot_at (slots_of (node_plan plan k)) i).slot) (λ i. scoped_stages core plan delays counters owned stages k n i qs) w.child w.parts one x units slices more accesses loads e of h
-        taken_in (inner counters owned ops comb) near env k n qs c w one x units slices more accesses loads e of h = none_taken units slices more accesses loads one x e of h
-        taken_in (load r m spans) near env k n qs c w one x units slices more accesses loads e of h = one_taken r m k n spans qs c w.nets one x units slices more accesses loads e of h
-        taken_in (store r m spans) near env k n qs c w one x units slices more accesses loads e of h = absurd x
-        taken_in (sparse kind r m places spans count par) near env k n qs c w one x units slices more accesses loads e of h = absurd x
+        taken_in (fsm start state ops node after) none near env k n qs c w one x units slices more accesses loads e of h =
+            taken_in node none near env (suc k) (n + (length start + length ops)) (scoped_bodies core plan delays start ops after node k n qs) w.body w.goes one x units slices more accesses loads e of h
+        taken_in (outer counters style owned stages) none near env k n qs c w one x units slices more accesses loads e of h =
+            taken_in_stages stages none (own_near counters near) (suc k) (n + counters_size counters) 0 (λ i. slot_nets w.nets w.rows env counters (slot_at (slots_of (node_plan plan k)) i).slot) (λ i. scoped_stages core plan delays counters owned stages k n i qs) w.child w.parts one x units slices more accesses loads e of h
+        taken_in (inner counters owned ops comb) none near env k n qs c w one x units slices more accesses loads e of h = none_taken units slices more accesses loads one x e of h
+        taken_in (load r m spans) none near env k n qs c w one x units slices more accesses loads e of h = one_taken r m k n spans qs c w.nets one x units slices more accesses loads e of h
+        taken_in (store r m spans) none near env k n qs c w one x units slices more accesses loads e of h = absurd none
+        taken_in (sparse kind r m places spans count par) none near env k n qs c w one x units slices more accesses loads e of h = absurd x
 
-        taken_in_stages : (stages : PlainStages) (near : List Near) (j n i : ℕ) (nets : (stage : ℕ) → Nets) (qs : (stage : ℕ) → List Scoped) (child : (stage : ℕ) → Child) (w : StageCircuits core plan s stages near j i nets child) (one : List TreeMove) → StagesMove core plan s ends stages near j i nets child w one
+        taken_in_stages : (stages : PlainStages) → HaveNoStore stages → (near : List Near) (j n i : ℕ) (nets : (stage : ℕ) → Nets) (qs : (stage : ℕ) → List Scoped) (child : (stage : ℕ) → Child) (w : StageCircuits core plan s stages near j i nets child) (one : List TreeMove) → StagesMove core plan s ends stages near j i nets child w one
             → (units : List LoadUnit) (slices more : List TreeMove) (accesses : List AccessNets) (loads : List CoreLoad) → slices ≡ one ++ more → loads_of units ≡ loads_in_stages stages j n ++ loads → AllHad units slices accesses
             → Rest (StageLoadsAre core plan delays s Stands stages near j n i nets qs child w) more accesses loads
-        taken_in_stages no_stage near j n i nets qs child w one x units slices more accesses loads e of h = none_taken units slices more accesses loads one x e of h
-        taken_in_stages (more_stage first last comb node rest) near j n i nets qs child w one x units slices more accesses loads e of h =
+        taken_in_stages no_stage none near j n i nets qs child w one x units slices more accesses loads e of h = none_taken units slices more accesses loads one x e of h
+        taken_in_stages (more_stage first last comb node rest) none near j n i nets qs child w one x units slices more accesses loads e of h =
             let front = loads_in node j n in
             let back = loads_in_stages rest (j + node_count node) (n + number_count node) in
-            let a = taken_in node near (nets i) j n (qs i) (child i) w.0 x.one x.first units slices (x.other ++ more) accesses (back ++ loads) (e ∙ ap (λ xs. xs ++ more) x.moves_are ∙ append_assoc x.one x.other more) (of ∙ append_assoc front back loads) h in
-            let b = taken_in_stages rest near (j + node_count node) (n + number_count node) (suc i) nets qs child w.1 x.other x.second a.left (x.other ++ more) more a.other loads refl a.of_left a.had_left in
+            let a = taken_in node none.0 near (nets i) j n (qs i) (child i) w.0 x.one x.first units slices (x.other ++ more) accesses (back ++ loads) (e ∙ ap (λ xs. xs ++ more) x.moves_are ∙ append_assoc x.one x.other more) (of ∙ append_assoc front back loads) h in
+            let b = taken_in_stages rest none.1 near (j + node_count node) (n + number_count node) (suc i) nets qs child w.1 x.other x.second a.left (x.other ++ more) more a.other loads refl a.of_left a.had_left in
             both_taken (LoadsAre core plan delays s Stands node near (nets i) j n (qs i) (child i) w.0) (StageLoadsAre core plan delays s Stands rest near (j + node_count node) (n + number_count node) (suc i) nets qs child w.1) (x.other ++ more) more accesses (back ++ loads) loads a b
 
   -- each of them has its own channel
@@ -199,10 +199,10 @@ zip_loads d core (x ∷ loads) [] h = absurd h
 zip_loads d core (x ∷ loads) (u ∷ units) h = ap₂ (λ a b. a ∷ b) h.0.load_is (zip_loads d core loads units h.1)
 
 pub had : LoadsAreHad
-had core plan g s env c ends names units slices accesses d stand done w moves runs bound delays qs =
+had core plan g s env c ends names units slices accesses d stand done alone w moves runs bound delays qs =
     let channels : ℕ → Channel = channels_of core g s names units slices accesses runs in
     let are = zip_loads d core (loads_in core.root 0 0) units stand in
     let all = all_had core g s ends names channels 0 (0 + node_count core.root) units slices accesses runs (λ k l. refl) (subst (NodesRise 0 (0 + node_count core.root)) (sym are) (loads_rise core.root 0 0)) done in
-    let r = taken_in core g s ends names channels plan delays bound core.root [] env 0 0 qs c w slices moves units slices [] accesses [] (sym (append-nil slices)) (are ∙ sym (append-nil (loads_in core.root 0 0))) all in
+    let r = taken_in core g s ends names channels plan delays bound core.root alone [] env 0 0 qs c w slices moves units slices [] accesses [] (sym (append-nil slices)) (are ∙ sym (append-nil (loads_in core.root 0 0))) all in
     let none = none_left core g s ends names channels r.left r.other r.of_left r.had_left in
     subst (LoadsAre core plan delays s (LoadStands core g s channels bound names) core.root [] env 0 0 qs c w) (sym (r.are ∙ ap (λ ys. r.one ++ ys) none ∙ append-nil r.one)) r.is

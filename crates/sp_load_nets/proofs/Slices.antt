@@ -1,4 +1,4 @@
--- The slices that a tree hands on are those of its loads.
+-- The slices that a tree without stores hands on are those of its loads.
 use Rattle.std.proofs.Common.{◌≡◌, ℕ, suc, ◌+◌, ◌==◌, ◌&&◌, ◌||◌, nat_lt, List, [], ◌∷◌, ◌++◌, length, refl, sym, ap, ◌∙◌}
 use Rattle.std.specs.List.{AllZip, list_all}
 use Rattle.std.proofs.lemmas.Bool.{and_parts, eqb-true}
@@ -11,7 +11,7 @@ use Rattle.sp_core.specs.Numbering.{node_count, number_count, counters_size}
 use Rattle.sp_core.specs.PlainCore.{PlainSpan, PlainNode, PlainStages, inner, outer, fsm, branch, load, store, sparse, no_stage, more_stage, PlainCore}
 use Rattle.sp_tree_handed.specs.declared.loads.CoreLoad.{CoreLoad}
 use Rattle.sp_tree_handed.specs.declared.moves.TreeMove.{TreeMove}
-use Rattle.sp_tree_handed.specs.Loads.{loads_in, loads_in_stages}
+use Rattle.sp_tree_handed.specs.Loads.{HasNoStore, HaveNoStore, loads_in, loads_in_stages}
 use Rattle.sp_tree_handed.specs.Moves.{NumberedSlice, slices_in, slices_in_stages, AreMovesStanding}
 use Rattle.sp_load_units.specs.declared.unit.LoadUnit.{LoadUnit}
 use Rattle.sp_load_units.specs.Units.{UnitStands}
@@ -37,22 +37,22 @@ module _ (core : PlainCore) where
       eqb-true (length spans) (length (dram core r).dims) (and_parts (nat_lt r (length core.ports.drams)) (length spans == length (dram core r).dims) slice.0).1
 
   mutual
-    of_part : (around : Around) (earlier : List ℕ) (node : PlainNode) (k n : ℕ) → IsRight core around earlier node → AllZip (IsOf core) (loads_in node k n) (slices_in node k)
-    of_part around earlier (inner counters owned ops comb) k n h = tt
-    of_part around earlier (outer counters style owned stages) k n h = of_stages (within around counters owned) (earlier ++ owned) stages (suc k) (n + counters_size counters) h.1
-    of_part around earlier (fsm start state test body next) k n h = of_part (with_state core around state) (earlier ++ state ∷ []) body (suc k) (n + (length start + length test)) h.1
-    of_part around earlier (branch test first second) k n h =
+    of_part : (around : Around) (earlier : List ℕ) (node : PlainNode) (k n : ℕ) → HasNoStore node → IsRight core around earlier node → AllZip (IsOf core) (loads_in node k n) (slices_in node k)
+    of_part around earlier (inner counters owned ops comb) k n none h = tt
+    of_part around earlier (outer counters style owned stages) k n none h = of_stages (within around counters owned) (earlier ++ owned) stages (suc k) (n + counters_size counters) none h.1
+    of_part around earlier (fsm start state test body next) k n none h = of_part (with_state core around state) (earlier ++ state ∷ []) body (suc k) (n + (length start + length test)) none h.1
+    of_part around earlier (branch test first second) k n none h =
         zip_join (IsOf core) (loads_in first (suc k) (n + length test)) (loads_in second (suc k + node_count first) (n + (length test + number_count first))) (slices_in first (suc k)) (slices_in second (suc k + node_count first))
-        (of_part around earlier first (suc k) (n + length test) h.1) (of_part around (earlier ++ owned_in first) second (suc k + node_count first) (n + (length test + number_count first)) h.2)
-    of_part around earlier (load r m spans) k n h = (record { node = refl; each = span_each around earlier r m spans h }, tt)
-    of_part around earlier (store r m spans) k n h = tt
-    of_part around earlier (sparse kind r m places spans count par) k n h = tt
+        (of_part around earlier first (suc k) (n + length test) none.0 h.1) (of_part around (earlier ++ owned_in first) second (suc k + node_count first) (n + (length test + number_count first)) none.1 h.2)
+    of_part around earlier (load r m spans) k n none h = (record { node = refl; each = span_each around earlier r m spans h }, tt)
+    of_part around earlier (store r m spans) k n none h = absurd none
+    of_part around earlier (sparse kind r m places spans count par) k n none h = tt
 
-    of_stages : (around : Around) (earlier : List ℕ) (stages : PlainStages) (k n : ℕ) → AreRight core around earlier stages → AllZip (IsOf core) (loads_in_stages stages k n) (slices_in_stages stages k)
-    of_stages around earlier no_stage k n h = tt
-    of_stages around earlier (more_stage first last comb node rest) k n h =
+    of_stages : (around : Around) (earlier : List ℕ) (stages : PlainStages) (k n : ℕ) → HaveNoStore stages → AreRight core around earlier stages → AllZip (IsOf core) (loads_in_stages stages k n) (slices_in_stages stages k)
+    of_stages around earlier no_stage k n none h = tt
+    of_stages around earlier (more_stage first last comb node rest) k n none h =
         zip_join (IsOf core) (loads_in node k n) (loads_in_stages rest (k + node_count node) (n + number_count node)) (slices_in node k) (slices_in_stages rest (k + node_count node))
-        (of_part around earlier node k n h.0) (of_stages around (earlier ++ owned_in node) rest (k + node_count node) (n + number_count node) h.1)
+        (of_part around earlier node k n none.0 h.0) (of_stages around (earlier ++ owned_in node) rest (k + node_count node) (n + number_count node) none.1 h.1)
 
   of_units : (d : Draft) (loads : List CoreLoad) (units : List LoadUnit) (ofs : List NumberedSlice) (slices : List TreeMove) → AllZip (UnitStands d core) loads units → AllZip (IsOf core) loads ofs → AreMovesStanding d ofs slices → AreSlicesStanding d core units slices
   of_units d [] [] [] [] u o h = tt
@@ -72,5 +72,5 @@ module _ (core : PlainCore) where
     of_units d loads units ofs slices u.1 o.1 h.1,
   )
 
-  pub slices_stand : (d : Draft) (units : List LoadUnit) (slices : List TreeMove) → IsCore core → AllZip (UnitStands d core) (loads_in core.root 0 0) units → AreMovesStanding d (slices_in core.root 0) slices → AreSlicesStanding d core units slices
-  slices_stand d units slices is u h = of_units d (loads_in core.root 0 0) units (slices_in core.root 0) slices u (of_part nothing [] core.root 0 0 is.nodes) h
+  pub slices_stand : (d : Draft) (units : List LoadUnit) (slices : List TreeMove) → IsCore core → HasNoStore core.root → AllZip (UnitStands d core) (loads_in core.root 0 0) units → AreMovesStanding d (slices_in core.root 0) slices → AreSlicesStanding d core units slices
+  slices_stand d units slices is none u h = of_units d (loads_in core.root 0 0) units (slices_in core.root 0) slices u (of_part nothing [] core.root 0 0 none is.nodes) h

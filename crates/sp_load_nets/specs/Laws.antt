@@ -9,6 +9,7 @@ use Rattle.sp_node_runs.specs.BodiesGiven.{Nets}
 use Rattle.sp_tree_circuits.specs.Circuits.{Circuit}
 use Rattle.sp_access_nets.specs.declared.access.AccessNets.{AccessNets}
 use Rattle.sp_tree_handed.specs.declared.moves.TreeMove.{TreeMove}
+use Rattle.sp_tree_handed.specs.Loads.{HasNoStore}
 use Rattle.sp_tree_handed.specs.Moves.{AreMoves}
 use Rattle.sp_stored_cores.specs.Loads.{Channel, HasLoads}
 use Rattle.sp_load_units.specs.declared.unit.LoadUnit.{LoadUnit}
@@ -29,11 +30,11 @@ module _ (core : PlainCore) (g : Setting) (s : Signals) (names : List (Option �
   channels_of (unit ∷ units) (slice ∷ slices) (a ∷ accesses) runs k = if unit.load.node == k then channel_of runs.0 else channels_of units slices accesses runs.1 k
   channels_of _ _ _ runs k = no_channel
 
--- Where the circuit of a core's tree hands on its loads, with the ends that their units have, and what was emitted of each runs so, the
+-- Where the circuit of a core's tree without stores hands on its loads, with the ends that their units have, and what was emitted of each runs so, the
 -- core has its loads, each with its own channel.
 abbrev pub LoadsAreHad : Type 0
 LoadsAreHad =
     (core : PlainCore) (plan : PlainPlan) (g : Setting) (s : Signals) (env : Nets) (c : Child) (ends names : List (Option ℕ)) (units : List LoadUnit) (slices : List TreeMove) (accesses : List AccessNets)
-    (d : Draft) → UnitsStand d core units → HaveDone ends units
+    (d : Draft) → UnitsStand d core units → HaveDone ends units → HasNoStore core.root
     → (w : Circuit core plan s core.root [] env 0 c) → AreMoves core plan s ends core.root [] env 0 c w slices
     → (runs : AreLoadRuns core g s names units slices accesses) → HasLoads core plan g s env c (channels_of core g s names units slices accesses runs) names w accesses

@@ -9,6 +9,7 @@ ghost use Rattle.sp_op_nets.specs.Reserved.{Rise};
 ghost use Rattle.sp_copy_nets.specs.Numbers.{StandNumbers};
 ghost use Rattle.sp_access_nets.specs.declared.access.AccessNets.{AccessNets};
 ghost use Rattle.sp_access_nets.specs.Laws.{answer_nets};
+ghost use Rattle.sp_tree_handed.specs.Loads.{HasNoStore};
 ghost use Rattle.sp_tree_handed.specs.Moves.{AreMovesStanding, slices_in};
 ghost use Rattle.sp_tree_handed.specs.Standing.{AccessStands};
 ghost use Rattle.sp_tree_accesses.specs.Queued.{QueuedStands};
@@ -83,7 +84,7 @@ fn emit_each(
     Ok(())
 }
 
-/// Emits the loads of a core's tree behind it, each by its unit and by what the tree hands on of it, and gives their writes as accesses
+/// Emits the loads of a core's tree, which has no other transfers, behind it, each by its unit and by what the tree hands on of it, and gives their writes as accesses
 /// of their memories, in the order of the tree. `names` has by the number of each transfer the net with the number of the copy that it
 /// writes: without one that is copy 0. Where a load has no index for each dimension of its memory, which happens to no load that fills an
 /// SRAM and isn't proved yet, it answers want of memory.
@@ -97,6 +98,7 @@ pub fn emit_loads(
 ) -> Result<Vec<AccessNets>, NoMemory>
     requires units { UnitsStand builder.old (plain_core core.now) units.now }
     requires rise { (from : ℕ) × Rise from (unit_wires_in units.now) }
+    requires loads_alone { HasNoStore (plain_core core.now).root }
     requires slices { AreMovesStanding builder.old (slices_in (plain_core core.now).root 0) slices.now }
     requires names { StandNumbers builder.old names.now }
     ensures fills { OnOk result (Fills builder.old builder.new (unit_wires_in units.now)) }

@@ -41,16 +41,16 @@ use Rattle.sp_tree_events.specs.PartsAgreeing.{AgreeIn}
 use Rattle.sp_tree_events.specs.ToldItems.{Item, operation, transfer, ListHas, NodeHas, StagesHave}
 use Rattle.sp_tree_events.specs.ToldLaws.{Does, IsWithin}
 use Rattle.sp_tree_events.proofs.ToldHaving.{IsOf, list_has, node_has}
-use Rattle.sp_bank_words.specs.Accesses.{is_write, is_at}
+use Rattle.sp_bank_words.specs.Accesses.{is_read, is_write, is_at}
 use Rattle.sp_bank_words.proofs.Filtered.{filter_from}
 use Rattle.sp_tree_handed.specs.declared.owners.Keeping.{Keeping}
 use Rattle.sp_tree_handed.specs.declared.owners.Renewal.{Renewal}
-use Rattle.sp_tree_copies.specs.Naming.{HaveCopies, names_of, bound_names, load_names, AreNamed, StagesNamed}
+use Rattle.sp_tree_copies.specs.Naming.{HaveCopies, names_of, bound_names, transfer_names, AreNamed, StagesNamed}
 use Rattle.sp_owner_runs.specs.Given.{Laws}
-use Rattle.sp_owner_runs.specs.Naming.{IsNamed, NameCopies, TreesNameCopies, InCores, CoresNameCopies, CoresNameLoads}
+use Rattle.sp_owner_runs.specs.Naming.{IsNamed, NameCopies, TreesNameCopies, InCores, CoresNameCopies, CoresNameLoads, CoresNameStores}
 use Rattle.sp_owner_runs.specs.Standing.{StandCopies}
 use Rattle.sp_owner_runs.proofs.Bounds.{bounds_agree, of_bound}
-use Rattle.sp_owner_runs.proofs.Indexing.{before, behind, both_long, names_long, bounds_long, load_long, list_name, bound_name, load_name, counters_within, list_low, name_both, name_at, name_in}
+use Rattle.sp_owner_runs.proofs.Indexing.{before, behind, both_long, names_long, bounds_long, transfer_long, list_name, bound_name, transfer_name, counters_within, list_low, name_both, name_at, name_in}
 use Rattle.sp_owner_runs.proofs.Parts.{sides_did, bodies_did, IsStage, each_stage}
 use Rattle.sp_owner_runs.proofs.Sides.{sides_stand, bodies_stand, test_stands}
 use Rattle.sp_owner_runs.proofs.Stages.{EachStage}
@@ -114,11 +114,19 @@ module _ (core : PlainCore) (plan : PlainPlan) (delays : Delays) (laws : Laws co
 
   -- those of a load, where of its own number its memory is meant
   load_covers : (k n r m : ℕ) (spans : List PlainSpan) (around : CopyNets) (qs : List Scoped) → ((x q j i : ℕ) → NodeHas (load r m spans) n x (transfer q j) → Of x i → i ≡ j) → StandCopies core plan delays s (load r m spans) k n qs around (suc t)
-      → NameCopies Of s (all_events core plan delays (load r m spans) k n (placed qs)) t n (load_names around m spans)
+      → NameCopies Of s (all_events core plan delays (load r m spans) k n (placed qs)) t n (transfer_names around m spans)
   load_covers k n r m spans around qs mine stand i l u e h late of =
       let x = inner_item (load r m spans) k n tt (placed qs) (n + i) u e h in
-      ap (copy_at s u) (load_name core around r m spans n e.number i x.0 e x.1 x.2 (λ q j has. mine (n + i) q j e.mem (subst (λ y. NodeHas (load r m spans) n y (transfer q j)) h.numbered has) of) h.numbered)
+      ap (copy_at s u) (transfer_name core around r m spans n e.number i x.0 e x.1 x.2 (λ q j has. mine (n + i) q j e.mem (subst (λ y. NodeHas (load r m spans) n y (transfer q j)) h.numbered has) of) h.numbered)
       ∙ laws.loads_name s t k n r m spans around (placed qs) (placed_stand (load r m spans) k n around qs stand) (n + i) u e h late
+
+  -- and those of a store
+  store_covers : (k n r m : ℕ) (spans : List PlainSpan) (around : CopyNets) (qs : List Scoped) → ((x q j i : ℕ) → NodeHas (store r m spans) n x (transfer q j) → Of x i → i ≡ j) → StandCopies core plan delays s (store r m spans) k n qs around (suc t)
+      → NameCopies Of s (all_events core plan delays (store r m spans) k n (placed qs)) t n (transfer_names around m spans)
+  store_covers k n r m spans around qs mine stand i l u e h late of =
+      let x = inner_item (store r m spans) k n tt (placed qs) (n + i) u e h in
+      ap (copy_at s u) (transfer_name core around r m spans n e.number i x.0 e x.1 x.2 (λ q j has. mine (n + i) q j e.mem (subst (λ y. NodeHas (store r m spans) n y (transfer q j)) h.numbered has) of) h.numbered)
+      ∙ laws.stores_name s t k n r m spans around (placed qs) (placed_stand (store r m spans) k n around qs stand) (n + i) u e h late
 
   -- and the bounds of a loop
   bounds_cover : (k n : ℕ) (counters : List PlainCounter) (style : Style) (owned : List ℕ) (stages : PlainStages) (around : CopyNets) (qs : List Scoped) → IsTimed (outer counters style owned stages) → StandCopies core plan delays s (outer counters style owned stages) k n qs around (suc t)
@@ -237,8 +245,10 @@ module _ (core : PlainCore) (plan : PlainPlan) (delays : Delays) (laws : Laws co
           covers_by whole n (number_count node) names (bound_names copies counters ++ names_of copies ops) named.0 (omega (arith, a, b, d), inner_covers k n counters owned ops comb copies qs kept stand)
       covers (load r m spans) near env around earlier k n from until qs c is right did kept mine w goes copies names renewals keepings named stand =
           let whole : List Stamped = all_events core plan delays (load r m spans) k n (placed qs) in
-          covers_by whole n (spans_size spans + 1) names (load_names copies m spans) named.0 (load_long copies m spans, load_covers k n r m spans copies qs mine stand)
-      covers (store r m spans) near env around earlier k n from until qs c is right did kept mine w goes copies names renewals keepings named stand = elim named [ ]
+          covers_by whole n (spans_size spans + 1) names (transfer_names copies m spans) named.0 (transfer_long copies m spans, load_covers k n r m spans copies qs mine stand)
+      covers (store r m spans) near env around earlier k n from until qs c is right did kept mine w goes copies names renewals keepings named stand =
+          let whole : List Stamped = all_events core plan delays (store r m spans) k n (placed qs) in
+          covers_by whole n (spans_size spans + 1) names (transfer_names copies m spans) named.0 (transfer_long copies m spans, store_covers k n r m spans copies qs mine stand)
       covers (sparse kind r m places spans count par) near env around earlier k n from until qs c is right did kept mine w goes copies names renewals keepings named stand = elim is [ ]
 
       stages_cover : (stages : PlainStages) (near : List Near) (around : Around) (earlier : List ℕ) (j n i from until : ℕ) (whole : List Stamped) (nets : (stage : ℕ) → Nets) (qs : (stage : ℕ) → List Scoped) (copies : (stage : ℕ) → CopyNets) (child : (stage : ℕ) → Child) → AreTimed stages → AreRight core around earlier stages → AreKept plan j stages
@@ -288,5 +298,12 @@ module _ (core : PlainCore) (plan : PlainPlan) (delays : Delays) (laws : Laws co
   cores_name_loads s env h c is_core is done fits have kept w names renewals keepings named t goes number dram m has u e p late =
       let x = filter_from (λ (y : Stamped). is_at is_write m y.moment) (core_events core plan delays h) (record { cycle = u; copy = p.copy; moment = touches e }) p.there in
       let touched : e.mem ≡ m = eqb-true e.mem m (and_parts (e.mem == m) (is_write e.act) x.1).0 in
+      cores_name s env h c is_core is done fits have kept w names renewals keepings named t goes number u e (record { copy = p.copy; there = x.0; numbered = p.numbered }) late
+      (λ q j other. touched ∙ ap (λ i. mem_of i 0) (laws.one core.root 0 number (transfer dram m) (transfer q j) has other))
+
+  pub cores_name_stores : CoresNameStores core plan delays
+  cores_name_stores s env h c is_core is done fits have kept w names renewals keepings named t goes number dram m has u e p late =
+      let x = filter_from (λ (y : Stamped). is_at is_read m y.moment) (core_events core plan delays h) (record { cycle = u; copy = p.copy; moment = touches e }) p.there in
+      let touched : e.mem ≡ m = eqb-true e.mem m (and_parts (e.mem == m) (is_read e.act) x.1).0 in
       cores_name s env h c is_core is done fits have kept w names renewals keepings named t goes number u e (record { copy = p.copy; there = x.0; numbered = p.numbered }) late
       (λ q j other. touched ∙ ap (λ i. mem_of i 0) (laws.one core.root 0 number (transfer dram m) (transfer q j) has other))

@@ -11,7 +11,7 @@ use Rattle.sp_tree_events.specs.CopiesStanding.{CopyNets}
 use Rattle.sp_tree_events.specs.PartsAgreeing.{Agree}
 use Rattle.sp_tree_events.specs.ToldItems.{Item, operation, transfer, ListHas, CountersHave, SpansHave, NodeHas}
 use Rattle.sp_tree_events.specs.ToldLaws.{Does}
-use Rattle.sp_tree_copies.specs.Naming.{name_of, names_of, bound_names, span_names, load_names}
+use Rattle.sp_tree_copies.specs.Naming.{name_of, names_of, bound_names, span_names, transfer_names}
 use Rattle.sp_owner_runs.specs.Naming.{NameCopies}
 
 -- in two lists, one behind the other
@@ -175,22 +175,22 @@ span_name core around (range a b ∷ spans) n x j i e (inr h) d at =
     ∙ behind (names_of around a) (names_of around b ++ span_names around spans) (length (names_of around b) + j2)
     ∙ behind (names_of around b) (span_names around spans) j2 ∙ span_name core around spans (n + (length a + length b)) x j2 i e h d is
 
--- a load's own net is that of its memory, which its events touch that aren't of the DRAM
-pub load_long : (around : CopyNets) (m : ℕ) (spans : List PlainSpan) → length (load_names around m spans) ≡ spans_size spans + 1
-load_long around m spans = let a = both_long (span_names around spans) (around m ∷ []) in let b = spans_long around spans in omega (arith, a, b)
+-- a transfer's own net is that of its memory on the chip, which its events touch that aren't of the DRAM
+pub transfer_long : (around : CopyNets) (m : ℕ) (spans : List PlainSpan) → length (transfer_names around m spans) ≡ spans_size spans + 1
+transfer_long around m spans = let a = both_long (span_names around spans) (around m ∷ []) in let b = spans_long around spans in omega (arith, a, b)
 
-pub load_name : (core : PlainCore) (around : CopyNets) (r m : ℕ) (spans : List PlainSpan) (n x j : ℕ) (i : Item) (e : Event) → NodeHas (load r m spans) n x i → Does core i e → ((q k : ℕ) → NodeHas (load r m spans) n x (transfer q k) → e.mem ≡ k) → x ≡ n + j
-    → slice_index_or (load_names around m spans) j None ≡ around e.mem
-load_name core around r m spans n x j i e (inl h) d mine at =
+pub transfer_name : (core : PlainCore) (around : CopyNets) (r m : ℕ) (spans : List PlainSpan) (n x j : ℕ) (i : Item) (e : Event) → NodeHas (load r m spans) n x i → Does core i e → ((q k : ℕ) → NodeHas (load r m spans) n x (transfer q k) → e.mem ≡ k) → x ≡ n + j
+    → slice_index_or (transfer_names around m spans) j None ≡ around e.mem
+transfer_name core around r m spans n x j i e (inl h) d mine at =
     let w = spans_within spans n x i h in
     let l = spans_long around spans in
     before (span_names around spans) (around m ∷ []) j (omega (arith, w, l, at)) ∙ span_name core around spans n x j i e h d at
-load_name core around r m spans n x j (operation op) e (inr h) d mine at = absurd h
-load_name core around r m spans n x j (transfer q k) e (inr h) d mine at =
+transfer_name core around r m spans n x j (operation op) e (inr h) d mine at = absurd h
+transfer_name core around r m spans n x j (transfer q k) e (inr h) d mine at =
     let first = h.0 in
     let l = spans_long around spans in
     let same : length (span_names around spans) + 0 ≡ j = omega (arith, first, l, at) in
-    ap (λ p. slice_index_or (load_names around m spans) p None) (sym same) ∙ behind (span_names around spans) (around m ∷ []) 0 ∙ ap around (sym (mine q k (inr h) ∙ h.2))
+    ap (λ p. slice_index_or (transfer_names around m spans) p None) (sym same) ∙ behind (span_names around spans) (around m ∷ []) 0 ∙ ap around (sym (mine q k (inr h) ∙ h.2))
 
 -- what names the copies of events, list by list
 module _ (Of : (number mem : ℕ) → Type 0) (s : Signals) (t : ℕ) where

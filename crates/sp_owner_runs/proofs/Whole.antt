@@ -52,9 +52,17 @@ module _ (core : PlainCore) (plan : PlainPlan) (delays : Delays) (laws : Laws co
     all_keepings = λ u copy m v le own shown. absurd (among_nothing m (deed_is core plan delays laws (inner counters owned ops comb) k n (placed qs) u copy (kept m v) shown tt));
   }
 
-  -- nor does a load
+  -- nor does a load or a store
   load_acts : (r m : ℕ) (spans : List PlainSpan) (k n : ℕ) (qs : List Scoped) → ActOn core s t (all_events core plan delays (load r m spans) k n (placed qs)) [] [] []
   load_acts r m spans k n qs = record {
+    renews = λ r u there le on. absurd (none_there r there);
+    keeps = λ x u there le on. absurd (none_there x there);
+    all_renewals = λ u copy m le own counts shown. absurd (among_nothing m own);
+    all_keepings = λ u copy m v le own shown. absurd (among_nothing m own);
+  }
+
+  store_acts : (r m : ℕ) (spans : List PlainSpan) (k n : ℕ) (qs : List Scoped) → ActOn core s t (all_events core plan delays (store r m spans) k n (placed qs)) [] [] []
+  store_acts r m spans k n qs = record {
     renews = λ r u there le on. absurd (none_there r there);
     keeps = λ x u there le on. absurd (none_there x there);
     all_renewals = λ u copy m le own counts shown. absurd (among_nothing m own);
@@ -99,7 +107,8 @@ module _ (core : PlainCore) (plan : PlainPlan) (delays : Delays) (laws : Laws co
         are_those core s t (all_events core plan delays (inner counters owned ops comb) k n (placed qs)) owned renewals [] keepings [] owners.1 owners.2 (inner_acts counters owned ops comb k n qs)
     acts (load r m spans) near env around earlier k n from until qs c is right did w goes copies names renewals keepings owners stand =
         are_those core s t (all_events core plan delays (load r m spans) k n (placed qs)) [] renewals [] keepings [] owners.1 owners.2 (load_acts r m spans k n qs)
-    acts (store r m spans) near env around earlier k n from until qs c is right did w goes copies names renewals keepings owners stand = elim owners [ ]
+    acts (store r m spans) near env around earlier k n from until qs c is right did w goes copies names renewals keepings owners stand =
+        are_those core s t (all_events core plan delays (store r m spans) k n (placed qs)) [] renewals [] keepings [] owners.1 owners.2 (store_acts r m spans k n qs)
     acts (sparse kind r m places spans count par) near env around earlier k n from until qs c is right did w goes copies names renewals keepings owners stand = elim is [ ]
 
     stages_act : (stages : PlainStages) (near : List Near) (around : Around) (earlier : List ℕ) (j n i from until : ℕ) (whole : List Stamped) (nets : (stage : ℕ) → Nets) (qs : (stage : ℕ) → List Scoped) (copies : (stage : ℕ) → CopyNets) (child : (stage : ℕ) → Child) → AreTimed stages → AreRight core around earlier stages

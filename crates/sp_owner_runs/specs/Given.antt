@@ -9,7 +9,7 @@ use Rattle.sp_node_runs.specs.RunsLaws.{SidesComeInTurn, BodiesComeInTurn, Stage
 use Rattle.sp_tree_runs.specs.BodiesScoped.{ScopedParts}
 use Rattle.sp_tree_events.specs.ActsKeeping.{MachinesKeep}
 use Rattle.sp_tree_events.specs.ActsRenewing.{LoopsRenew}
-use Rattle.sp_tree_events.specs.CopiesLaws.{NumbersStand, InnersNameCopies, ListsNameCopies, LoadsNameCopies}
+use Rattle.sp_tree_events.specs.CopiesLaws.{NumbersStand, InnersNameCopies, ListsNameCopies, LoadsNameCopies, StoresNameCopies}
 use Rattle.sp_tree_events.specs.OwnersOwning.{RunsOwn, SidesOwn, BodiesOwn, StagesOwn}
 use Rattle.sp_tree_events.specs.PartsAgreeing.{SidesAgree, MachinesAgree, StagesAgree}
 use Rattle.sp_tree_events.specs.PartsLists.{BranchTestsAgree, MachineListsAgree}
@@ -42,4 +42,5 @@ pub record Laws (core : PlainCore) (plan : PlainPlan) (delays : Delays) : Type 0
   pub inners_name : InnersNameCopies core plan delays
   pub lists_name : ListsNameCopies core plan delays
   pub loads_name : LoadsNameCopies core plan delays
+  pub stores_name : StoresNameCopies core plan delays
   pub one : (node : PlainNode) → NumbersStandForOne node

@@ -1,4 +1,4 @@
--- By their nets the operations and loads in the circuit of a tree name the copies of the events of their numbers, as statements.
+-- By their nets the operations and transfers in the circuit of a tree name the copies of the events of their numbers, as statements.
 use Rattle.std.specs.Prelude.{◌≡◌, ℕ, suc, ◌+◌, ◌<◌, ◌≤◌, List, [], ◌∷◌, length, slice_index_or, Option, None}
 use Rattle.sp_netlist.specs.declared.parts.Child.{Child}
 use Rattle.sp_netlist.specs.Signals.{Signals}
@@ -29,7 +29,7 @@ use Rattle.sp_tree_circuits.specs.Laws.{DidRuns, core_run, core_events}
 use Rattle.sp_tree_events.specs.CopiesStanding.{CopyNets, no_numbers}
 use Rattle.sp_tree_events.specs.ToldItems.{operation, transfer, NodeHas}
 use Rattle.sp_memory_words.specs.Answers.{NamesCopies}
-use Rattle.sp_bank_words.specs.Accesses.{writes_in}
+use Rattle.sp_bank_words.specs.Accesses.{reads_in, writes_in}
 use Rattle.sp_tree_handed.specs.declared.owners.Keeping.{Keeping}
 use Rattle.sp_tree_handed.specs.declared.owners.Renewal.{Renewal}
 use Rattle.sp_tree_copies.specs.Naming.{HaveCopies, AreNamed}
@@ -45,8 +45,8 @@ NameCopies Of s events t first names = (i : ℕ) → i < length names → (u : �
 
 module _ (core : PlainCore) (plan : PlainPlan) (delays : Delays) where
   -- Where the circuit of a node goes as the timeline says, up to a cycle, in runs that did what its operations do, and up to the cycle after
-  -- it the numbers of copies around it stand, each of its operations and loads has a net, which names the copies of its events, of a load
-  -- those of its events that touch its memory.
+  -- it the numbers of copies around it stand, each of its operations and transfers has a net, which names the copies of its events, of a
+  -- transfer those of its events that touch its memory on the chip.
   abbrev pub TreesNameCopies : Type 0
   TreesNameCopies =
       (s : Signals) (events : List Stamped) (node : PlainNode) (near : List Near) (env : Nets) (around : Around) (earlier : List ℕ) (k n from until : ℕ) (qs : List Scoped) (c : Child)
@@ -71,6 +71,11 @@ module _ (core : PlainCore) (plan : PlainPlan) (delays : Delays) where
   abbrev pub CoresNameLoads : Type 0
   CoresNameLoads =
       InCores (λ s events t names. (number dram m : ℕ) → NodeHas core.root 0 number (transfer dram m) → NamesCopies s (writes_in m events) t number (slice_index_or names number None))
+
+  -- and that of each store those of its reads of its memory
+  abbrev pub CoresNameStores : Type 0
+  CoresNameStores =
+      InCores (λ s events t names. (number dram m : ℕ) → NodeHas core.root 0 number (transfer dram m) → NamesCopies s (reads_in m events) t number (slice_index_or names number None))
 
 -- What these laws ask of a plan: each memory of the core has a copy, and the times of loop bodies are kept.
 pub record HasNumbers (core : PlainCore) (plan : PlainPlan) : Type 0 where

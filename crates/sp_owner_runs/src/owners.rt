@@ -5,7 +5,7 @@ ghost use Rattle.sp_machine.specs.Transfers.{Delays};
 ghost use Rattle.sp_owner_runs.specs.Acting.{CoresOwn, TreesOwn};
 ghost use Rattle.sp_owner_runs.specs.Example.{WorkedNets};
 ghost use Rattle.sp_owner_runs.specs.Given.{Laws};
-ghost use Rattle.sp_owner_runs.specs.Naming.{CoresNameCopies, CoresNameLoads, PlansHaveNumbers, TreesNameCopies};
+ghost use Rattle.sp_owner_runs.specs.Naming.{CoresNameCopies, CoresNameLoads, CoresNameStores, PlansHaveNumbers, TreesNameCopies};
 ghost use Rattle.sp_plan.specs.PlainPlan.{PlainPlan};
 
 use crate::deeds::owners_do;
@@ -19,7 +19,7 @@ use sp_tree_events::{
     bodies_own, branch_tests_agree, inners_name_copies, lists_name_copies, loads_name_copies,
     loops_renew, machine_lists_agree, machines_agree, machines_keep, numbers_are_within,
     numbers_stand, numbers_stand_for_one, runs_own, sides_agree, sides_own, stages_agree,
-    stages_own,
+    stages_own, stores_name_copies,
 };
 use sp_tree_runs::parts_are_done;
 
@@ -52,11 +52,12 @@ fn laws_below()
     inners_name_copies();
     lists_name_copies();
     loads_name_copies();
+    stores_name_copies();
     numbers_stand_for_one();
 }
 
 /// Where the circuit of a node goes as the timeline says up to a cycle, and up to the cycle after it the numbers of copies around the
-/// node stand, the nets that its operations and loads have name the copies of their events.
+/// node stand, the nets that its operations and transfers have name the copies of their events.
 pub fn trees_name_copies()
     ensures { (core : PlainCore) (plan : PlainPlan) (delays : Delays) → TreesNameCopies core plan delays }
 {
@@ -74,6 +75,14 @@ pub fn cores_name_copies()
 /// And those of its loads name the copies that they write, among the events that write their memories.
 pub fn cores_name_loads()
     ensures { (core : PlainCore) (plan : PlainPlan) (delays : Delays) → CoresNameLoads core plan delays }
+{
+    laws_below();
+    trees_name_copies();
+}
+
+/// And those of its stores name the copies that they read, among the events that read their memories.
+pub fn cores_name_stores()
+    ensures { (core : PlainCore) (plan : PlainPlan) (delays : Delays) → CoresNameStores core plan delays }
 {
     laws_below();
     trees_name_copies();

@@ -21,7 +21,7 @@ use Rattle.sp_core.specs.Sequential.{has_reset}
 use Rattle.sp_core.specs.Transfers.{Part, part_of, lengths, has_none, all_offsets, loaded_at}
 use Rattle.sp_time.specs.Lists.{Each}
 use Rattle.sp_tree_events.specs.ToldItems.{Item, operation, transfer, ListHas, CountersHave, SpansHave, NodeHas, StagesHave}
-use Rattle.sp_tree_nets.specs.Emitted.{HasNoStore, HaveNoStore}
+use Rattle.sp_tree_handed.specs.Loads.{HasNoStore, HaveNoStore}
 use Rattle.sp_stored_cores.specs.Outside.{StoresNone, IsNoStore, NothingIsStored}
 use Rattle.sp_stored_cores.proofs.OnChip.{on_chip, list_names, word_names, all_counters, owned_pass, parts, load_names}
 

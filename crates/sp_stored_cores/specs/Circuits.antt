@@ -22,7 +22,7 @@ use Rattle.sp_tree_events.specs.CopiesStanding.{no_numbers}
 use Rattle.sp_tree_handed.specs.declared.owners.OwnerNets.{OwnerNets}
 use Rattle.sp_tree_handed.specs.Standing.{AccessStands, BoundsReadArguments}
 use Rattle.sp_tree_copies.specs.Naming.{AreNamed}
-use Rattle.sp_tree_nets.specs.Emitted.{HasNoStore}
+use Rattle.sp_tree_handed.specs.Loads.{HasNoStore}
 use Rattle.sp_tree_nets.specs.Handed.{AreHanded}
 use Rattle.sp_tree_accesses.specs.Laws.{AreTreeAccesses}
 use Rattle.sp_tree_accesses.specs.Queued.{QueuedStands}

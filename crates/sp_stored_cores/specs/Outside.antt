@@ -20,7 +20,7 @@ use Rattle.sp_machine.specs.Timeline.{core_timed}
 use Rattle.sp_machine.specs.Transfers.{Delays}
 use Rattle.sp_tree_events.specs.ToldItems.{Item, operation, transfer, NodeHas}
 use Rattle.sp_bank_runs.specs.Laws.{GoesWell}
-use Rattle.sp_tree_nets.specs.Emitted.{HasNoStore}
+use Rattle.sp_tree_handed.specs.Loads.{HasNoStore}
 
 -- an operation names a memory on the chip; a load reads its DRAM, and changes a memory on the chip
 abbrev pub StoresNone : PlainCore → Item → Event → Type 0

@@ -10,16 +10,18 @@ use Rattle.sp_plan.specs.PlainPlan.{PlainPlan}
 use Rattle.sp_op_nets.specs.Reserved.{Rise}
 use Rattle.sp_load_units.specs.declared.unit.LoadUnit.{LoadUnit}
 use Rattle.sp_load_units.specs.Units.{unit_wires_in, UnitsStand, HaveDone}
+use Rattle.sp_tree_handed.specs.Loads.{HasNoStore}
 use Rattle.sp_tree_handed.specs.Moves.{HaveEnds}
 use Rattle.sp_tree_handed.specs.Standing.{BoundsReadArguments}
 use Rattle.sp_tree_nets.specs.Whole.{HasTreePlan}
 use Rattle.sp_array_nets.specs.Banks.{HasArrayPlan}
 use Rattle.sp_array_nets.specs.Kinds.{AreEmitted}
 
--- the tree and the banks of SRAMs can be emitted by the plan, all memories are registers, arguments, outputs, SRAMs and FIFOs, and bounds
--- and slices read arguments alone
+-- the tree and the banks of SRAMs can be emitted by the plan, all transfers are loads, all memories are registers, arguments, outputs,
+-- SRAMs and FIFOs, and bounds and slices read arguments alone
 pub record CanEmitStored (core : PlainCore) (plan : PlainPlan) : Type 0 where
   pub planned : HasTreePlan core plan
+  pub loads_alone : HasNoStore core.root
   pub stored : AreEmitted core
   pub arrays : HasArrayPlan core plan
   pub bounds : BoundsReadArguments core core.root

@@ -52,7 +52,7 @@ names_core core plan turns kept loops node around a b is names renewed kept_none
       loop = loop;
       state = state;
     } in
-    let x = all h.loads_alone (let e = h.valid.nodes in omega (arith, e)) (λ m own. have m (owned_within core nothing [] core.root core_is.nodes m own)) s zips [] env c w turns kept next turn in
+    let x = all (let e = h.valid.nodes in omega (arith, e)) (λ m own. have m (owned_within core nothing [] core.root core_is.nodes m own)) s zips [] env c w turns kept next turn in
     let ns = x.adds.names_are ∙ ap (λ l. l ++ x.names) names in
     let rs = x.adds.renewed_are ∙ ap (λ l. l ++ x.renewed) renewed in
     let ks = x.adds.kept_are ∙ ap (λ l. l ++ x.kept) kept_none in

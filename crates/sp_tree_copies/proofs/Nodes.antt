@@ -8,7 +8,7 @@ use Rattle.sp_core.specs.Around.{Near}
 use Rattle.sp_core.specs.Declarations.{is_among}
 use Rattle.sp_core.specs.Invariant.{owned_in}
 use Rattle.sp_core.specs.Numbering.{node_count}
-use Rattle.sp_core.specs.PlainCore.{PlainOp, PlainCounter, PlainSpan, PlainNode, PlainStages, inner, fsm, branch, load, no_stage, more_stage, PlainCore}
+use Rattle.sp_core.specs.PlainCore.{PlainOp, PlainCounter, PlainSpan, PlainNode, PlainStages, inner, fsm, branch, load, store, no_stage, more_stage, PlainCore}
 use Rattle.sp_plan.specs.PlainPlan.{PlainNodePlan, inner_plan, outer_plan, other_plan, PlainPlan}
 use Rattle.sp_plan.specs.Validity.{stage_count}
 use Rattle.sp_time.specs.Beats.{slot_at}
@@ -23,7 +23,7 @@ use Rattle.sp_tree_handed.specs.declared.owners.Renewal.{Renewal}
 use Rattle.sp_tree_handed.specs.Owners.{keeping}
 use Rattle.sp_tree_copies.specs.declared.numbers.LoopCopies.{LoopCopies}
 use Rattle.sp_tree_copies.specs.declared.walk.Walk.{Walk}
-use Rattle.sp_tree_copies.specs.Naming.{names_of, bound_names, load_names, AreNamed, StagesNamed}
+use Rattle.sp_tree_copies.specs.Naming.{names_of, bound_names, transfer_names, AreNamed, StagesNamed}
 use Rattle.sp_tree_copies.specs.Walks.{Adds, KeepsNext, nets_in, IsNext, WalksNode}
 use Rattle.sp_tree_copies.proofs.Nexting.{next_later, first_next, second_next}
 use Rattle.sp_tree_copies.proofs.Walking.{adds_join}
@@ -100,7 +100,7 @@ module _ (core : PlainCore) (plan : PlainPlan) (turns : List LoopTurns) (kept : 
       all = adds_join (bound_names around counters) (names_of around ops) [] [] [] [] 0 0 0 0 a b c (subst (λ v. Adds (bound_names around v) [] [] 0 0 a b) counters_is f) (subst (λ v. Adds (names_of around v) [] [] 0 0 b c) ops_is g)
 
       walks : Walks (inner counters owned ops comb) k around a c
-      walks none planned copied s zips near env child w now now_kept next turn = record {
+      walks planned copied s zips near env child w now now_kept next turn = record {
         names = bound_names around counters ++ names_of around ops;
         renewed = [];
         kept = [];
@@ -108,15 +108,27 @@ module _ (core : PlainCore) (plan : PlainPlan) (turns : List LoopTurns) (kept : 
         named = (refl, refl, refl);
       }
 
-  pub load_walks : (node : PlainNode) (r m : ℕ) (spans own_spans : List PlainSpan) (k : ℕ) (around : CopyNets) (a c : Walk) → node ≡ load r m spans → own_spans ≡ spans → Adds (load_names around m own_spans) [] [] 0 0 a c → Walks node k around a c
+  pub load_walks : (node : PlainNode) (r m : ℕ) (spans own_spans : List PlainSpan) (k : ℕ) (around : CopyNets) (a c : Walk) → node ≡ load r m spans → own_spans ≡ spans → Adds (transfer_names around m own_spans) [] [] 0 0 a c → Walks node k around a c
   load_walks node r m spans own_spans k around a c is spans_is f = subst (λ v. Walks v k around a c) (sym is) walks
     where
       walks : Walks (load r m spans) k around a c
-      walks none planned copied s zips near env child w now now_kept next turn = record {
-        names = load_names around m spans;
+      walks planned copied s zips near env child w now now_kept next turn = record {
+        names = transfer_names around m spans;
         renewed = [];
         kept = [];
-        adds = adds_as _ _ [] [] [] [] 0 (length now) 0 (length now_kept) a c refl refl refl (sym (ap (λ xs. length xs) turn.0)) (sym (ap (λ xs. length xs) turn.1)) (subst (λ v. Adds (load_names around m v) [] [] 0 0 a c) spans_is f);
+        adds = adds_as _ _ [] [] [] [] 0 (length now) 0 (length now_kept) a c refl refl refl (sym (ap (λ xs. length xs) turn.0)) (sym (ap (λ xs. length xs) turn.1)) (subst (λ v. Adds (transfer_names around m v) [] [] 0 0 a c) spans_is f);
+        named = (refl, refl, refl);
+      }
+
+  pub store_walks : (node : PlainNode) (r m : ℕ) (spans own_spans : List PlainSpan) (k : ℕ) (around : CopyNets) (a c : Walk) → node ≡ store r m spans → own_spans ≡ spans → Adds (transfer_names around m own_spans) [] [] 0 0 a c → Walks node k around a c
+  store_walks node r m spans own_spans k around a c is spans_is f = subst (λ v. Walks v k around a c) (sym is) walks
+    where
+      walks : Walks (store r m spans) k around a c
+      walks planned copied s zips near env child w now now_kept next turn = record {
+        names = transfer_names around m spans;
+        renewed = [];
+        kept = [];
+        adds = adds_as _ _ [] [] [] [] 0 (length now) 0 (length now_kept) a c refl refl refl (sym (ap (λ xs. length xs) turn.0)) (sym (ap (λ xs. length xs) turn.1)) (subst (λ v. Adds (transfer_names around m v) [] [] 0 0 a c) spans_is f);
         named = (refl, refl, refl);
       }
 
@@ -134,12 +146,12 @@ module _ (core : PlainCore) (plan : PlainPlan) (turns : List LoopTurns) (kept : 
       seconds = subst (λ v. Walks second v around m c) (omega (arith, third_is, j_is, count_is)) (subst (λ v. Walks v third around m c) other_is h)
 
       walks : Walks (branch ops first second) k around a c
-      walks none planned copied s zips near env child w now now_kept next turn =
+      walks planned copied s zips near env child w now now_kept next turn =
           let z = tests.loops_are in
           let y = tests.states_are in
           let start = next_later turns kept now now_kept a b next (omega (arith, z)) (omega (arith, y)) in
-          let x = firsts none.0 (omega (arith, planned)) (λ m h. copied m (among_left m (owned_in first) (owned_in second) h)) s zips near env w.chosen w.one turn.one turn.one_kept (first_next turns kept turn.one turn.other now turn.one_kept turn.other_kept now_kept b turn.turns_are turn.kept_are start) turn.first in
-          let u = seconds none.1 (omega (arith, planned)) (λ m h. copied m (among_right m (owned_in first) (owned_in second) h)) s zips near env w.left w.other turn.other turn.other_kept
+          let x = firsts (omega (arith, planned)) (λ m h. copied m (among_left m (owned_in first) (owned_in second) h)) s zips near env w.chosen w.one turn.one turn.one_kept (first_next turns kept turn.one turn.other now turn.one_kept turn.other_kept now_kept b turn.turns_are turn.kept_are start) turn.first in
+          let u = seconds (omega (arith, planned)) (λ m h. copied m (among_right m (owned_in first) (owned_in second) h)) s zips near env w.left w.other turn.other turn.other_kept
           (second_next turns kept turn.one turn.other now turn.one_kept turn.other_kept now_kept b turn.turns_are turn.kept_are start m x.adds.loops_are x.adds.states_are) turn.second in
           let l = ap (λ xs. length xs) turn.turns_are ∙ length-append turn.one turn.other in
           let q = ap (λ xs. length xs) turn.kept_are ∙ length-append turn.one_kept turn.other_kept in
@@ -183,7 +195,7 @@ module _ (core : PlainCore) (plan : PlainPlan) (turns : List LoopTurns) (kept : 
       afters = subst (λ v. Adds (names_of around v) [] [] 0 0 r c) after_is i
 
       walks : Walks (fsm start state test body after) k around a c
-      walks none planned copied s zips near env child w now now_kept next turn =
+      walks planned copied s zips near env child w now now_kept next turn =
           let one : Keeping = keeping state w.first.done w.begun None in
           let two : Keeping = keeping state w.next.done w.stepped None in
           let z0 = starts.loops_are in
@@ -210,7 +222,7 @@ module _ (core : PlainCore) (plan : PlainPlan) (turns : List LoopTurns) (kept : 
             loop = (let e = next.loop in omega (arith, e, z0, z1, z2, z3));
             state = omega (arith, y0, y1, y2, y3, at, l2);
           } in
-          let x = bodies none (omega (arith, planned)) (λ m h. copied m (among_right m (state ∷ []) (owned_in body) h)) s zips near env w.body w.goes now turn.rest begun turn.body in
+          let x = bodies (omega (arith, planned)) (λ m h. copied m (among_right m (state ∷ []) (owned_in body) h)) s zips near env w.body w.goes now turn.rest begun turn.body in
           let own : List Keeping = keeping state w.first.done w.begun (around state) ∷ keeping state w.next.done w.stepped (around state) ∷ [] in
           let n = ap (λ xs. length xs) turn.kept_are in
           record {

@@ -38,7 +38,7 @@ inside_all around owned nets e = fun_ext (λ m. ap (λ b. if b then with_numbers
 
 module _ (core : PlainCore) (plan : PlainPlan) (turns : List LoopTurns) (kept : List Keeping) (loops : List LoopCopies) where
   pub no_stages_walk : (k i : ℕ) (around : (stage : ℕ) → CopyNets) (a : Walk) → WalksStages core plan turns kept loops no_stage k i around a a
-  no_stages_walk k i around a none planned copied s zips near nets child w now now_kept next turn = record {
+  no_stages_walk k i around a planned copied s zips near nets child w now now_kept next turn = record {
     names = [];
     renewed = [];
     kept = [];
@@ -48,10 +48,10 @@ module _ (core : PlainCore) (plan : PlainPlan) (turns : List LoopTurns) (kept : 
 
   pub stages_walk : (first last : ℕ) (comb : Bool) (node : PlainNode) (rest : PlainStages) (k i : ℕ) (around : (stage : ℕ) → CopyNets) (a b c : Walk) → WalksNode core plan turns kept loops node k (around i) a b → WalksStages core plan turns kept loops rest (k + node_count node) (suc i) around b c
       → WalksStages core plan turns kept loops (more_stage first last comb node rest) k i around a c
-  stages_walk first last comb node rest k i around a b c f g none planned copied s zips near nets child w now now_kept next turn =
-      let x = f none.0 (omega (arith, planned)) (λ m h. copied m (among_left m (owned_in node) (owned_in_stages rest) h)) s zips near (nets i) (child i) w.0 turn.one turn.one_kept
+  stages_walk first last comb node rest k i around a b c f g planned copied s zips near nets child w now now_kept next turn =
+      let x = f (omega (arith, planned)) (λ m h. copied m (among_left m (owned_in node) (owned_in_stages rest) h)) s zips near (nets i) (child i) w.0 turn.one turn.one_kept
       (first_next turns kept turn.one turn.other now turn.one_kept turn.other_kept now_kept a turn.turns_are turn.kept_are next) turn.first in
-      let u = g none.1 (omega (arith, planned)) (λ m h. copied m (among_right m (owned_in node) (owned_in_stages rest) h)) s zips near nets child w.1 turn.other turn.other_kept
+      let u = g (omega (arith, planned)) (λ m h. copied m (among_right m (owned_in node) (owned_in_stages rest) h)) s zips near nets child w.1 turn.other turn.other_kept
       (second_next turns kept turn.one turn.other now turn.one_kept turn.other_kept now_kept a turn.turns_are turn.kept_are next b x.adds.loops_are x.adds.states_are) turn.second in
       let l = ap (λ xs. length xs) turn.turns_are ∙ length-append turn.one turn.other in
       let q = ap (λ xs. length xs) turn.kept_are ∙ length-append turn.one_kept turn.other_kept in
@@ -78,7 +78,7 @@ module _ (core : PlainCore) (plan : PlainPlan) (turns : List LoopTurns) (kept : 
   -- the bounds of a loop, what it does to its memories, and then its stages
   loop_walks : (counters : List PlainCounter) (style : Style) (owned : List ℕ) (stages : PlainStages) (k : ℕ) (around : CopyNets) (a b m c : Walk) → Adds (bound_names around counters) [] [] 0 0 a b → RenewsNext core (node_plan plan k) stages owned turns loops b m
       → WalksStages core plan turns kept loops stages (suc k) 0 (inside_stage (node_plan plan k) around owned loops a.loops) m c → WalksNode core plan turns kept loops (outer counters style owned stages) k around a c
-  loop_walks counters style owned stages k around a b m c bounds renews inside_walk none planned copied s zips near env child w now now_kept next turn =
+  loop_walks counters style owned stages k around a b m c bounds renews inside_walk planned copied s zips near env child w now now_kept next turn =
       let own : LoopTurns = turn.own in
       let z = bounds.loops_are in
       let y = bounds.states_are in
@@ -103,7 +103,7 @@ module _ (core : PlainCore) (plan : PlainPlan) (turns : List LoopTurns) (kept : 
         loop = omega (arith, z, z1, at, long);
         state = (let e = next.state in omega (arith, y, y1, e));
       } in
-      let x = inside_walk none (omega (arith, planned)) (λ x h. copied x (among_right x owned (owned_in_stages stages) h)) s zips _ _ w.child w.parts turn.rest now_kept begun turn.stages in
+      let x = inside_walk (omega (arith, planned)) (λ x h. copied x (among_right x owned (owned_in_stages stages) h)) s zips _ _ w.child w.parts turn.rest now_kept begun turn.stages in
       let numbers : ℕ → CopyNets = λ slot. own_numbers owned (slot_numbers zip.u.numbers.items slot) in
       let coming : ℕ → CopyNets = λ slot. own_numbers owned (slot_numbers zip.u.coming.items slot) in
       let loop : LoopNumbers plan s child.start w.firsts owned = record {

@@ -20,7 +20,7 @@ use Rattle.sp_tree_handed.specs.Owners.{renewal, keeping}
 use Rattle.sp_tree_handed.specs.Standing.{KeepingStands, AreOwnersStanding}
 use Rattle.sp_tree_copies.specs.declared.numbers.LoopCopies.{LoopCopies}
 use Rattle.sp_tree_copies.specs.declared.walk.Walk.{Walk}
-use Rattle.sp_tree_copies.specs.Naming.{name_of, names_of, bound_names, span_names, load_names, renewed_by}
+use Rattle.sp_tree_copies.specs.Naming.{name_of, names_of, bound_names, span_names, transfer_names, renewed_by}
 use Rattle.sp_tree_copies.specs.Walks.{Adds, AllStand, WalkStands}
 use Rattle.sp_tree_copies.proofs.Tables.{net_fits, name_fits, stand_more}
 
@@ -119,7 +119,7 @@ span_step around front next span a b c next_is h f =
 
 -- and behind them the net of a load's memory
 pub load_adds : (around : CopyNets) (m : ℕ) (spans own : List CoreSpan) (net : Option ℕ) (a b c : Walk) → own ≡ spans → net ≡ around m → c.names.items ≡ b.names.items ++ net ∷ [] → c.renewed.items ≡ b.renewed.items → c.kept.items ≡ b.kept.items → c.loops ≡ b.loops → c.states ≡ b.states
-    → Adds (span_names around (map plain_span own)) [] [] 0 0 a b → Adds (load_names around m (map plain_span spans)) [] [] 0 0 a c
+    → Adds (span_names around (map plain_span own)) [] [] 0 0 a b → Adds (transfer_names around m (map plain_span spans)) [] [] 0 0 a c
 load_adds around m spans own net a b c own_is net_is names renewed kept loops states h =
     names_join (span_names around (map plain_span spans)) (around m ∷ []) a b c (subst (λ l. Adds (span_names around (map plain_span l)) [] [] 0 0 a b) own_is h) (record {
       names_are = names ∙ ap (λ n. b.names.items ++ n ∷ []) net_is;

@@ -1,6 +1,6 @@
 -- Which nets have the numbers of copies in the circuit of a tree. Of an operation it is the net of its memory's copy, by what stands around
--- its list, and of a load that of the memory it fills, by what stands around the load: inside of a loop the memories that it owns are in the copies of the group that the stage's slot has, and all others in those
--- around. An FSM keeps its state in the copy around it, and a loop makes a memory fresh in the copy of the group that comes to the first
+-- its list, and of a load or a store that of its memory on the chip, by what stands around the transfer: inside of a loop the memories that it owns are in the copies
+-- of the group that the stage's slot has, and all others in those around. An FSM keeps its state in the copy around it, and a loop makes a memory fresh in the copy of the group that comes to the first
 -- slot that uses it.
 use Rattle.std.specs.Prelude.{◌≡◌, ℕ, suc, ◌+◌, ◌<◌, ◌≤◌, List, [], ◌∷◌, ◌++◌, length, map, slice_index, Option, Some, None}
 use Rattle.sp_netlist.specs.declared.parts.Child.{Child}
@@ -45,9 +45,9 @@ span_names around [] = []
 span_names around (single ops ∷ spans) = names_of around ops ++ span_names around spans
 span_names around (range a b ∷ spans) = names_of around a ++ (names_of around b ++ span_names around spans)
 
--- a load has its number behind those of its spans' operations
-abbrev pub load_names : CopyNets → (mem : ℕ) → List PlainSpan → List (Option ℕ)
-load_names around m spans = span_names around spans ++ around m ∷ []
+-- a transfer has its number behind those of its spans' operations
+abbrev pub transfer_names : CopyNets → (mem : ℕ) → List PlainSpan → List (Option ℕ)
+transfer_names around m spans = span_names around spans ++ around m ∷ []
 
 -- the memories that a loop owns have numbers for each of its slots, and others in the cycles in which a slot gets a group
 pub record LoopNumbers (plan : PlainPlan) (s : Signals) (start : ℕ) (firsts owned : List ℕ) : Type 0 where
@@ -99,7 +99,7 @@ abbrev pub OfNone : (own : List (Option ℕ)) → Said
 OfNone own names renewed kept = (names ≡ own) × (renewed ≡ []) × (kept ≡ [])
 
 -- In a run: the nets by which the operations of a part name the copies of their memories, and its owners with the nets of theirs, by those
--- that stand around the part. Of transfers loads alone are named.
+-- that stand around the part. Of transfers loads and stores are named.
 module _ (core : PlainCore) (plan : PlainPlan) (s : Signals) where
   abbrev mutual
     pub AreNamed : (node : PlainNode) (near : List Near) (env : Nets) (k : ℕ) (c : Child) → Circuit core plan s node near env k c → (around : CopyNets) → Said
@@ -113,8 +113,8 @@ module _ (core : PlainCore) (plan : PlainPlan) (s : Signals) where
         (λ numbers. StagesNamed stages (own_near counters near) (suc k) 0 (λ i. slot_nets w.nets w.rows env counters (slot_at (slots_of (node_plan plan k)) i).slot) w.child w.parts
         (λ i. with_numbers around owned (numbers (slot_at (slots_of (node_plan plan k)) i).slot))) names renewed kept
     AreNamed (inner counters owned ops comb) near env k c w around names renewed kept = OfNone (bound_names around counters ++ names_of around ops) names renewed kept
-    AreNamed (load r m spans) near env k c w around names renewed kept = OfNone (load_names around m spans) names renewed kept
-    AreNamed (store r m spans) near env k c w around names renewed kept = ⊥
+    AreNamed (load r m spans) near env k c w around names renewed kept = OfNone (transfer_names around m spans) names renewed kept
+    AreNamed (store r m spans) near env k c w around names renewed kept = OfNone (transfer_names around m spans) names renewed kept
     AreNamed (sparse kind r m places spans count par) near env k c w around names renewed kept = ⊥
 
     pub StagesNamed : (stages : PlainStages) (near : List Near) (j i : ℕ) (nets : (stage : ℕ) → Nets) (child : (stage : ℕ) → Child) → StageCircuits core plan s stages near j i nets child → (around : (stage : ℕ) → CopyNets) → Said

@@ -22,7 +22,6 @@ use Rattle.sp_tree_handed.specs.declared.owners.LoopTurns.{LoopTurns}
 use Rattle.sp_tree_handed.specs.declared.owners.Renewal.{Renewal}
 use Rattle.sp_tree_handed.specs.Owners.{first_use, keeping, AreTurns, StagesTurn}
 use Rattle.sp_tree_handed.specs.Standing.{AreTurnsStanding, AreOwnersStanding}
-use Rattle.sp_tree_nets.specs.Emitted.{HasNoStore, HaveNoStore}
 use Rattle.sp_tree_copies.specs.declared.numbers.LoopCopies.{LoopCopies}
 use Rattle.sp_tree_copies.specs.declared.walk.Walk.{Walk}
 use Rattle.sp_tree_copies.specs.Loops.{HasCopies, CopiesStand}
@@ -89,14 +88,14 @@ module _ (core : PlainCore) (plan : PlainPlan) (turns : List LoopTurns) (kept : 
   -- so it is with each circuit of a part
   abbrev pub WalksNode : PlainNode → (k : ℕ) → CopyNets → (before after : Walk) → Type 0
   WalksNode node k around before after =
-      HasNoStore node → k + node_count node ≤ length plan.nodes → AreCopied plan (owned_in node) → (s : Signals) → AllZip (HasCopies plan s) turns loops
+      k + node_count node ≤ length plan.nodes → AreCopied plan (owned_in node) → (s : Signals) → AllZip (HasCopies plan s) turns loops
       → (near : List Near) (env : Nets) (c : Child) (w : Circuit core plan s node near env k c) (now : List LoopTurns) (now_kept : List Keeping) → IsNext turns kept now now_kept before → AreTurns core plan s node near env k c w now now_kept
       → Walked (AreNamed core plan s node near env k c w around) now now_kept before after
 
   -- and of stages, from one on
   abbrev pub WalksStages : PlainStages → (k i : ℕ) → (around : (stage : ℕ) → CopyNets) → (before after : Walk) → Type 0
   WalksStages stages k i around before after =
-      HaveNoStore stages → k + node_count_in stages ≤ length plan.nodes → AreCopied plan (owned_in_stages stages) → (s : Signals) → AllZip (HasCopies plan s) turns loops
+      k + node_count_in stages ≤ length plan.nodes → AreCopied plan (owned_in_stages stages) → (s : Signals) → AllZip (HasCopies plan s) turns loops
       → (near : List Near) (nets : (stage : ℕ) → Nets) (child : (stage : ℕ) → Child) (w : StageCircuits core plan s stages near k i nets child) (now : List LoopTurns) (now_kept : List Keeping) → IsNext turns kept now now_kept before → StagesTurn core plan s stages near k i nets child w now now_kept
       → Walked (StagesNamed core plan s stages near k i nets child w around) now now_kept before after
 

@@ -22,7 +22,7 @@ use sp_plan::Plan;
 use sp_tree_handed::{OwnerNets, TreeOwners};
 use std::alloc::Global;
 
-/// By the number of each operation and each load the net of its memory's copy, and the owners with those of theirs; none where a memory is in copy 0.
+/// By the number of each operation and each transfer the net of its memory's copy, and the owners with those of theirs; none where a memory is in copy 0.
 #[derive(Debug, Drop)]
 pub struct NamedCopies {
     pub names: Vec<Option<NetId>>,

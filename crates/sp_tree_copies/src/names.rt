@@ -1,4 +1,4 @@
-//! The nets of copies by which the operations of lists, loads and the states of FSMs are named.
+//! The nets of copies by which the operations of lists, transfers and the states of FSMs are named.
 ghost use Rattle.std.specs.Prelude.{◌≡◌, [], ◌∷◌, map, List, OnOk};
 ghost use Rattle.sp_core.specs.Plain.{plain_counter, plain_ops, plain_span};
 ghost use Rattle.sp_core.specs.PlainCore.{PlainCore};
@@ -6,7 +6,7 @@ ghost use Rattle.sp_copy_nets.specs.Table.{numbers_at};
 ghost use Rattle.sp_tree_handed.specs.declared.owners.LoopTurns.{LoopTurns};
 ghost use Rattle.sp_tree_copies.specs.declared.numbers.LoopCopies.{LoopCopies};
 ghost use Rattle.sp_tree_handed.specs.declared.owners.Keeping.{Keeping};
-ghost use Rattle.sp_tree_copies.specs.Naming.{bound_names, load_names, name_of, names_of, span_names};
+ghost use Rattle.sp_tree_copies.specs.Naming.{bound_names, transfer_names, name_of, names_of, span_names};
 ghost use Rattle.sp_tree_copies.specs.Walks.{Adds, KeepsNext, KeepsStanding};
 
 use crate::walk::Walk;
@@ -90,14 +90,14 @@ fn name_spans(walk: &mut Walk, around: &[Option<NetId>], spans: &[CoreSpan]) -> 
     Ok(())
 }
 
-/// Names a load by the copy of its memory, behind the operations of its spans.
-pub(crate) fn name_load(
+/// Names a load or a store by the copy of its memory, behind the operations of its spans.
+pub(crate) fn name_transfer(
     walk: &mut Walk,
     around: &[Option<NetId>],
     spans: &[CoreSpan],
     mem: u32,
 ) -> Result<(), NoMemory>
-    ensures adds { OnOk result (Adds (load_names (numbers_at around.now) mem (map plain_span spans.now)) [] [] 0 0 walk.old walk.new) }
+    ensures adds { OnOk result (Adds (transfer_names (numbers_at around.now) mem (map plain_span spans.now)) [] [] 0 0 walk.old walk.new) }
     ensures stand { OnOk result ((core : PlainCore) (turns : List LoopTurns) (kept : List Keeping) (loops : List LoopCopies) → KeepsStanding core turns kept loops around.now walk.old walk.new) }
 {
     name_spans(walk, around, spans)?;

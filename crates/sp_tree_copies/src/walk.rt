@@ -11,7 +11,7 @@ ghost use Rattle.sp_copy_nets.specs.Table.{numbers_at};
 ghost use Rattle.sp_tree_copies.specs.Walks.{KeepsStanding, WalksNode};
 
 use crate::loops::{inside_slot, loop_nets, renew_next, stage_slot};
-use crate::names::{keep_next, name_bounds, name_load, name_ops};
+use crate::names::{keep_next, name_bounds, name_ops, name_transfer};
 use crate::numbers::LoopCopies;
 use sp_core::{Core, Node};
 use sp_netlist::{NetId, NoMemory};
@@ -19,7 +19,7 @@ use sp_plan::{NodePlan, Plan, count_nodes};
 use sp_tree_handed::{Keeping, LoopTurns, Renewal};
 use std::alloc::Global;
 
-/// The nets of copies so far, of each operation, each load and each owner; and which loop and which net of a state comes next.
+/// The nets of copies so far, of each operation, each transfer and each owner; and which loop and which net of a state comes next.
 #[derive(Debug, Drop)]
 pub(crate) struct Walk {
     pub names: Vec<Option<NetId>>,
@@ -131,8 +131,8 @@ pub(crate) fn walk_node(
                 alloc, walk, core, plan, no, third, around, turns, kept, loops,
             )
         }
-        Node::Load { mem, span, .. } => name_load(walk, around, span, *mem),
-        Node::Store { .. } => Ok(()),
+        Node::Load { mem, span, .. } => name_transfer(walk, around, span, *mem),
+        Node::Store { mem, span, .. } => name_transfer(walk, around, span, *mem),
         Node::Sparse { .. } => Ok(()),
     }
 }

@@ -1,4 +1,4 @@
--- The events of inner bodies, lists of operations and loads are at the copies whose numbers stand.
+-- The events of inner bodies, lists of operations, loads and stores are at the copies whose numbers stand.
 use Rattle.std.proofs.Common.{◌≡◌, ℕ, zero, suc, ◌+◌, ◌<◌, ◌≤◌, ◌⊎◌, inl, inr, Bool, true, false, ℤ, List, [], ◌∷◌, ◌++◌, length, map, take, refl, sym, ap, subst, ◌∙◌, arith}
 use Rattle.std.specs.List.{Contains}
 use Rattle.std.specs.Prelude.{flat_map, Option}
@@ -9,7 +9,7 @@ use Rattle.sp_core.specs.Events.{Standing, Event, Moment, touches, slices, insid
 use Rattle.sp_core.specs.History.{Entry, History, inner_ran, outer_ran, fsm_ran, branch_ran, moved, picked}
 use Rattle.sp_core.specs.Latency.{latency_of_all}
 use Rattle.sp_core.specs.Numbering.{counters_size, spans_size}
-use Rattle.sp_core.specs.PlainCore.{PlainOp, PlainCounter, PlainSpan, PlainNode, inner, load, PlainCore}
+use Rattle.sp_core.specs.PlainCore.{PlainOp, PlainCounter, PlainSpan, PlainNode, inner, load, store, PlainCore}
 use Rattle.sp_core.specs.Scope.{in_lanes, loops_of, group_values}
 use Rattle.sp_core.specs.Transfers.{Part, part_of, lengths, has_none, all_offsets}
 use Rattle.sp_plan.specs.PlainPlan.{PlainNodePlan, PlainPlan, node_plan}
@@ -17,13 +17,13 @@ use Rattle.sp_time.specs.Lists.{Each}
 use Rattle.sp_machine.specs.Laws.{HappensWithin}
 use Rattle.sp_machine.specs.Stamps.{Stamped, Copies, copy_of, stamped, moved as moved_on, later, list_stamped, in_a_row, list_run}
 use Rattle.sp_machine.specs.Timeline.{timed, issued_by, issued, body_events}
-use Rattle.sp_machine.specs.Transfers.{Delays, load_stamped, slice_stamped}
+use Rattle.sp_machine.specs.Transfers.{Delays, load_stamped, slice_stamped, store_stamped}
 use Rattle.sp_mem.specs.Copies.{copy_at}
 use Rattle.sp_node_runs.specs.Runs.{told, events_of}
 use Rattle.sp_node_runs.proofs.ControlBeatRuns.{here, there, mapped_from}
 use Rattle.sp_node_runs.specs.BodiesLists.{list_events}
 use Rattle.sp_tree_events.specs.CopiesStanding.{CopyNets, AreNumbered}
-use Rattle.sp_tree_events.specs.CopiesLaws.{InnersNameCopies, ListsNameCopies, LoadsNameCopies}
+use Rattle.sp_tree_events.specs.CopiesLaws.{InnersNameCopies, ListsNameCopies, LoadsNameCopies, StoresNameCopies}
 
 each_append : {A : Type 0} (Q : A → Type 0) (xs ys : List A) → Each Q xs → Each Q ys → Each Q (xs ++ ys)
 each_append Q [] ys h k = k
@@ -108,6 +108,12 @@ module _ (core : PlainCore) where
       words_copied j [] words = tt
       words_copied j (o ∷ offsets) [] = tt
 
+      -- and those of a store, each of which is read before it is written to the DRAM
+      looks_copied : (j : ℕ) (offsets : List (List ℕ)) (words : List ℕ) → Each (IsCopied copies) (store_stamped delay core copies n st r m parts j offsets words)
+      looks_copied j (o ∷ offsets) (w ∷ words) = (refl, (refl, looks_copied (suc j) offsets words))
+      looks_copied j [] words = tt
+      looks_copied j (o ∷ offsets) [] = tt
+
       slice_copied : (es : List Stamped) → Each (IsCopied copies) es → Each (IsCopied copies) (slice_stamped delay core copies n st parts es)
       slice_copied es h = go (has_none (lengths parts))
         where
@@ -130,6 +136,17 @@ module _ (core : PlainCore) where
     load_copied k n r m spans st copies (fsm_ran first ts last) = stamped_copied copies 0 _
     load_copied k n r m spans st copies (branch_ran es side h) = stamped_copied copies 0 _
     load_copied k n r m spans st copies (picked es words) = stamped_copied copies 0 _
+
+    store_copied : (k n r m : ℕ) (spans : List PlainSpan) (st : Standing) (copies : Copies) (h : History) → Each (IsCopied copies) (timed core plan delays (store r m spans) k n st copies h).events
+    unfolding timed
+    store_copied k n r m spans st copies (moved taken words) =
+        each_append (IsCopied copies) (stamped copies 0 (spans_moments n st spans taken)) _ (stamped_copied copies 0 (spans_moments n st spans taken))
+        (slice_copied (delays k st.path) copies (n + spans_size spans) st r m (map part_of taken) _ (looks_copied (delays k st.path) copies (n + spans_size spans) st r m (map part_of taken) 0 (all_offsets (map part_of taken)) words))
+    store_copied k n r m spans st copies (inner_ran bs counts groups) = stamped_copied copies 0 _
+    store_copied k n r m spans st copies (outer_ran bs counts groups) = stamped_copied copies 0 _
+    store_copied k n r m spans st copies (fsm_ran first ts last) = stamped_copied copies 0 _
+    store_copied k n r m spans st copies (branch_ran es side h) = stamped_copied copies 0 _
+    store_copied k n r m spans st copies (picked es words) = stamped_copied copies 0 _
 
 -- a moment that is moved on by the cycle of its run
 module _ (s : Signals) (last : ℕ) (nets : CopyNets) (start bound t copy : ℕ) (copies : Copies) (e : Event) (events : List Stamped)
@@ -161,4 +178,11 @@ loads_name_copies core plan delays happens s last k n dram m spans nets runs sta
     let r = joined_from (events_of core plan delays (load dram m spans) k n) runs _ h.there in
     named s last nets r.0.cycle (told core plan delays (load dram m spans) k n r.0).took t h.copy r.0.copies e (told core plan delays (load dram m spans) k n r.0).events
     (load_copied core plan delays k n dram m spans r.0.standing r.0.copies r.0.history) (happens (load dram m spans) k n r.0.standing r.0.copies r.0.history tt tt)
+    (λ u a b c. stand r.0 u r.1 a b c) r.2 late
+
+pub stores_name_copies : (core : PlainCore) (plan : PlainPlan) (delays : Delays) → ((node : PlainNode) → HappensWithin core plan delays node) → StoresNameCopies core plan delays
+stores_name_copies core plan delays happens s last k n dram m spans nets runs stand number t e h late =
+    let r = joined_from (events_of core plan delays (store dram m spans) k n) runs _ h.there in
+    named s last nets r.0.cycle (told core plan delays (store dram m spans) k n r.0).took t h.copy r.0.copies e (told core plan delays (store dram m spans) k n r.0).events
+    (store_copied core plan delays k n dram m spans r.0.standing r.0.copies r.0.history) (happens (store dram m spans) k n r.0.standing r.0.copies r.0.history tt tt)
     (λ u a b c. stand r.0 u r.1 a b c) r.2 late

@@ -6,7 +6,7 @@ use Rattle.sp_netlist.specs.Signals.{Signals}
 use Rattle.sp_gates.specs.Tested.{is_on}
 use Rattle.sp_core.specs.Declarations.{is_among}
 use Rattle.sp_core.specs.Events.{Event}
-use Rattle.sp_core.specs.PlainCore.{PlainOp, PlainCounter, PlainSpan, PlainStages, inner, outer, load, PlainCore}
+use Rattle.sp_core.specs.PlainCore.{PlainOp, PlainCounter, PlainSpan, PlainStages, inner, outer, load, store, PlainCore}
 use Rattle.sp_plan.specs.PlainPlan.{PlainPlan, mem_plan, node_plan}
 use Rattle.sp_time.specs.Beats.{took_at, first_cycle}
 use Rattle.sp_machine.specs.Timeline.{slots_of, in_copies}
@@ -71,3 +71,10 @@ module _ (core : PlainCore) (plan : PlainPlan) (delays : Delays) where
       (s : Signals) (last k n dram m : ℕ) (spans : List PlainSpan) (nets : CopyNets) (runs : List Placed)
       → ((r : Placed) (t : ℕ) → Contains runs r → r.cycle ≤ t → t < over_at core plan delays (load dram m spans) k n r → t ≤ last → AreNumbered s t nets r.copies)
       → (number t : ℕ) (e : Event) (h : Happens (all_events core plan delays (load dram m spans) k n runs) number t e) → t ≤ last → copy_at s t (nets e.mem) ≡ h.copy
+
+  -- so of a store
+  abbrev pub StoresNameCopies : Type 0
+  StoresNameCopies =
+      (s : Signals) (last k n dram m : ℕ) (spans : List PlainSpan) (nets : CopyNets) (runs : List Placed)
+      → ((r : Placed) (t : ℕ) → Contains runs r → r.cycle ≤ t → t < over_at core plan delays (store dram m spans) k n r → t ≤ last → AreNumbered s t nets r.copies)
+      → (number t : ℕ) (e : Event) (h : Happens (all_events core plan delays (store dram m spans) k n runs) number t e) → t ≤ last → copy_at s t (nets e.mem) ≡ h.copy

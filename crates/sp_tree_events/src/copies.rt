@@ -1,7 +1,7 @@
 //! Laws of the numbers of copies. Each function does nothing: what it ensures is the law.
 
 ghost use Rattle.sp_tree_events.specs.CopiesExample.{WorkedStanding};
-ghost use Rattle.sp_tree_events.specs.CopiesLaws.{InnersNameCopies, ListsNameCopies, LoadsNameCopies, NumbersStand};
+ghost use Rattle.sp_tree_events.specs.CopiesLaws.{InnersNameCopies, ListsNameCopies, LoadsNameCopies, NumbersStand, StoresNameCopies};
 ghost use Rattle.sp_core.specs.PlainCore.{PlainCore};
 ghost use Rattle.sp_machine.specs.Transfers.{Delays};
 ghost use Rattle.sp_plan.specs.PlainPlan.{PlainPlan};
@@ -35,6 +35,13 @@ pub fn lists_name_copies()
 /// So is each event of a load, as it asks, and reads and writes its words.
 pub fn loads_name_copies()
     ensures { (core : PlainCore) (plan : PlainPlan) (delays : Delays) → LoadsNameCopies core plan delays }
+{
+    runs_happen_within();
+}
+
+/// So is each event of a store, which reads the words that it writes.
+pub fn stores_name_copies()
+    ensures { (core : PlainCore) (plan : PlainPlan) (delays : Delays) → StoresNameCopies core plan delays }
 {
     runs_happen_within();
 }

@@ -9,7 +9,8 @@ mod told;
 
 pub use acts::{loops_renew, machines_keep, worked_owners};
 pub use copies::{
-    inners_name_copies, lists_name_copies, loads_name_copies, numbers_stand, worked_standing,
+    inners_name_copies, lists_name_copies, loads_name_copies, numbers_stand, stores_name_copies,
+    worked_standing,
 };
 pub use owners::{bodies_own, runs_own, sides_own, stages_own, worked_deeds};
 pub use parts::{

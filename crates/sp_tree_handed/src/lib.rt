@@ -1,5 +1,5 @@
 //! What the circuit of a tree hands on besides its start and its end: the nets by which its loops turn, its FSMs keep their
-//! states and its loads are started, and how lists of operations stand in a draft.
+//! states and its transfers are started, and how lists of operations stand in a draft.
 #![tactic(auto)]
 
 mod loads;
@@ -8,6 +8,6 @@ mod owners;
 mod slots;
 
 pub use loads::CoreLoad;
-pub use moves::TreeMove;
+pub use moves::{Direction, TreeMove};
 pub use owners::{Keeping, LoopTurns, OwnerNets, Renewal, TreeOwners};
 pub use slots::{first_slot, stage_slots};

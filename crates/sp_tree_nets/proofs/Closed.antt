@@ -114,7 +114,6 @@ module _ (d : Draft) (core : PlainCore) (plan : PlainPlan) (table : List AroundN
     right = can.right.1;
     stand = stand_later d e table can.around.counters g can.stand;
     timed = can.timed.1;
-    loads_alone = can.loads_alone;
     have_ends = subst (λ j. StagesHaveEnds e ends stages j) (omega arith) (stage_ends_later d e ends stages (suc k) g can.have_ends);
     times = subst (λ j. StagesHaveTime core plan stages j) (omega arith) can.times;
     places = subst (λ j. StagesHavePlaces plan stages j) (omega arith) can.places.1;
@@ -225,7 +224,7 @@ module _ (a b c : Draft) (core : PlainCore) (plan : PlainPlan) (table : List Aro
             };
             handed = record { bounds = bs; inside = xs; all = refl; bound = bounds.acts; stand = inside.handed };
             owners = record { own = own; rest = rs; turns_are = refl; start_is = start_is; owned_are = owned_are; firsts_are = firsts_are; stages = inside.owners };
-            loads = inside.loads;
+            moved = inside.moved;
           }
         where
           plain_at : (m at : ℕ) → at ≡ 0 + m → at ≡ m

@@ -50,8 +50,8 @@ no_stages d core plan table ends begun counters k n = record {
   dones = λ i lt. absurd (omega (arith, lt));
   lists = tt;
   owners = no_turns_stand d core;
-  loads = tt;
-  trees = λ around earlier owned right stand s run i nets child nets_are child_are. record { circuits = tt; handed = refl; owners = (refl, refl); loads = refl };
+  moved = tt;
+  trees = λ around earlier owned right stand s run i nets child nets_are child_are. record { circuits = tt; handed = refl; owners = (refl, refl); moved = refl };
 }
 
 module _ (core : PlainCore) (plan : PlainPlan) (s : Signals) (ends : List (Option ℕ)) (near : List Near) (node : PlainNode) (k n : ℕ) (acted : List ActedList) (turns : List LoopTurns) (kept : List Keeping) (moves : List TreeMove) where
@@ -74,7 +74,7 @@ module _ (a b c : Draft) (core : PlainCore) (plan : PlainPlan) (table : List Aro
         circuits = (own.circuit, others.circuits);
         handed = record { one = xs; rest = ys; all = refl; first = own.handed; others = others.handed };
         owners = record { one = rs; other = ss; one_kept = ps; other_kept = qs; turns_are = refl; kept_are = refl; first = own.owners; second = others.owners };
-        loads = record { one = ms; other = os; moves_are = refl; first = own.loads; second = others.loads };
+        moved = record { one = ms; other = os; moves_are = refl; first = own.moved; second = others.moved };
       }
 
   pub both_stages : AreStages a c core plan table ends begun counters (more_stage first last comb node rest) (slot ∷ slots) k n (part ∷ parts) (xs ++ ys) (rs ++ ss) (ps ++ qs) (ms ++ os)
@@ -89,7 +89,7 @@ module _ (a b c : Draft) (core : PlainCore) (plan : PlainPlan) (table : List Aro
     dones = done_is;
     lists = lists_join c core (lists_in node n) (lists_in_stages rest (n + number_count node)) xs ys (lists_later b c core (lists_in node n) xs more.reserves.grows one.lists) more.lists;
     owners = turns_join c core rs ss ps qs (turns_later b c core rs ps more.reserves.grows one.owners) more.owners;
-    loads = moves_join c (slices_in node k) (slices_in_stages rest (k + node_count node)) ms os (moves_later b c (slices_in node k) ms more.reserves.grows one.loads) more.loads;
+    moved = moves_join c (slices_in node k) (slices_in_stages rest (k + node_count node)) ms os (moves_later b c (slices_in node k) ms more.reserves.grows one.moved) more.moved;
     trees = both_trees;
   }
     where

@@ -5,12 +5,11 @@ mod Going
 mod Lanes
 mod Later
 mod Listed
-mod Loading
-pub mod Moveless
 mod Opened
 mod Planned
 mod Renewing
 mod Rounds
 mod Sides
+mod Slicing
 mod Small
 mod Starts

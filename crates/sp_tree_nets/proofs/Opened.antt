@@ -49,7 +49,6 @@ module _ (core : PlainCore) (plan : PlainPlan) (table : List AroundNets) (ends :
     right = (can.right.0, tt);
     stand = can.stand;
     timed = (can.timed.0, tt);
-    loads_alone = (can.loads_alone.0, tt);
     have_ends = (can.have_ends.0, tt);
     times = (can.times.0, tt);
     places = (can.places.0, tt);
@@ -66,7 +65,6 @@ module _ (core : PlainCore) (plan : PlainPlan) (table : List AroundNets) (ends :
     right = can.right.1;
     stand = stand_later d e table can.around.counters g can.stand;
     timed = can.timed.1;
-    loads_alone = can.loads_alone.1;
     have_ends = stage_ends_later d e ends rest (k + node_count node) g can.have_ends.1;
     times = can.times.1;
     places = can.places.1;
@@ -88,7 +86,6 @@ module _ (core : PlainCore) (plan : PlainPlan) (table inside : List AroundNets) 
     right = can.right.0;
     stand = there can.around.counters can.stand;
     timed = can.timed.0;
-    loads_alone = can.loads_alone.0;
     have_ends = ends_later d e ends node k g.grows can.have_ends.0;
     times = can.times.0;
     places = can.places.0;
@@ -101,7 +98,7 @@ module _ (core : PlainCore) (plan : PlainPlan) (table inside : List AroundNets) 
       → ((number : ℕ) → nets_at inside number ≡ slot_nets begun.nets begun.rows.rows.items (nets_at table) counters slot number) → IsTree e f core plan inside ends node k n child acted turns kept moves
       → AreListsStanding f core (lists_in node n) acted → AreTurnsStanding f core turns kept → AreMovesStanding f (slices_in node k) moves
       → IsStage d f core plan table ends begun counters first last node slot k n (record { child = child; first = first; last = last }) acted turns kept moves
-  stage_is f child acted turns kept moves nets_are start more done same tree lists owners loads = record {
+  stage_is f child acted turns kept moves nets_are start more done same tree lists owners moved = record {
     reserves = reserved_join d e f (child.start ∷ []) (answers_in acted) (subst (Reserves d e) nets_are g) more;
     first_is = refl;
     last_is = refl;
@@ -109,7 +106,7 @@ module _ (core : PlainCore) (plan : PlainPlan) (table inside : List AroundNets) 
     done = done;
     lists = lists;
     owners = owners;
-    loads = loads;
+    moved = moved;
     tree = λ around earlier owned right stand s run.
         tree_by core plan s ends (own_near counters around.counters) node k n acted turns kept moves (nets_at inside) (slot_nets begun.nets begun.rows.rows.items (nets_at table) counters slot) child child (fun_ext same) refl (tree (within around counters owned) earlier right (there around.counters stand) s run);
   }

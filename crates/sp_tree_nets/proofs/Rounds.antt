@@ -71,7 +71,6 @@ module _ (d : Draft) (core : PlainCore) (plan : PlainPlan) (table : List AroundN
     right = can.right.1;
     stand = stand_later d e table can.around.counters g can.stand;
     timed = can.timed;
-    loads_alone = can.loads_alone;
     have_ends = subst (λ j. HaveEnds e ends body j) (one_more k) (ends_later d e ends body (suc k) g can.have_ends);
     times = subst (λ j. AllHaveTime core plan body j) (one_more k) can.times;
     places = subst (λ j. AllHavePlaces plan body j) (one_more k) can.places;
@@ -151,7 +150,7 @@ module _ (a b c d e : Draft) (core : PlainCore) (plan : PlainPlan) (table : List
         };
         handed = record { first = x; test = y; body = xs; next = z; all = refl; begins = first_is.acted; tests = test_is.acted; goes = body_is.handed; steps = next_is.acted };
         owners = record { rest = ps; kept_are = refl; body = body_is.owners };
-        loads = body_is.loads;
+        moved = body_is.moved;
       }
 
 module _ (a b : Draft) (core : PlainCore) (plan : PlainPlan) (table : List AroundNets) (ends : List (Option ℕ)) (counters : List PlainCounter) (owned : List ℕ) (ops : List PlainOp) (comb : Option ℕ) (k n : ℕ) where
@@ -164,7 +163,7 @@ module _ (a b : Draft) (core : PlainCore) (plan : PlainPlan) (table : List Aroun
   pub inner_is : (p : PlainNodePlan) (child : Child) (acted : List ActedList) → p ≡ node_plan plan k → IsInner a b core table p n counters ops child acted → IsTree a b core plan table ends (inner counters owned ops comb) k n child acted [] [] []
   inner_is p child acted e body around earlier right stand s run =
       let w = body plan k around owned comb (sym e) (node_right core around earlier (inner counters owned ops comb) right) stand s run in
-      record { circuit = w.circuit; handed = record { bounds = w.bounds; inside = w.own ∷ []; all = w.are; bound = w.of_bounds; stand = w.of_own }; owners = (refl, refl); loads = refl }
+      record { circuit = w.circuit; handed = record { bounds = w.bounds; inside = w.own ∷ []; all = w.are; bound = w.of_bounds; stand = w.of_own }; owners = (refl, refl); moved = refl }
 
   -- by the node as its function takes it
   pub inner_tree : (node : PlainNode) → node ≡ inner counters owned ops comb → (turns : List LoopTurns) (kept : List Keeping) (moves : List TreeMove) → turns ≡ [] → kept ≡ [] → moves ≡ [] → (p : PlainNodePlan) (child : Child) (acted : List ActedList) → p ≡ node_plan plan k

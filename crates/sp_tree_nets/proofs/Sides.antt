@@ -66,7 +66,6 @@ module _ (d : Draft) (core : PlainCore) (plan : PlainPlan) (table : List AroundN
     right = can.right.1;
     stand = stand_later d e table can.around.counters g can.stand;
     timed = can.timed.0;
-    loads_alone = can.loads_alone.0;
     have_ends = subst (λ j. HaveEnds e ends first j) (one_more k) (ends_later d e ends first (suc k) g can.have_ends.0);
     times = subst (λ j. AllHaveTime core plan first j) (one_more k) can.times.0;
     places = subst (λ j. AllHavePlaces plan first j) (one_more k) can.places.0;
@@ -82,7 +81,6 @@ module _ (d : Draft) (core : PlainCore) (plan : PlainPlan) (table : List AroundN
     right = can.right.2;
     stand = stand_later d e table can.around.counters g can.stand;
     timed = can.timed.1;
-    loads_alone = can.loads_alone.1;
     have_ends = subst (λ j. HaveEnds e ends second j) (ap (λ j. j + node_count first) (one_more k)) (ends_later d e ends second (suc k + node_count first) g can.have_ends.1);
     times = subst (λ j. AllHaveTime core plan second j) (ap (λ j. j + node_count first) (one_more k)) can.times.1;
     places = subst (λ j. AllHavePlaces plan second j) (ap (λ j. j + node_count first) (one_more k)) can.places.1;
@@ -134,5 +132,5 @@ module _ (a b c d e : Draft) (core : PlainCore) (plan : PlainPlan) (table : List
         circuit = record { test = test; tested = tested; chosen = one; left = other; circuit = runs s run; tests = tests.circuit; one = one_is.circuit; other = other_is.circuit };
         handed = record { test = list; one = xs; other = ys; all = refl; tests = tests.acted; firsts = one_is.handed; seconds = other_is.handed };
         owners = record { one = rs; other = ss; one_kept = ps; other_kept = qs; turns_are = refl; kept_are = refl; first = one_is.owners; second = other_is.owners };
-        loads = record { one = ms; other = os; moves_are = refl; first = one_is.loads; second = other_is.loads };
+        moved = record { one = ms; other = os; moves_are = refl; first = one_is.moved; second = other_is.moved };
       }

@@ -50,7 +50,6 @@ can_emit d core plan ends is stand h times places = record {
   right = is.nodes;
   stand = nobody_stands d;
   timed = h.timed;
-  loads_alone = h.loads_alone;
   have_ends = stand;
   times = times core h.forms h.meets plan is h.timed h.valid h.latencies;
   places = places core h.forms h.meets plan is h.timed h.valid;

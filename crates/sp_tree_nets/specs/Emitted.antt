@@ -21,7 +21,6 @@ use Rattle.sp_tree_handed.specs.declared.owners.Keeping.{Keeping}
 use Rattle.sp_tree_handed.specs.declared.owners.LoopTurns.{LoopTurns}
 use Rattle.sp_tree_handed.specs.Owners.{AreTurns}
 use Rattle.sp_tree_handed.specs.declared.moves.TreeMove.{TreeMove}
-pub use Rattle.sp_tree_handed.specs.Loads.{HasNoStore, HaveNoStore}
 use Rattle.sp_tree_handed.specs.Moves.{AreMoves, HaveEnds}
 use Rattle.sp_tree_nets.specs.Handed.{AreHanded}
 
@@ -40,15 +39,14 @@ abbrev mutual
   HaveNoTransfer no_stage = Unit {0}
   HaveNoTransfer (more_stage first last comb node rest) = HasNoTransfer node × HaveNoTransfer rest
 
--- A node is right by what stands around it, the counters around stand in the table, its transfers are loads, whose ends stand in theirs, and
--- the plan leaves time and has places for it. It is the node of a number, in a core that is small.
+-- A node is right by what stands around it, the counters around stand in the table and the ends of its transfers in theirs, and the plan
+-- leaves time and has places for it. It is the node of a number, in a core that is small.
 pub record CanEmit (d : Draft) (core : PlainCore) (plan : PlainPlan) (table : List AroundNets) (ends : List (Option ℕ)) (node : PlainNode) (k n : ℕ) : Type 0 where
   pub around : Around
   pub earlier : List ℕ
   pub right : IsRight core around earlier node
   pub stand : StandAround d table around.counters
   pub timed : IsTimed node
-  pub loads_alone : HasNoStore node
   pub have_ends : HaveEnds d ends node k
   pub times : AllHaveTime core plan node k
   pub places : AllHavePlaces plan node k
@@ -56,12 +54,12 @@ pub record CanEmit (d : Draft) (core : PlainCore) (plan : PlainPlan) (table : Li
   pub nodes : k + node_count node ≤ 2 ^ 30
   pub numbers : n + number_count node < 2 ^ 30
 
--- in a run the tree has its circuit, by the operations, the owners' nets and the loads that are handed on
+-- in a run the tree has its circuit, by the operations, the owners' nets and the transfers that are handed on
 pub record TreeIn (core : PlainCore) (plan : PlainPlan) (s : Signals) (ends : List (Option ℕ)) (near : List Near) (env : Nets) (node : PlainNode) (k n : ℕ) (c : Child) (acted : List ActedList) (turns : List LoopTurns) (kept : List Keeping) (moves : List TreeMove) : Type 0 where
   pub circuit : Circuit core plan s node near env k c
   pub handed : AreHanded core plan s node near env k n c circuit acted
   pub owners : AreTurns core plan s node near env k c circuit turns kept
-  pub loads : AreMoves core plan s ends node near env k c circuit moves
+  pub moved : AreMoves core plan s ends node near env k c circuit moves
 
 -- so it is in each run of what the draft became, whatever stood around by which the core has the node right
 abbrev pub IsTree : (old new : Draft) → PlainCore → PlainPlan → List AroundNets → List (Option ℕ) → (node : PlainNode) → (k n : ℕ) → Child → List ActedList → List LoopTurns → List Keeping → List TreeMove → Type 0

@@ -1,6 +1,6 @@
 pub mod Emitted
 pub mod Handed
-pub mod Loads
 pub mod Loops
+pub mod Slices
 pub mod Stages
 pub mod Whole

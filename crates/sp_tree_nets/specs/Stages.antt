@@ -35,7 +35,7 @@ use Rattle.sp_tree_handed.specs.Lists.{lists_in, lists_in_stages}
 use Rattle.sp_tree_handed.specs.Moves.{AreMovesStanding, StagesHaveEnds, StagesMove, slices_in, slices_in_stages}
 use Rattle.sp_tree_handed.specs.Owners.{StagesTurn}
 use Rattle.sp_tree_handed.specs.Standing.{AreListsStanding, AreTurnsStanding}
-use Rattle.sp_tree_nets.specs.Emitted.{HaveNoStore, TreeIn}
+use Rattle.sp_tree_nets.specs.Emitted.{TreeIn}
 use Rattle.sp_tree_nets.specs.Handed.{StagesHanded}
 
 -- the rows of a loop are to be driven, and there is a net for each lane of its counters
@@ -44,7 +44,7 @@ pub record LoopStands (d : Draft) (begun : OpenLoop) (counters : List PlainCount
   pub long : AreAsLong (length (counted_wires begun.nets)) begun.rows.rows.items
   pub masks : (c : PlainCounter) → Contains counters c → lanes_of counters ≤ length begun.nets.masks.items
 
--- stages are right inside of a loop, the counters around it stand in the table, and the ends of their loads in theirs
+-- stages are right inside of a loop, the counters around it stand in the table, and the ends of their transfers in theirs
 pub record CanEmitStages (d : Draft) (core : PlainCore) (plan : PlainPlan) (table : List AroundNets) (ends : List (Option ℕ)) (counters : List PlainCounter) (stages : PlainStages) (k n : ℕ) : Type 0 where
   pub around : Around
   pub owned : List ℕ
@@ -52,7 +52,6 @@ pub record CanEmitStages (d : Draft) (core : PlainCore) (plan : PlainPlan) (tabl
   pub right : AreRight core (within around counters owned) earlier stages
   pub stand : StandAround d table around.counters
   pub timed : AreTimed stages
-  pub loads_alone : HaveNoStore stages
   pub have_ends : StagesHaveEnds d ends stages k
   pub times : StagesHaveTime core plan stages k
   pub places : StagesHavePlaces plan stages k
@@ -69,16 +68,16 @@ pub record IsStage (old new : Draft) (core : PlainCore) (plan : PlainPlan) (tabl
   pub done : HasNet new part.child.done 1
   pub lists : AreListsStanding new core (lists_in node n) acted
   pub owners : AreTurnsStanding new core turns kept
-  pub loads : AreMovesStanding new (slices_in node k) moves
+  pub moved : AreMovesStanding new (slices_in node k) moves
   pub tree : (around : Around) (earlier owned : List ℕ) → IsRight core (within around counters owned) earlier node → StandAround old table around.counters
       → (s : Signals) → RunsOn s new.cells → TreeIn core plan s ends (own_near counters around.counters) (slot_nets begun.nets begun.rows.rows.items (nets_at table) counters slot) node k n part.child acted turns kept moves
 
--- in a run stages have their circuits, by the operations, the owners' nets and the loads that are handed on
+-- in a run stages have their circuits, by the operations, the owners' nets and the transfers that are handed on
 pub record StagesIn (core : PlainCore) (plan : PlainPlan) (s : Signals) (ends : List (Option ℕ)) (near : List Near) (stages : PlainStages) (k n i : ℕ) (nets : (stage : ℕ) → Nets) (child : (stage : ℕ) → Child) (acted : List ActedList) (turns : List LoopTurns) (kept : List Keeping) (moves : List TreeMove) : Type 0 where
   pub circuits : StageCircuits core plan s stages near k i nets child
   pub handed : StagesHanded core plan s stages near k n i nets child circuits acted
   pub owners : StagesTurn core plan s stages near k i nets child circuits turns kept
-  pub loads : StagesMove core plan s ends stages near k i nets child circuits moves
+  pub moved : StagesMove core plan s ends stages near k i nets child circuits moves
 
 -- so they have in each run of what the draft became, as the stages from a number on: each with the nets of its slot and its part
 abbrev pub AreTrees : (old new : Draft) → PlainCore → PlainPlan → List AroundNets → List (Option ℕ) → OpenLoop → List PlainCounter → PlainStages → (slots : List ℕ) → (k n : ℕ) → List StagePart → List ActedList → List LoopTurns → List Keeping → List TreeMove → Type 0
@@ -107,5 +106,5 @@ pub record AreStages (old new : Draft) (core : PlainCore) (plan : PlainPlan) (ta
   pub dones : (i : ℕ) → i < length parts → HasNet new (part_at parts i).child.done 1
   pub lists : AreListsStanding new core (lists_in_stages stages n) acted
   pub owners : AreTurnsStanding new core turns kept
-  pub loads : AreMovesStanding new (slices_in_stages stages k) moves
+  pub moved : AreMovesStanding new (slices_in_stages stages k) moves
   pub trees : AreTrees old new core plan table ends begun counters stages slots k n parts acted turns kept moves

@@ -16,17 +16,16 @@ use Rattle.sp_op_nets.specs.Table.{nets_at}
 use Rattle.sp_tree_handed.specs.declared.owners.Keeping.{Keeping}
 use Rattle.sp_tree_handed.specs.declared.owners.LoopTurns.{LoopTurns}
 use Rattle.sp_tree_handed.specs.declared.moves.TreeMove.{TreeMove}
-use Rattle.sp_tree_nets.specs.Emitted.{HasNoStore, TreeIn}
+use Rattle.sp_tree_nets.specs.Emitted.{TreeIn}
 
--- a plan that is valid for some forms and meets of the core, whose latencies are numbers of 32 bits, and a tree that can be emitted: its transfers are loads
+-- a plan that is valid for some forms and meets of the core, whose latencies are numbers of 32 bits, and a tree without sparse transfers and `Stream` blocks
 pub record HasTreePlan (core : PlainCore) (plan : PlainPlan) : Type 0 where
   pub forms : PlainForms
   pub meets : List Meet
   pub valid : IsValid core forms meets plan
   pub timed : IsTimed core.root
-  pub loads_alone : HasNoStore core.root
   pub latencies : (k : ℕ) → latency_of (node_plan plan k) < 2 ^ 32
 
--- in each run of what the draft becomes the core's tree has its circuit, by the operations, the owners' nets and the loads that are handed on
+-- in each run of what the draft becomes the core's tree has its circuit, by the operations, the owners' nets and the transfers that are handed on
 abbrev pub IsWhole : Draft → PlainCore → PlainPlan → List (Option ℕ) → Child → List ActedList → List LoopTurns → List Keeping → List TreeMove → Type 0
 IsWhole d core plan ends c acted turns kept moves = (s : Signals) → RunsOn s d.cells → TreeIn core plan s ends [] (nets_at []) core.root 0 0 c acted turns kept moves

@@ -14,7 +14,7 @@ use sp_tree_handed::{TreeMove, TreeOwners};
 use std::alloc::Global;
 
 /// The stages of a loop as parts of it, the operations of their lists, in the order of their numbers, what the owners in them do, and
-/// the loads in them.
+/// the transfers in them.
 #[derive(Debug, Drop)]
 pub(crate) struct Stages {
     pub(crate) parts: Vec<StagePart>,

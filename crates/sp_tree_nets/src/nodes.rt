@@ -17,7 +17,7 @@ ghost use Rattle.sp_tree_nets.specs.Stages.{AreStages, CanEmitStages, IsStage, L
 use crate::branches::{OpenBranch, begin_branch, branch_lists, end_branch};
 use crate::loops::{OneStage, Stages, loop_lists, stage_places};
 use crate::machines::{OpenMachine, begin_machine, end_machine, machine_lists, mem_ty};
-use crate::moves::{append_moves, both_moves, emit_load};
+use crate::moves::{append_moves, both_moves, emit_slice};
 use crate::owners::{both_owners, loop_owners, loop_turns, machine_owners, no_owners};
 use crate::tree::{TreeNets, append};
 use sp_core::{Core, CoreCounter, Node, Stage};
@@ -42,8 +42,8 @@ fn node_plan(plan: &Plan, index: u32) -> &NodePlan
 }
 
 /// Emits the circuit of a node of a core, and of all nodes in it, by a plan. `index` is the number of the node in preorder, and
-/// `number` that of its first operation; `around` has the nets of the counters around it, and `ends` those by which its loads
-/// are done, by the numbers of their nodes. Of a load the nets of its slice alone are emitted; other transfers aren't.
+/// `number` that of its first operation; `around` has the nets of the counters around it, and `ends` those by which its transfers
+/// are done, by the numbers of their nodes. Of a load or a store the nets of its slice alone are emitted; sparse transfers aren't.
 #[cycle(tree)]
 pub fn emit_node(
     alloc: Global,
@@ -176,10 +176,13 @@ pub fn emit_node(
             Ok(tree)
         }
         Node::Load { span, .. } => {
-            let tree = emit_load(alloc, builder, span, index, number, around, ends, start)?;
+            let tree = emit_slice(alloc, builder, span, index, number, around, ends, start)?;
             Ok(tree)
         }
-        Node::Store { .. } => unreachable!(),
+        Node::Store { span, .. } => {
+            let tree = emit_slice(alloc, builder, span, index, number, around, ends, start)?;
+            Ok(tree)
+        }
         Node::Sparse { .. } => unreachable!(),
     }
 }

@@ -6,7 +6,7 @@ use sp_op_nets::ActedList;
 use sp_tree_handed::{TreeMove, TreeOwners};
 
 /// The start and the end of a tree of nodes, the operations of its lists, in the order of their numbers, for the memories that
-/// they name, what the owners in it do to their memories, and the loads in it.
+/// they name, what the owners in it do to their memories, and the transfers in it.
 #[derive(Debug, Drop)]
 pub struct TreeNets {
     pub child: Child,

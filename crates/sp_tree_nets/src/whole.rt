@@ -21,7 +21,7 @@ use sp_stage_places::plans_have_places;
 use std::alloc::Global;
 
 /// Emits the circuit of a core's whole tree by a valid plan. It is started where `start` is 1. `ends` has the nets by which
-/// its loads are done, by the numbers of their nodes.
+/// its transfers are done, by the numbers of their nodes.
 pub fn emit_core(
     alloc: Global,
     builder: &mut Builder,

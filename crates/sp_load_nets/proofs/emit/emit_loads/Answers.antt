@@ -17,7 +17,7 @@ pub emit_each-requires-clause-units : goal.emit_each-requires-clause-units
 emit_each-requires-clause-units c = let core = plain_core c.args.core.now in stand_alone c.args.builder.now core (loads_in core.root 0 0) c.args.units.now c.requires.units
 
 pub emit_each-requires-clause-slices : goal.emit_each-requires-clause-slices
-emit_each-requires-clause-slices c = slices_stand (plain_core c.args.core.now) c.args.builder.now c.args.units.now c.args.slices.now c.root-root.ensures.core c.requires.units c.requires.slices
+emit_each-requires-clause-slices c = slices_stand (plain_core c.args.core.now) c.args.builder.now c.args.units.now c.args.slices.now c.root-root.ensures.core c.requires.loads_alone c.requires.units c.requires.slices
 
 pub emit_each-requires-clause-rise : goal.emit_each-requires-clause-rise
 emit_each-requires-clause-rise c = rise_from_none c.requires.rise.0 (unit_wires_in c.args.units.now) c.requires.rise.1

@@ -27,5 +27,6 @@ returns c core plan delays = record {
   inners_name = c.inners_name_copies.ensures core plan delays;
   lists_name = c.lists_name_copies.ensures core plan delays;
   loads_name = c.loads_name_copies.ensures core plan delays;
+  stores_name = c.stores_name_copies.ensures core plan delays;
   one = c.numbers_stand_for_one.ensures;
 }

@@ -37,6 +37,9 @@ emit_loads-requires-clause-units c =
     subst (UnitsStand mid core) (sym c.deref-4.ensures.value)
     (units_later c.units_are_open.ensures c.units_stay.ensures c.args.builder.now mid core c.args.loads.now.units.items (answers_in acted) (still_reserved c.args.builder.now first mid (answers_in acted) c.in_ok-tree.ensures.reserves c.in_ok-copies.ensures.fills) c.requires.loads.units_stand)
 
+pub emit_loads-requires-clause-loads_alone : goal.emit_loads-requires-clause-loads_alone
+emit_loads-requires-clause-loads_alone c = c.requires.can.loads_alone
+
 pub emit_loads-requires-clause-rise : goal.emit_loads-requires-clause-rise
 emit_loads-requires-clause-rise c = (c.requires.loads.from, subst (λ units. Rise c.requires.loads.from (unit_wires_in units)) (sym c.deref-4.ensures.value) c.requires.loads.rise)
 
@@ -151,6 +154,6 @@ returns-clause-circuit c =
       handed = t.handed;
       named = subst (λ names. AreNamed core plan s core.root [] (nets_at []) 0 child t.circuit no_numbers names owners.renewed.items owners.kept.items) (sym c.deref-3.ensures.value) (c.in_ok-copies.ensures.named s behind c.requires.can.arrays.copies (nets_at []) child t.circuit t.owners);
       channels = channels_of core g s copies units slices writes runs;
-      loads = c.loads_are_had.ensures core plan g s (nets_at []) child ends copies units slices writes c.args.builder.now c.requires.loads.units_stand ended t.circuit t.loads runs;
+      loads = c.loads_are_had.ensures core plan g s (nets_at []) child ends copies units slices writes c.args.builder.now c.requires.loads.units_stand ended c.requires.can.loads_alone t.circuit t.moved runs;
     })
     (λ s run. subst (λ xs. RunMemories core plan s xs owners c.args.arguments.now c.in_ok-nets.nets.words.items) all (c.in_ok-nets.ensures.runs s run))

@@ -80,7 +80,11 @@ returns-in_ok-name_bounds-in-Inner-clause-stand t c =
 
 pub returns-in-Load-clause-stand : goal.returns-in-Load-clause-stand
 returns-in-Load-clause-stand t c =
-    on_ok c.name_load.result (λ f d all stand h. f (plain_core c.args.core.now) c.args.turns.now c.args.kept.now c.args.loops.now d all stand h) c.name_load.ensures.stand
+    on_ok c.name_transfer.result (λ f d all stand h. f (plain_core c.args.core.now) c.args.turns.now c.args.kept.now c.args.loops.now d all stand h) c.name_transfer.ensures.stand
+
+pub returns-in-Store-clause-stand : goal.returns-in-Store-clause-stand
+returns-in-Store-clause-stand t c =
+    on_ok c.name_transfer-in-Store.result (λ f d all stand h. f (plain_core c.args.core.now) c.args.turns.now c.args.kept.now c.args.loops.now d all stand h) c.name_transfer-in-Store.ensures.stand
 
 pub returns-after-loop-stage-clause-walks : goal.returns-after-loop-stage-clause-walks
 returns-after-loop-stage-clause-walks t c =

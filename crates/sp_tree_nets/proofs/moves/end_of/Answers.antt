@@ -1,6 +1,6 @@
 use Rattle.std.proofs.Common.{sym}
 use Rattle.std.proofs.lemmas.Bool.{ltb-true}
-use Rattle.sp_tree_nets.proofs.Loading.{end_there, end_past}
+use Rattle.sp_tree_nets.proofs.Slicing.{end_there, end_past}
 use Rattle.sp_tree_nets.proofs.moves.end_of.Goals as goal
 
 pub returns-in-Some : goal.returns-in-Some

@@ -21,7 +21,7 @@ use Rattle.std.specs.Prelude.{slice_index}
 use Rattle.sp_gates.specs.Grows.{Fills}
 use Rattle.sp_gates.specs.Nets.{Awaits}
 use Rattle.sp_core.specs.Plain.{plain_stage_list}
-use Rattle.sp_core.specs.PlainCore.{load, no_stage, outer}
+use Rattle.sp_core.specs.PlainCore.{no_stage, outer}
 use Rattle.sp_beat_words.specs.Fits.{AreRows, row_nets}
 use Rattle.sp_part_runs.specs.WordsLaws.{AreAsLong}
 use Rattle.sp_part_runs.specs.SequencesPlaces.{AreArranged}
@@ -49,8 +49,10 @@ use Rattle.sp_tree_circuits.specs.Circuits.{slot_nets}
 use Rattle.sp_loop_nets.specs.Fits.{counted_wires}
 use Rattle.sp_tree_handed.proofs.Moving.{moves_later}
 use Rattle.sp_bound_nets.specs.Spans.{AreSpansRight}
-use Rattle.sp_tree_nets.proofs.Loading.{body_stands, both_stand, load_right, loop_stands, none_move}
+use Rattle.sp_tree_nets.proofs.Slicing.{body_stands, both_stand, loop_stands, none_move, slice_right}
+use Rattle.sp_tree_handed.specs.declared.moves.Direction.TheVariants.{Load, Store}
 use Rattle.sp_tree_handed.specs.Moves.{AreMovesStanding, slices_in, slices_in_stages}
+use Rattle.sp_tree_nets.specs.Slices.{transfer_node}
 use Rattle.sp_tree_nets.proofs.nodes.+tree.Goals as goal
 
 pub emit_node-emit_node-requires : goal.emit_node-emit_node-requires
@@ -302,11 +304,11 @@ emit_node-returns-in_ok-tree-in-Outer-clause-lists t c =
     (subst (λ xs. AreListsStanding c.emit_loop.new.builder (plain_core c.args.core.now) (lists_of_loop (map plain_counter c.in-Outer.counters.items) xs c.args.number) c.in_ok-tree-in-Outer.tree.acted.items) stages
     (subst (λ xs. AreListsStanding c.emit_loop.new.builder (plain_core c.args.core.now) (lists_of_loop xs (plain_stage_list c.deref-in-Outer.result.now) c.args.number) c.in_ok-tree-in-Outer.tree.acted.items) counters c.in_ok-tree-in-Outer.ensures.lists))
 
-pub emit_node-emit_load-requires-clause-right : goal.emit_node-emit_load-requires-clause-right
-emit_node-emit_load-requires-clause-right t c =
+pub emit_node-emit_slice-requires-clause-right : goal.emit_node-emit_slice-requires-clause-right
+emit_node-emit_slice-requires-clause-right t c =
     let is = ap plain_node c.in-Load.is in
     subst (λ xs. AreSpansRight c.args.builder.now c.args.around.now (map plain_span xs)) (sym c.deref-in-Load.ensures.value)
-    (load_right c.args.builder.now (plain_core c.args.core.now) (plain_plan c.args.plan.now) c.args.around.now c.args.ends.now (plain_node c.args.node.now) c.in-Load.dram c.in-Load.mem (map plain_span c.in-Load.span.items) c.args.index c.args.number is c.requires.can)
+    (slice_right c.args.builder.now (plain_core c.args.core.now) (plain_plan c.args.plan.now) c.args.around.now c.args.ends.now (plain_node c.args.node.now) Load c.in-Load.dram c.in-Load.mem (map plain_span c.in-Load.span.items) c.args.index c.args.number is c.requires.can)
 
 pub emit_node-returns-in_ok-tree-in-Load-clause-owners : goal.emit_node-returns-in_ok-tree-in-Load-clause-owners
 emit_node-returns-in_ok-tree-in-Load-clause-owners t c =
@@ -316,16 +318,41 @@ pub emit_node-returns-in_ok-tree-in-Load-clause-tree : goal.emit_node-returns-in
 emit_node-returns-in_ok-tree-in-Load-clause-tree t c =
     let is = ap plain_node c.in-Load.is in
     let tree = c.in_ok-tree-in-Load.tree in
-    subst (λ v. IsTree c.args.builder.now c.emit_load.new.builder (plain_core c.args.core.now) (plain_plan c.args.plan.now) c.args.around.now c.args.ends.now v c.args.index c.args.number tree.child tree.acted.items tree.owners.turns.items tree.owners.kept.items tree.moves.items) (sym is)
-    (subst (λ xs. IsTree c.args.builder.now c.emit_load.new.builder (plain_core c.args.core.now) (plain_plan c.args.plan.now) c.args.around.now c.args.ends.now (load c.in-Load.dram c.in-Load.mem (map plain_span xs)) c.args.index c.args.number tree.child tree.acted.items tree.owners.turns.items tree.owners.kept.items tree.moves.items) c.deref-in-Load.ensures.value
-    (c.in_ok-tree-in-Load.ensures.tree (plain_core c.args.core.now) (plain_plan c.args.plan.now) c.in-Load.dram c.in-Load.mem))
+    subst (λ v. IsTree c.args.builder.now c.emit_slice.new.builder (plain_core c.args.core.now) (plain_plan c.args.plan.now) c.args.around.now c.args.ends.now v c.args.index c.args.number tree.child tree.acted.items tree.owners.turns.items tree.owners.kept.items tree.moves.items) (sym is)
+    (subst (λ xs. IsTree c.args.builder.now c.emit_slice.new.builder (plain_core c.args.core.now) (plain_plan c.args.plan.now) c.args.around.now c.args.ends.now (transfer_node Load c.in-Load.dram c.in-Load.mem (map plain_span xs)) c.args.index c.args.number tree.child tree.acted.items tree.owners.turns.items tree.owners.kept.items tree.moves.items) c.deref-in-Load.ensures.value
+    (c.in_ok-tree-in-Load.ensures.tree (plain_core c.args.core.now) (plain_plan c.args.plan.now) Load c.in-Load.dram c.in-Load.mem))
 
 pub emit_node-returns-in_ok-tree-in-Load-clause-moves : goal.emit_node-returns-in_ok-tree-in-Load-clause-moves
 emit_node-returns-in_ok-tree-in-Load-clause-moves t c =
     let is = ap plain_node c.in-Load.is in
     let moves = c.in_ok-tree-in-Load.tree.moves.items in
-    subst (λ v. AreMovesStanding c.emit_load.new.builder (slices_in v c.args.index) moves) (sym is)
-    (subst (λ xs. AreMovesStanding c.emit_load.new.builder (slices_in (load c.in-Load.dram c.in-Load.mem (map plain_span xs)) c.args.index) moves) c.deref-in-Load.ensures.value (c.in_ok-tree-in-Load.ensures.moves c.in-Load.dram c.in-Load.mem))
+    subst (λ v. AreMovesStanding c.emit_slice.new.builder (slices_in v c.args.index) moves) (sym is)
+    (subst (λ xs. AreMovesStanding c.emit_slice.new.builder (slices_in (transfer_node Load c.in-Load.dram c.in-Load.mem (map plain_span xs)) c.args.index) moves) c.deref-in-Load.ensures.value (c.in_ok-tree-in-Load.ensures.moves Load c.in-Load.dram c.in-Load.mem))
+
+pub emit_node-emit_slice-requires-in-Store-clause-right : goal.emit_node-emit_slice-requires-in-Store-clause-right
+emit_node-emit_slice-requires-in-Store-clause-right t c =
+    let is = ap plain_node c.in-Store.is in
+    subst (λ xs. AreSpansRight c.args.builder.now c.args.around.now (map plain_span xs)) (sym c.deref-in-Store.ensures.value)
+    (slice_right c.args.builder.now (plain_core c.args.core.now) (plain_plan c.args.plan.now) c.args.around.now c.args.ends.now (plain_node c.args.node.now) Store c.in-Store.dram c.in-Store.mem (map plain_span c.in-Store.span.items) c.args.index c.args.number is c.requires.can)
+
+pub emit_node-returns-in_ok-tree-in-Store-clause-owners : goal.emit_node-returns-in_ok-tree-in-Store-clause-owners
+emit_node-returns-in_ok-tree-in-Store-clause-owners t c =
+    c.in_ok-tree-in-Store.ensures.owners (plain_core c.args.core.now)
+
+pub emit_node-returns-in_ok-tree-in-Store-clause-tree : goal.emit_node-returns-in_ok-tree-in-Store-clause-tree
+emit_node-returns-in_ok-tree-in-Store-clause-tree t c =
+    let is = ap plain_node c.in-Store.is in
+    let tree = c.in_ok-tree-in-Store.tree in
+    subst (λ v. IsTree c.args.builder.now c.emit_slice-in-Store.new.builder (plain_core c.args.core.now) (plain_plan c.args.plan.now) c.args.around.now c.args.ends.now v c.args.index c.args.number tree.child tree.acted.items tree.owners.turns.items tree.owners.kept.items tree.moves.items) (sym is)
+    (subst (λ xs. IsTree c.args.builder.now c.emit_slice-in-Store.new.builder (plain_core c.args.core.now) (plain_plan c.args.plan.now) c.args.around.now c.args.ends.now (transfer_node Store c.in-Store.dram c.in-Store.mem (map plain_span xs)) c.args.index c.args.number tree.child tree.acted.items tree.owners.turns.items tree.owners.kept.items tree.moves.items) c.deref-in-Store.ensures.value
+    (c.in_ok-tree-in-Store.ensures.tree (plain_core c.args.core.now) (plain_plan c.args.plan.now) Store c.in-Store.dram c.in-Store.mem))
+
+pub emit_node-returns-in_ok-tree-in-Store-clause-moves : goal.emit_node-returns-in_ok-tree-in-Store-clause-moves
+emit_node-returns-in_ok-tree-in-Store-clause-moves t c =
+    let is = ap plain_node c.in-Store.is in
+    let moves = c.in_ok-tree-in-Store.tree.moves.items in
+    subst (λ v. AreMovesStanding c.emit_slice-in-Store.new.builder (slices_in v c.args.index) moves) (sym is)
+    (subst (λ xs. AreMovesStanding c.emit_slice-in-Store.new.builder (slices_in (transfer_node Store c.in-Store.dram c.in-Store.mem (map plain_span xs)) c.args.index) moves) c.deref-in-Store.ensures.value (c.in_ok-tree-in-Store.ensures.moves Store c.in-Store.dram c.in-Store.mem))
 
 pub emit_node-returns-in_ok-tree-in-Outer-clause-moves : goal.emit_node-returns-in_ok-tree-in-Outer-clause-moves
 emit_node-returns-in_ok-tree-in-Outer-clause-moves t c =
@@ -420,4 +447,4 @@ pub emit_loop-returns-clause-moves : goal.emit_loop-returns-clause-moves
 emit_loop-returns-clause-moves t c =
     let st = subst (λ x. AreStages c.open_loop.new.builder c.emit_stages.new.builder (plain_core c.args.core.now) (plain_plan c.args.plan.now) c.args.around.now c.args.ends.now c.in_ok-begun.begun (map plain_counter c.args.counters.now) (plain_stage_list c.args.stages.now) c.stage_slots-slots.result.now (c.args.index + 1) (c.args.number + x) c.in_ok-inside.inside.parts.items c.in_ok-inside.inside.acted.items c.in_ok-inside.inside.owners.turns.items c.in_ok-inside.inside.owners.kept.items c.in_ok-inside.inside.moves.items) c.counters_size.ensures c.in_ok-inside.ensures in
     let fills = subst (λ xs. Fills c.emit_stages.new.builder c.close_loop.new.builder (row_nets c.in_ok-begun.begun.rows.rows.items ++ (starts_in xs ++ c.in_ok-begun.begun.part.step ∷ []))) c.deref.ensures.value c.in_ok-closed.ensures.fills in
-    moves_later c.emit_stages.new.builder c.close_loop.new.builder (slices_in_stages (plain_stage_list c.args.stages.now) (c.args.index + 1)) c.in_ok-inside.inside.moves.items fills.grows st.loads
+    moves_later c.emit_stages.new.builder c.close_loop.new.builder (slices_in_stages (plain_stage_list c.args.stages.now) (c.args.index + 1)) c.in_ok-inside.inside.moves.items fills.grows st.moved

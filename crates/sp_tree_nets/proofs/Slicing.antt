@@ -1,4 +1,4 @@
--- A load, with the nets of the ends of its slice, and the loads that a part hands on.
+-- A transfer, with the nets of the ends of its slice, and the transfers that a part hands on.
 use Rattle.std.proofs.Common.{◌≡◌, ℕ, zero, suc, ◌+◌, ◌<◌, ◌≤◌, ◌^◌, ◌==◌, ◌&&◌, ◌||◌, nat_lt, true, List, [], ◌∷◌, ◌++◌, length, All, slice_index_or, Option, Some, None, refl, sym, ◌∙◌, ap, subst, arith}
 use Rattle.std.proofs.lemmas.Bool.{and_parts}
 use Rattle.std.specs.List.{list_all}
@@ -8,21 +8,24 @@ use Rattle.sp_netlist.specs.Draft.{Draft}
 use Rattle.sp_gates.specs.Grows.{Grows}
 use Rattle.sp_gates.specs.Nets.{HasNet}
 use Rattle.sp_core.specs.Around.{Around}
+use Rattle.sp_core.specs.Invariant.{IsRight}
 use Rattle.sp_core.specs.Declarations.{dram}
 use Rattle.sp_core.specs.NodeRules.{is_node_right, is_span_right, is_slice_right, fits_sram, fits_line}
-use Rattle.sp_core.specs.Numbering.{node_count, spans_size}
-use Rattle.sp_core.specs.PlainCore.{PlainOp, PlainCounter, PlainNode, PlainSpan, PlainStages, branch, fsm, inner, load, outer, PlainCore}
+use Rattle.sp_core.specs.Numbering.{node_count, number_count, spans_size}
+use Rattle.sp_core.specs.PlainCore.{PlainOp, PlainCounter, PlainNode, PlainSpan, PlainStages, branch, fsm, inner, load, store, outer, PlainCore}
 use Rattle.sp_plan.specs.PlainPlan.{PlainPlan}
 use Rattle.sp_op_nets.specs.declared.acted.ActedList.{ActedList}
 use Rattle.sp_op_nets.specs.declared.table.AroundNets.{AroundNets}
 use Rattle.sp_bound_nets.specs.Spans.{AreSpans, AreSpansRight, HasEnds, nets_of_spans}
+use Rattle.sp_tree_handed.specs.declared.moves.Direction.{Direction}
+use Rattle.sp_tree_handed.specs.declared.moves.Direction.TheVariants.{Load, Store}
 use Rattle.sp_tree_handed.specs.declared.moves.TreeMove.{TreeMove}
 use Rattle.sp_tree_handed.specs.declared.owners.Keeping.{Keeping}
 use Rattle.sp_tree_handed.specs.declared.owners.LoopTurns.{LoopTurns}
-use Rattle.sp_tree_handed.specs.Moves.{HasEnd, AreMovesStanding, end_at, slices_in, slices_in_stages}
+use Rattle.sp_tree_handed.specs.Moves.{HasEnd, HaveEnds, AreMovesStanding, end_at, slices_in, slices_in_stages}
 use Rattle.sp_tree_handed.proofs.Moving.{moves_join, moves_later}
 use Rattle.sp_tree_nets.specs.Emitted.{CanEmit}
-use Rattle.sp_tree_nets.specs.Loads.{IsLoadTree}
+use Rattle.sp_tree_nets.specs.Slices.{IsSliceTree, transfer_node}
 use Rattle.sp_tree_nets.proofs.Sides.{node_right, one_more}
 
 -- what a table has at a number, and past its end
@@ -44,41 +47,64 @@ pub end_has : (d : Draft) (ends : List (Option ℕ)) (k net : ℕ) → HasEnd d 
 unfolding net_in
 end_has d ends k net h e = subst (λ x. HasNet d x 1) (ap net_in (sym h.there ∙ e)) h.has
 
--- the spans of a load that is right
-spans_right : (core : PlainCore) (around : Around) (r m : ℕ) (spans : List PlainSpan) → is_node_right core around (load r m spans) ≡ true → list_all (is_span_right core around) spans ≡ true
-spans_right core around r m spans h =
-    (and_parts (nat_lt r (length core.ports.drams) && (length spans == length (dram core r).dims)) (list_all (is_span_right core around) spans)
-    (and_parts (is_slice_right core around r spans) (fits_sram core around r m spans || fits_line core around r m spans) h).0).1
+-- the spans of a transfer that is right
+slice_spans : (core : PlainCore) (around : Around) (r : ℕ) (spans : List PlainSpan) → is_slice_right core around r spans ≡ true → list_all (is_span_right core around) spans ≡ true
+slice_spans core around r spans h = (and_parts (nat_lt r (length core.ports.drams) && (length spans == length (dram core r).dims)) (list_all (is_span_right core around) spans) h).1
 
-module _ (d : Draft) (core : PlainCore) (plan : PlainPlan) (table : List AroundNets) (ends : List (Option ℕ)) (node : PlainNode) (r m : ℕ) (spans : List PlainSpan) (k n : ℕ) (is : node ≡ load r m spans) (can : CanEmit d core plan table ends node k n) where
-  own : CanEmit d core plan table ends (load r m spans) k n
+spans_right : (core : PlainCore) (around : Around) (way : Direction) (r m : ℕ) (spans : List PlainSpan) → is_node_right core around (transfer_node way r m spans) ≡ true → list_all (is_span_right core around) spans ≡ true
+spans_right core around Load r m spans h = slice_spans core around r spans (and_parts (is_slice_right core around r spans) (fits_sram core around r m spans || fits_line core around r m spans) h).0
+spans_right core around Store r m spans h = slice_spans core around r spans (and_parts (is_slice_right core around r spans) (fits_sram core around r m spans) h).0
+
+module _ (d : Draft) (core : PlainCore) (plan : PlainPlan) (table : List AroundNets) (ends : List (Option ℕ)) (node : PlainNode) (way : Direction) (r m : ℕ) (spans : List PlainSpan) (k n : ℕ) (is : node ≡ transfer_node way r m spans) (can : CanEmit d core plan table ends node k n) where
+  own : CanEmit d core plan table ends (transfer_node way r m spans) k n
   own = subst (λ v. CanEmit d core plan table ends v k n) is can
 
-  pub load_right : AreSpansRight d table spans
-  load_right = record { core = core; around = own.around; right = spans_right core own.around r m spans (node_right core own.around own.earlier (load r m spans) own.right); stand = own.stand }
+  pub slice_right : AreSpansRight d table spans
+  slice_right = record { core = core; around = own.around; right = spans_right core own.around way r m spans (right_here way own.around own.earlier own.right); stand = own.stand }
+    where
+      right_here : (way : Direction) (around : Around) (earlier : List ℕ) → IsRight core around earlier (transfer_node way r m spans) → is_node_right core around (transfer_node way r m spans) ≡ true
+      right_here Load around earlier h = node_right core around earlier (load r m spans) h
+      right_here Store around earlier h = node_right core around earlier (store r m spans) h
 
-  pub load_numbers : n + spans_size spans < 2 ^ 32
-  load_numbers = (let h = own.numbers in omega (arith, h))
+  pub slice_numbers : n + spans_size spans < 2 ^ 32
+  slice_numbers = few way own.numbers
+    where
+      few : (way : Direction) → n + number_count (transfer_node way r m spans) < 2 ^ 30 → n + spans_size spans < 2 ^ 32
+      few Load h = omega (arith, h)
+      few Store h = omega (arith, h)
 
-  pub load_end : HasEnd d ends k
-  load_end = own.have_ends
+  pub slice_end : HasEnd d ends k
+  slice_end = there way own.have_ends
+    where
+      there : (way : Direction) → HaveEnds d ends (transfer_node way r m spans) k → HasEnd d ends k
+      there Load h = h
+      there Store h = h
 
 module _ (a b : Draft) (table : List AroundNets) (ends : List (Option ℕ)) (spans : List PlainSpan) (k n : ℕ) (c : Child) (acted : List ActedList) (turns : List LoopTurns) (kept : List Keeping) (moves : List TreeMove) where
-  pub load_is : (move : TreeMove) → turns ≡ [] → kept ≡ [] → moves ≡ move ∷ [] → move.node ≡ k → move.start ≡ c.start → end_at ends k ≡ Some c.done → AreSpans a b table n spans (nets_of_spans move.nets.items) acted
-      → IsLoadTree a b table ends spans k n c acted turns kept moves
-  load_is move turns_is kept_is moves_are node start end spans_are core plan r m around earlier right stand s run =
-      let w = spans_are core plan around (spans_right core around r m spans (node_right core around earlier (load r m spans) right)) stand s run in
+  pub slice_is : (move : TreeMove) → turns ≡ [] → kept ≡ [] → moves ≡ move ∷ [] → move.node ≡ k → move.start ≡ c.start → end_at ends k ≡ Some c.done → AreSpans a b table n spans (nets_of_spans move.nets.items) acted
+      → IsSliceTree a b table ends spans k n c acted turns kept moves
+  slice_is move turns_is kept_is moves_are node start end spans_are core plan Load r m around earlier right stand s run =
+      let w = spans_are core plan around (spans_right core around Load r m spans (node_right core around earlier (load r m spans) right)) stand s run in
       record {
         circuit = record { draft = b; runs_on = run; nets = nets_of_spans move.nets.items; ends = w.circuits };
         handed = w.acts;
         owners = (turns_is, kept_is);
-        loads = record { move = move; moves_are = moves_are; node = node; start = start; nets_are = refl; end = end };
+        moved = record { move = move; moves_are = moves_are; node = node; start = start; nets_are = refl; end = end };
+      }
+  slice_is move turns_is kept_is moves_are node start end spans_are core plan Store r m around earlier right stand s run =
+      let w = spans_are core plan around (spans_right core around Store r m spans (node_right core around earlier (store r m spans) right)) stand s run in
+      record {
+        circuit = record { draft = b; runs_on = run; nets = nets_of_spans move.nets.items; ends = w.circuits };
+        handed = w.acts;
+        owners = (turns_is, kept_is);
+        moved = record { move = move; moves_are = moves_are; node = node; start = start; nets_are = refl; end = end };
       }
 
--- the one load that is handed on stands
-pub one_stands : (d : Draft) (r m : ℕ) (spans : List PlainSpan) (k : ℕ) (move : TreeMove) (moves : List TreeMove) → moves ≡ move ∷ [] → move.node ≡ k → HasNet d move.start 1 → length move.nets.items ≡ length spans → All (HasEnds d) move.nets.items
-    → AreMovesStanding d (slices_in (load r m spans) k) moves
-one_stands d r m spans k move moves are node start each nets = subst (AreMovesStanding d (slices_in (load r m spans) k)) (sym are) (record { node = node; start = start; each = each; nets = nets }, tt)
+-- the one transfer that is handed on stands
+pub one_stands : (d : Draft) (way : Direction) (r m : ℕ) (spans : List PlainSpan) (k : ℕ) (move : TreeMove) (moves : List TreeMove) → moves ≡ move ∷ [] → move.node ≡ k → HasNet d move.start 1 → length move.nets.items ≡ length spans → All (HasEnds d) move.nets.items
+    → AreMovesStanding d (slices_in (transfer_node way r m spans) k) moves
+one_stands d Load r m spans k move moves are node start each nets = subst (AreMovesStanding d (slices_in (load r m spans) k)) (sym are) (record { node = node; start = start; each = each; nets = nets }, tt)
+one_stands d Store r m spans k move moves are node start each nets = subst (AreMovesStanding d (slices_in (store r m spans) k)) (sym are) (record { node = node; start = start; each = each; nets = nets }, tt)
 
 -- those of a branch, by the parts of a node as its function takes them
 module _ (node : PlainNode) (ops : List PlainOp) (first second : PlainNode) (k nodes : ℕ) (is : node ≡ branch ops first second) (nodes_is : nodes ≡ node_count first) where

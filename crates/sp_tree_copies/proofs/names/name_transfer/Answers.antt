@@ -1,6 +1,6 @@
 use Rattle.std.proofs.Common.{Some, refl}
 use Rattle.sp_tree_copies.proofs.Walking.{op_stands}
-use Rattle.sp_tree_copies.proofs.names.name_load.Goals as goal
+use Rattle.sp_tree_copies.proofs.names.name_transfer.Goals as goal
 
 pub returns-clause-stand : goal.returns-clause-stand
 returns-clause-stand c core turns kept loops d all stand h =
