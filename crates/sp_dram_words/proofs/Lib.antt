@@ -1,0 +1,6 @@
+mod Units
+mod Parts
+mod OneCopy
+mod Changes
+mod Holding
+mod Worked

@@ -1,0 +1,4 @@
+pub mod Units
+pub mod Parts
+pub mod Laws
+pub mod Example

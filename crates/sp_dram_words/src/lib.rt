@@ -1,0 +1,9 @@
+//! Laws of the words of DRAMs over the timeline of a run: units store them, and loads find them.
+#![tactic(auto)]
+
+mod laws;
+
+pub use laws::{
+    drams_are_one, drams_end, drams_hold, drams_run, loads_find, loads_find_in_part,
+    stores_write_in_whole, units_join, worked_dram,
+};
