@@ -3,4 +3,9 @@ mod Parts
 mod OneCopy
 mod Changes
 mod Holding
+mod Acting
+mod Items
+mod OnChip
+mod Moving
+mod Own
 mod Worked

@@ -157,4 +157,4 @@ words (suc (suc (suc zero))) i l = elements (Stands 3) refl refl refl i
 words (suc (suc (suc (suc t)))) i l = absurd (omega (arith, l))
 
 pub worked_dram : WorkedDram
-worked_dram = record { units = refl; runs = runs; one = one_copy; in_time = acts; words = words }
+worked_dram = record { first_store = inl (refl, refl); second_store = inr (inl (refl, refl)); units = refl; runs = runs; one = one_copy; in_time = acts; words = words }

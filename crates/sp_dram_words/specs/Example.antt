@@ -19,6 +19,7 @@ use Rattle.sp_machine.specs.Found.{one_cell}
 use Rattle.sp_machine.specs.Stamps.{Stamped}
 use Rattle.sp_memory_words.specs.Registers.{standing}
 use Rattle.sp_dram_words.specs.Units.{StoreUnit, nets_of, units_in, RunsDram}
+use Rattle.sp_dram_words.specs.Moves.{stores, NodeMoves}
 use Rattle.sp_dram_words.specs.Laws.{dram_place, IsInOneCopy, DramInTime}
 
 -- a core with two stores of an SRAM, memory 0, to its DRAM, which is memory 1; they have the numbers 2 and 5, behind the ends of their slices
@@ -67,6 +68,8 @@ abbrev pub words_first : Place → Option Contents
 words_first p = one_cell storing_core (slice_index (7 ∷ 8 ∷ 9 ∷ []) p.element)
 
 pub record WorkedDram : Type 0 where
+  pub first_store : NodeMoves storing_core.root 0 first_unit.number (stores 0 0)
+  pub second_store : NodeMoves storing_core.root 0 second_unit.number (stores 0 0)
   pub units : units_in 0 storing_cells ≡ nets_of storing_units
   pub runs : RunsDram storing_signals 0 3 (slice_index (7 ∷ 8 ∷ 9 ∷ [])) (nets_of storing_units)
   pub one : IsInOneCopy storing_events 1
