@@ -1,0 +1,11 @@
+mod Units
+mod Parts
+mod OneCopy
+mod Changes
+mod Holding
+mod Acting
+mod Items
+mod OnChip
+mod Moving
+mod Own
+mod Worked
