@@ -1,5 +1,6 @@
 //! Store units with their channels.
 ghost use Rattle.std.specs.Prelude.{◌≡◌, ℕ, ◌+◌, ◌<◌, false, true, [], ◌∷◌, ◌++◌, length, filter, count_by, IfOk, OnOk};
+ghost use Rattle.sp_netlist.specs.Cells.{store_unit};
 ghost use Rattle.sp_netlist.specs.Rules.{IsWidth, is_bank, is_dram, is_unit, dram_width};
 ghost use Rattle.sp_netlist.specs.Draft.{IsDraft, Keeps};
 ghost use Rattle.sp_taps.specs.Wires.{Promises};
@@ -51,6 +52,7 @@ pub fn add_store(
     ensures unit { IfOk result (IsStoreUnit builder.new channel dram) }
     ensures one_more { OnOk result (count_by is_unit builder.new.cells ≡ channel + 1) }
     ensures banks { OnOk result (filter is_bank builder.new.cells ≡ filter is_bank builder.old.cells) }
+    ensures cells { IfOk result (λ port. builder.new.cells ≡ builder.old.cells ++ store_unit channel dram port.ready port.request port.last port.address port.word ∷ []) }
 {
     let port = promise_store(builder, width)?;
     builder.add(Cell::StoreUnit(

@@ -22,7 +22,7 @@ use Rattle.sp_gates.specs.Grows.{is_gate, is_no_gate, AddsGates}
 use Rattle.sp_gates.specs.Runs.{RunsOn}
 use Rattle.sp_gates.proofs.Running.{none_joined}
 use Rattle.sp_taps.specs.Stores.{is_bank_part, is_no_bank_part, AddsBanks}
-use Rattle.sp_frames.specs.Framed.{in_cells, dram_cells, front_cells, out_cells, is_load, is_no_load, is_store, is_outside, AddsLoads, AddsInside, IsFramed}
+use Rattle.sp_frames.specs.Framed.{in_cells, dram_cells, front_cells, out_cells, is_load, is_no_unit, is_store, is_outside, AddsUnits, AddsInside, IsFramed}
 use Rattle.sp_frames.specs.Ports.{HaveNoDims}
 use Rattle.sp_frames.specs.Laws.{given_lists, FrameLaws, FramesRight, TapsShareNone, FramesEnd}
 use Rattle.sp_frames.proofs.DramCells.{drams_fail, drams_give, drams_declare, drams_words, lists_stay, words_stay}
@@ -33,7 +33,6 @@ record IsPlain (x : PlainCell) : Type 0 where
   pub no_out : out_port x ≡ None
   pub no_dram : dram_port x ≡ None
   pub no_name : out_name x ≡ None
-  pub no_store : is_store x ≡ false
   pub no_end : is_done x ≡ false
   pub not_over : (words : ℕ → ℕ) → cell_is_done words x ≡ false
   pub no_word : (words : ℕ → ℕ) (rest : List PlainCell) → out_words (x ∷ rest) words ≡ out_words rest words
@@ -45,22 +44,22 @@ tap_none x bank words read write Read = read
 tap_none x bank words read write Write = write
 
 inside_plain : (x : PlainCell) → is_outside x ≡ false → IsPlain x
-inside_plain (const_cell net width word) e = record { no_in = refl; no_out = refl; no_dram = refl; no_name = refl; no_store = refl; no_end = refl; not_over = λ words. refl; no_word = λ words rest. refl; no_list = λ drams rest. refl }
-inside_plain (op_cell net ty op a b) e = record { no_in = refl; no_out = refl; no_dram = refl; no_name = refl; no_store = refl; no_end = refl; not_over = λ words. refl; no_word = λ words rest. refl; no_list = λ drams rest. refl }
-inside_plain (not_cell net ty a) e = record { no_in = refl; no_out = refl; no_dram = refl; no_name = refl; no_store = refl; no_end = refl; not_over = λ words. refl; no_word = λ words rest. refl; no_list = λ drams rest. refl }
-inside_plain (shift_cell net ty side a places) e = record { no_in = refl; no_out = refl; no_dram = refl; no_name = refl; no_store = refl; no_end = refl; not_over = λ words. refl; no_word = λ words rest. refl; no_list = λ drams rest. refl }
-inside_plain (cast_cell net from to a) e = record { no_in = refl; no_out = refl; no_dram = refl; no_name = refl; no_store = refl; no_end = refl; not_over = λ words. refl; no_word = λ words rest. refl; no_list = λ drams rest. refl }
-inside_plain (mux_cell net width choice a b) e = record { no_in = refl; no_out = refl; no_dram = refl; no_name = refl; no_store = refl; no_end = refl; not_over = λ words. refl; no_word = λ words rest. refl; no_list = λ drams rest. refl }
-inside_plain (reg_cell net width first next enable) e = record { no_in = refl; no_out = refl; no_dram = refl; no_name = refl; no_store = refl; no_end = refl; not_over = λ words. refl; no_word = λ words rest. refl; no_list = λ drams rest. refl }
-inside_plain (bank_cell bank width len) e = record { no_in = refl; no_out = refl; no_dram = refl; no_name = refl; no_store = refl; no_end = refl; not_over = λ words. refl; no_word = λ words rest. refl; no_list = λ drams rest. refl }
-inside_plain (read_tap net bank enable addr) e = record { no_in = refl; no_out = refl; no_dram = refl; no_name = refl; no_store = refl; no_end = refl; not_over = λ words. refl; no_word = λ words rest. refl; no_list = λ drams rest. refl }
-inside_plain (write_tap bank enable addr word) e = record { no_in = refl; no_out = refl; no_dram = refl; no_name = refl; no_store = refl; no_end = refl; not_over = λ words. refl; no_word = λ words rest. refl; no_list = λ drams rest. refl }
+inside_plain (const_cell net width word) e = record { no_in = refl; no_out = refl; no_dram = refl; no_name = refl; no_end = refl; not_over = λ words. refl; no_word = λ words rest. refl; no_list = λ drams rest. refl }
+inside_plain (op_cell net ty op a b) e = record { no_in = refl; no_out = refl; no_dram = refl; no_name = refl; no_end = refl; not_over = λ words. refl; no_word = λ words rest. refl; no_list = λ drams rest. refl }
+inside_plain (not_cell net ty a) e = record { no_in = refl; no_out = refl; no_dram = refl; no_name = refl; no_end = refl; not_over = λ words. refl; no_word = λ words rest. refl; no_list = λ drams rest. refl }
+inside_plain (shift_cell net ty side a places) e = record { no_in = refl; no_out = refl; no_dram = refl; no_name = refl; no_end = refl; not_over = λ words. refl; no_word = λ words rest. refl; no_list = λ drams rest. refl }
+inside_plain (cast_cell net from to a) e = record { no_in = refl; no_out = refl; no_dram = refl; no_name = refl; no_end = refl; not_over = λ words. refl; no_word = λ words rest. refl; no_list = λ drams rest. refl }
+inside_plain (mux_cell net width choice a b) e = record { no_in = refl; no_out = refl; no_dram = refl; no_name = refl; no_end = refl; not_over = λ words. refl; no_word = λ words rest. refl; no_list = λ drams rest. refl }
+inside_plain (reg_cell net width first next enable) e = record { no_in = refl; no_out = refl; no_dram = refl; no_name = refl; no_end = refl; not_over = λ words. refl; no_word = λ words rest. refl; no_list = λ drams rest. refl }
+inside_plain (bank_cell bank width len) e = record { no_in = refl; no_out = refl; no_dram = refl; no_name = refl; no_end = refl; not_over = λ words. refl; no_word = λ words rest. refl; no_list = λ drams rest. refl }
+inside_plain (read_tap net bank enable addr) e = record { no_in = refl; no_out = refl; no_dram = refl; no_name = refl; no_end = refl; not_over = λ words. refl; no_word = λ words rest. refl; no_list = λ drams rest. refl }
+inside_plain (write_tap bank enable addr word) e = record { no_in = refl; no_out = refl; no_dram = refl; no_name = refl; no_end = refl; not_over = λ words. refl; no_word = λ words rest. refl; no_list = λ drams rest. refl }
 inside_plain (in_cell name net ty) e = absurd (cc)
 inside_plain (out_cell name net ty) e = absurd (cc)
 inside_plain (done_cell net) e = absurd (cc)
 inside_plain (dram_cell dram name ty dims) e = absurd (cc)
-inside_plain (load_unit channel dram ready net request last addr) e = record { no_in = refl; no_out = refl; no_dram = refl; no_name = refl; no_store = refl; no_end = refl; not_over = λ words. refl; no_word = λ words rest. refl; no_list = λ drams rest. refl }
-inside_plain (store_unit channel dram ready request last addr word) e = absurd (cc)
+inside_plain (load_unit channel dram ready net request last addr) e = record { no_in = refl; no_out = refl; no_dram = refl; no_name = refl; no_end = refl; not_over = λ words. refl; no_word = λ words rest. refl; no_list = λ drams rest. refl }
+inside_plain (store_unit channel dram ready request last addr word) e = record { no_in = refl; no_out = refl; no_dram = refl; no_name = refl; no_end = refl; not_over = λ words. refl; no_word = λ words rest. refl; no_list = λ drams rest. refl }
 
 -- no gate is a tap
 gate_taps : (words : ℕ → ℕ) (port : Port) (of : ℕ) (x : PlainCell) → is_no_gate x ≡ false → is_enabled_tap words port of x ≡ false
@@ -81,7 +80,7 @@ gate_taps words port of (dram_cell dram name ty dims) e = absurd (cc)
 gate_taps words port of (load_unit channel dram ready net request last addr) e = absurd (cc)
 gate_taps words port of (store_unit channel dram ready request last addr word) e = absurd (cc)
 
--- gates, banks with their taps, and units that load stand inside
+-- gates, banks with their taps, and units stand inside
 either_gate : (a b c : Bool) → not a ≡ false → not ((a || b) || c) ≡ false
 either_gate true b c e = refl
 either_gate false b c e = absurd (cc)
@@ -91,25 +90,25 @@ either_bank true b c e = refl
 either_bank false true c e = refl
 either_bank false false c e = absurd (cc)
 
-either_load : (a b c : Bool) → not c ≡ false → not ((a || b) || c) ≡ false
-either_load true b c e = refl
-either_load false true c e = refl
-either_load false false c e = e
+either_unit : (a b c : Bool) → not c ≡ false → not ((a || b) || c) ≡ false
+either_unit true b c e = refl
+either_unit false true c e = refl
+either_unit false false c e = e
 
-no_other : (p q : PlainCell → Bool) → ((x : PlainCell) → p x ≡ false → q x ≡ false) → (cells : List PlainCell) → NoCell p cells → NoCell q cells
+pub no_other : (p q : PlainCell → Bool) → ((x : PlainCell) → p x ≡ false → q x ≡ false) → (cells : List PlainCell) → NoCell p cells → NoCell q cells
 no_other p q sub [] h = refl
 no_other p q sub (x ∷ cells) h =
     let both = or_parts (p x) (list_any p cells) h in
     rw (sub x both.0, no_other p q sub cells both.1) refl
 
 pub gates_inside : (old new : Draft) → AddsGates old new → AddsInside old new
-gates_inside old new a = record { added = a.added; stands = a.stands; all = no_other is_no_gate is_outside (λ x e. either_gate (is_gate x) (is_bank_part x) (is_load x) e) a.added a.all }
+gates_inside old new a = record { added = a.added; stands = a.stands; all = no_other is_no_gate is_outside (λ x e. either_gate (is_gate x) (is_bank_part x) (is_load x || is_store x) e) a.added a.all }
 
 pub banks_inside : (old new : Draft) → AddsBanks old new → AddsInside old new
-banks_inside old new a = record { added = a.added; stands = a.stands; all = no_other is_no_bank_part is_outside (λ x e. either_bank (is_gate x) (is_bank_part x) (is_load x) e) a.added a.all }
+banks_inside old new a = record { added = a.added; stands = a.stands; all = no_other is_no_bank_part is_outside (λ x e. either_bank (is_gate x) (is_bank_part x) (is_load x || is_store x) e) a.added a.all }
 
-pub loads_inside : (old new : Draft) → AddsLoads old new → AddsInside old new
-loads_inside old new a = record { added = a.added; stands = a.stands; all = no_other is_no_load is_outside (λ x e. either_load (is_gate x) (is_bank_part x) (is_load x) e) a.added a.all }
+pub units_inside : (old new : Draft) → AddsUnits old new → AddsInside old new
+units_inside old new a = record { added = a.added; stands = a.stands; all = no_other is_no_unit is_outside (λ x e. either_unit (is_gate x) (is_bank_part x) (is_load x || is_store x) e) a.added a.all }
 
 pub inside_join : (old mid new : Draft) → AddsInside old mid → AddsInside mid new → AddsInside old new
 inside_join old mid new a b = record {
@@ -135,7 +134,7 @@ ins_fail test fails [] nets = refl
 ins_fail test fails (port ∷ ports) [] = refl
 ins_fail test fails (port ∷ ports) (net ∷ nets) = rw (fails port.name net port.ty, ins_fail test fails ports nets) refl
 
-outs_fail : (test : PlainCell → Bool) → ((name : List ℕ) (net : ℕ) (ty : Ty) → test (out_cell name net ty) ≡ false) → (ports : List PlainPort) (nets : List ℕ) → list_any test (out_cells ports nets) ≡ false
+pub outs_fail : (test : PlainCell → Bool) → ((name : List ℕ) (net : ℕ) (ty : Ty) → test (out_cell name net ty) ≡ false) → (ports : List PlainPort) (nets : List ℕ) → list_any test (out_cells ports nets) ≡ false
 outs_fail test fails [] nets = refl
 outs_fail test fails (port ∷ ports) [] = refl
 outs_fail test fails (port ∷ ports) (net ∷ nets) = rw (fails port.name net port.ty, outs_fail test fails ports nets) refl
@@ -151,7 +150,7 @@ outs_give f none (port ∷ ports) [] = refl
 outs_give f none (port ∷ ports) (net ∷ nets) = rw (none port.name net port.ty, outs_give f none ports nets) refl
 
 -- and of the front, which has the cells of DRAMs too
-front_fail : (test : PlainCell → Bool) → ((name : List ℕ) (net : ℕ) (ty : Ty) → test (in_cell name net ty) ≡ false) → ((dram : ℕ) (name : List ℕ) (ty : Ty) (dims : List ℕ) → test (dram_cell dram name ty dims) ≡ false)
+pub front_fail : (test : PlainCell → Bool) → ((name : List ℕ) (net : ℕ) (ty : Ty) → test (in_cell name net ty) ≡ false) → ((dram : ℕ) (name : List ℕ) (ty : Ty) (dims : List ℕ) → test (dram_cell dram name ty dims) ≡ false)
     → (ports : List PlainPort) (nets : List ℕ) (drams : List PlainPort) → list_any test (front_cells ports nets drams) ≡ false
 front_fail test ins drams_are ports nets drams = none_joined test (in_cells ports nets) (dram_cells 0 drams) (ins_fail test ins ports nets) (drams_fail test drams_are 0 drams)
 
@@ -266,9 +265,6 @@ module _ (cells : List PlainCell) (args : List PlainPort) (arg_nets : List ℕ) 
       only_end (cell_is_done words) (λ name net ty. refl) (λ dram name ty dims. refl) (inside_fail _ (λ x p. p.not_over words) inside f.all_inside) (λ name net ty. refl)
       ∙ or-none (words done == 1)
 
-  no_store : NoCell is_store cells
-  no_store = only_end is_store (λ name net ty. refl) (λ dram name ty dims. refl) (inside_fail is_store (λ x p. p.no_store) inside f.all_inside) (λ name net ty. refl)
-
   front_words : (words : ℕ → ℕ) → out_words (front_cells args arg_nets drams) words ≡ []
   front_words words = out_words-append (in_cells args arg_nets) (dram_cells 0 drams) words ∙ ap₂ (λ (xs ys : List ℕ). xs ++ ys) (ins_words args arg_nets words) (drams_words 0 drams words)
 
@@ -295,13 +291,13 @@ module _ (cells : List PlainCell) (args : List PlainPort) (arg_nets : List ℕ) 
       same ∙ f.stands ∙ append_assoc (front_cells args arg_nets drams ++ inside) (out_cells outs out_nets) (done_cell done ∷ [])
       ∙ append_assoc (front_cells args arg_nets drams) inside (out_cells outs out_nets ++ done_cell done ∷ [])
 
-  drams_stand : (g : Setting) (s : Signals) → g.cells ≡ cells → IsRun g s → (t : ℕ) → dram_lists cells (s.dram t) ≡ given_lists g 0 drams
-  drams_stand g s same run t =
+  drams_stand : NoCell is_store cells → (g : Setting) (s : Signals) → g.cells ≡ cells → IsRun g s → (t : ℕ) → dram_lists cells (s.dram t) ≡ given_lists g 0 drams
+  drams_stand no_store g s same run t =
       lists_are (s.dram t)
       ∙ lists_stay g s run (ap (list_any is_store) same ∙ no_store) (in_cells args arg_nets) 0 drams (inside ++ (out_cells outs out_nets ++ done_cell done ∷ [])) (behind g same) t
 
-  drams_given : (g : Setting) (s : Signals) → g.cells ≡ cells → IsRun g s → (t r i : ℕ) (other : PlainPort) → r < length drams → i < word_count (slice_index_or drams r other).dims → s.dram t r i ≡ slice_index (given_words g r) i
-  drams_given g s same run t r i other l m =
+  drams_given : NoCell is_store cells → (g : Setting) (s : Signals) → g.cells ≡ cells → IsRun g s → (t r i : ℕ) (other : PlainPort) → r < length drams → i < word_count (slice_index_or drams r other).dims → s.dram t r i ≡ slice_index (given_words g r) i
+  drams_given no_store g s same run t r i other l m =
       subst (λ d. s.dram t d i ≡ slice_index (given_words g d) i) {x = 0 + r} {y = r} (omega arith)
       (words_stay g s run (ap (list_any is_store) same ∙ no_store) (in_cells args arg_nets) 0 drams (inside ++ (out_cells outs out_nets ++ done_cell done ∷ [])) (behind g same) t r i other l m)
 
@@ -430,14 +426,14 @@ frames_end one g s args arg_nets drams inside outs out_nets done cycle last f ru
     laws : FrameLaws g.cells args arg_nets drams outs out_nets done
     laws = frames_right g.cells args arg_nets drams inside outs out_nets done f
 
-    ends : EndsAs g s last (done_in cycle (map (s.net cycle) out_nets) (given_lists g 0 drams))
+    ends : EndsAs g s last (done_in cycle (map (s.net cycle) out_nets) (dram_lists g.cells (s.dram cycle)))
     ends = (
       within,
       λ t l. record { shares_none = none t (omega (arith, l)); not_over = laws.over (s.net t) ∙ ne_eqb (s.net t done) 1 (first.not_before t l) },
       none cycle (omega arith),
       laws.over (s.net cycle) ∙ eq-eqb (s.net cycle done) 1 first.is_one,
       sym (laws.outs_read (s.net cycle)),
-      sym (laws.drams_stand g s refl run cycle),
+      refl,
     )
 
 pub no_output : (begun d : Draft) (ports : List PlainPort) (nets : List ℕ) (drams : List PlainPort) → begun.cells ≡ front_cells ports nets drams → AddsInside begun d → filter_map out_name d.cells ≡ []

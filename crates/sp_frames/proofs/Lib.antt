@@ -2,4 +2,5 @@ mod Adding
 mod DramCells
 mod Framing
 mod Naming
+mod Stores
 mod Working

@@ -1,5 +1,5 @@
--- The cells of a netlist that stores to no DRAM: those of its arguments and DRAMs, then units that load, gates and banks, then those of its outputs
--- and the end.
+-- The cells of a netlist: those of its arguments and DRAMs, then units that load and store, gates and banks, then those of its outputs and
+-- the end.
 use Rattle.std.specs.Prelude.{◌≡◌, ℕ, suc, Bool, true, false, ◌||◌, not, List, [], ◌∷◌, ◌++◌, length}
 use Rattle.sp_words.specs.Ports.{PlainPort}
 use Rattle.sp_netlist.specs.Cells.{PlainCell, in_cell, out_cell, done_cell, dram_cell, load_unit, store_unit}
@@ -35,20 +35,20 @@ abbrev pub is_store : PlainCell → Bool
 is_store (store_unit channel dram ready request last addr word) = true
 is_store cell = false
 
--- what doesn't stand inside of a frame: a port, a memory outside, a unit that stores, the end
+-- what doesn't stand inside of a frame: a port, a memory outside, the end
 abbrev pub is_outside : PlainCell → Bool
-is_outside cell = not ((is_gate cell || is_bank_part cell) || is_load cell)
+is_outside cell = not ((is_gate cell || is_bank_part cell) || (is_load cell || is_store cell))
 
-abbrev pub is_no_load : PlainCell → Bool
-is_no_load cell = not (is_load cell)
+abbrev pub is_no_unit : PlainCell → Bool
+is_no_unit cell = not (is_load cell || is_store cell)
 
--- cells were added at the end, all of which are units that load
-pub record AddsLoads (old new : Draft) : Type 0 where
+-- cells were added at the end, all of which are units
+pub record AddsUnits (old new : Draft) : Type 0 where
   pub added : List PlainCell
   pub stands : new.cells ≡ old.cells ++ added
-  pub all : NoCell is_no_load added
+  pub all : NoCell is_no_unit added
 
--- cells were added at the end, all of which are gates, banks and taps, and units that load
+-- cells were added at the end, all of which are gates, banks and taps, and units
 pub record AddsInside (old new : Draft) : Type 0 where
   pub added : List PlainCell
   pub stands : new.cells ≡ old.cells ++ added

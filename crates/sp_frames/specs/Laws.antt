@@ -18,7 +18,7 @@ use Rattle.sp_gates.specs.Runs.{RunsOn}
 use Rattle.sp_taps.specs.Stores.{AddsBanks}
 use Rattle.sp_core.specs.MemoryRules.{names_of, are_port_names, are_ports_of, is_dram_right}
 use Rattle.sp_core.specs.PlainCore.{PlainMem}
-use Rattle.sp_frames.specs.Framed.{in_cells, front_cells, out_cells, AddsLoads, AddsInside, IsFramed}
+use Rattle.sp_frames.specs.Framed.{in_cells, front_cells, out_cells, is_store, AddsUnits, AddsInside, IsFramed}
 use Rattle.sp_frames.specs.Ports.{AreNamed, HaveNoDims, HaveSizes, HaveNets}
 
 -- the words that DRAMs are given, from a number on: of each as many as it has
@@ -40,11 +40,16 @@ pub record PortLaws : Type 0 where
   -- arguments alone are no DRAMs, and with DRAMs they are no banks
   pub no_drams : (begun : Draft) (ports : List PlainPort) (nets : List ℕ) → begun.cells ≡ in_cells ports nets → NoCell is_dram begun.cells
   pub no_banks : (begun : Draft) (ports : List PlainPort) (nets : List ℕ) (drams : List PlainPort) → begun.cells ≡ front_cells ports nets drams → (count_by is_bank begun.cells ≡ 0) × (filter is_bank begun.cells ≡ [])
-  -- gates stand inside, and so do banks with their taps and units that load, one behind the other
+  -- gates stand inside, and so do banks with their taps and units, one behind the other
   pub gates_inside : (old new : Draft) → AddsGates old new → AddsInside old new
   pub banks_inside : (old new : Draft) → AddsBanks old new → AddsInside old new
-  pub loads_inside : (old new : Draft) → AddsLoads old new → AddsInside old new
+  pub units_inside : (old new : Draft) → AddsUnits old new → AddsInside old new
   pub inside_join : (old mid new : Draft) → AddsInside old mid → AddsInside mid new → AddsInside old new
+  -- no unit stores among arguments and DRAMs, among gates and banks that are added, or among outputs and the end
+  pub front_stores_none : (begun : Draft) (ports : List PlainPort) (nets : List ℕ) (drams : List PlainPort) → begun.cells ≡ front_cells ports nets drams → NoCell is_store begun.cells
+  pub gates_store_none : (old new : Draft) → AddsGates old new → NoCell is_store old.cells → NoCell is_store new.cells
+  pub banks_store_none : (old new : Draft) → AddsBanks old new → NoCell is_store old.cells → NoCell is_store new.cells
+  pub ends_store_none : (d : Draft) (outs : List PlainPort) (out_nets : List ℕ) (done : ℕ) (cells : List PlainCell) → cells ≡ d.cells ++ out_cells outs out_nets ++ done_cell done ∷ [] → NoCell is_store d.cells → NoCell is_store cells
   -- behind arguments, DRAMs and these there is no output and no end
   pub no_output : (begun d : Draft) (ports : List PlainPort) (nets : List ℕ) (drams : List PlainPort) → begun.cells ≡ front_cells ports nets drams → AddsInside begun d → filter_map out_name d.cells ≡ []
   pub no_end : (begun d : Draft) (ports : List PlainPort) (nets : List ℕ) (drams : List PlainPort) → begun.cells ≡ front_cells ports nets drams → AddsInside begun d → NoCell is_done d.cells
@@ -64,9 +69,9 @@ pub record FrameLaws (cells : List PlainCell) (args : List PlainPort) (arg_nets 
   pub ports : HaveNoDims args → HaveNoDims outs → ports_of cells ≡ record { args = args; outs = outs; drams = drams }
   pub over : (words : ℕ → ℕ) → is_over cells words ≡ (words done == 1)
   pub outs_read : (words : ℕ → ℕ) → out_words cells words ≡ map words out_nets
-  -- nothing stores to a DRAM, so in each cycle it has the words that it is given
-  pub drams_stand : (g : Setting) (s : Signals) → g.cells ≡ cells → IsRun g s → (t : ℕ) → dram_lists cells (s.dram t) ≡ given_lists g 0 drams
-  pub drams_given : (g : Setting) (s : Signals) → g.cells ≡ cells → IsRun g s → (t r i : ℕ) (other : PlainPort) → r < length drams → i < word_count (slice_index_or drams r other).dims → s.dram t r i ≡ slice_index (given_words g r) i
+  -- where nothing stores to a DRAM, it has in each cycle the words that it is given
+  pub drams_stand : NoCell is_store cells → (g : Setting) (s : Signals) → g.cells ≡ cells → IsRun g s → (t : ℕ) → dram_lists cells (s.dram t) ≡ given_lists g 0 drams
+  pub drams_given : NoCell is_store cells → (g : Setting) (s : Signals) → g.cells ≡ cells → IsRun g s → (t r i : ℕ) (other : PlainPort) → r < length drams → i < word_count (slice_index_or drams r other).dims → s.dram t r i ≡ slice_index (given_words g r) i
   pub args_stand : (g : Setting) (s : Signals) → g.cells ≡ cells → IsRun g s → (t i : ℕ) → i < length arg_nets → s.net t (slice_index arg_nets i) ≡ slice_index g.args i
 
 abbrev pub FramesRight : Type 0
@@ -89,12 +94,12 @@ TapsShareNone =
     (stored d : Draft) (outs : List PlainPort) (out_nets : List ℕ) (done : ℕ) (cells : List PlainCell) (words : ℕ → ℕ) → AddsGates stored d → cells ≡ d.cells ++ out_cells outs out_nets ++ done_cell done ∷ [] → IsNetlist cells
     → ((bank : ℕ) (port : Port) → bank < count_by is_bank stored.cells → count_by (is_enabled_tap words port bank) cells ≤ 1) → SharesNone cells words
 
--- such a run ends in that cycle, with the words that the outputs' nets have then and those that DRAMs are given; and so does the netlist
-pub record FrameEnds (g : Setting) (s : Signals) (drams : List PlainPort) (out_nets : List ℕ) (cycle last : ℕ) : Type 0 where
-  pub of_run : EndsAs g s last (done_in cycle (map (s.net cycle) out_nets) (given_lists g 0 drams))
-  pub of_netlist : IsNetlist g.cells → Ends g last (done_in cycle (map (s.net cycle) out_nets) (given_lists g 0 drams))
+-- such a run ends in that cycle, with the words that the outputs' nets and the DRAMs have then; and so does the netlist
+pub record FrameEnds (g : Setting) (s : Signals) (out_nets : List ℕ) (cycle last : ℕ) : Type 0 where
+  pub of_run : EndsAs g s last (done_in cycle (map (s.net cycle) out_nets) (dram_lists g.cells (s.dram cycle)))
+  pub of_netlist : IsNetlist g.cells → Ends g last (done_in cycle (map (s.net cycle) out_nets) (dram_lists g.cells (s.dram cycle)))
 
 abbrev pub FramesEnd : Type 0
 FramesEnd =
     (g : Setting) (s : Signals) (args : List PlainPort) (arg_nets : List ℕ) (drams : List PlainPort) (inside : List PlainCell) (outs : List PlainPort) (out_nets : List ℕ) (done cycle last : ℕ)
-    → IsFramed g.cells args arg_nets drams inside outs out_nets done → IsRun g s → SharesNoneUpTo g s cycle → IsFirst s done cycle → cycle ≤ last → FrameEnds g s drams out_nets cycle last
+    → IsFramed g.cells args arg_nets drams inside outs out_nets done → IsRun g s → SharesNoneUpTo g s cycle → IsFirst s done cycle → cycle ≤ last → FrameEnds g s out_nets cycle last

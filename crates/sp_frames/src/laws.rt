@@ -5,15 +5,15 @@ ghost use Rattle.sp_frames.specs.Laws.{FramesEnd, FramesRight, PortLaws, TapsSha
 use sp_netlist::one_ending;
 
 /// The ports of a core are named, those of its memories have no dimensions, and those of its DRAMs have one to three; nets that stand
-/// for ports go on to; gates stand inside of a frame, and so do banks with their taps; behind arguments, DRAMs and these there is no
+/// for ports go on to; gates stand inside of a frame, and so do banks with their taps, and units; behind arguments, DRAMs and these there is no
 /// output and no end, and where these are added the cells stand in a frame; a run of the whole runs on what stands before the
 /// outputs; in each run the net of an argument has its word; and what DRAMs are given is what is set up.
 pub fn port_laws()
     ensures { PortLaws }
 {}
 
-/// A frame declares its ports, it is over where its end's net is 1, its outputs are their nets' words, and its DRAMs keep the words
-/// that they are given.
+/// A frame declares its ports, it is over where its end's net is 1, its outputs are their nets' words, and where nothing stores its DRAMs
+/// keep the words that they are given.
 pub fn frame_laws()
     ensures { FramesRight }
 {}
@@ -24,7 +24,7 @@ pub fn taps_share_none()
 {}
 
 /// Where the end's net is 1 in a cycle and in none before, and no two taps meet up to it, the netlist is done in that cycle with the
-/// words of its outputs' nets and those that its DRAMs are given.
+/// words of its outputs' nets and those that its DRAMs have then.
 pub fn frames_end()
     ensures { FramesEnd }
 {

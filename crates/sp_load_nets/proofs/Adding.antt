@@ -16,13 +16,14 @@ use Rattle.sp_op_nets.specs.Reserved.{Rise}
 use Rattle.sp_op_nets.proofs.Giving.{above}
 use Rattle.sp_copy_nets.specs.Numbers.{StandNumbers}
 use Rattle.sp_access_nets.specs.declared.access.AccessNets.{AccessNets}
-use Rattle.sp_tree_handed.specs.declared.loads.CoreLoad.{CoreLoad}
+use Rattle.sp_tree_handed.specs.declared.transfers.CoreTransfer.{CoreTransfer}
 use Rattle.sp_tree_handed.specs.declared.moves.TreeMove.{TreeMove}
-use Rattle.sp_load_units.specs.declared.unit.LoadUnit.{LoadUnit}
+use Rattle.sp_load_units.specs.declared.unit.TransferUnit.{TransferUnit}
 use Rattle.sp_load_units.specs.Units.{unit_wires, unit_wires_in, UnitStands}
 use Rattle.sp_load_units.specs.Walks.{UnitStandsAlone}
 use Rattle.sp_load_units.proofs.Standing.{unit_is_open, unit_stays}
-use Rattle.sp_load_nets.specs.Parts.{AreSlicesStanding, WriteStands, AddsWrites}
+use Rattle.sp_tree_handed.proofs.Alone.{Loads}
+use Rattle.sp_load_nets.specs.Parts.{Loading, AreSlicesStanding, WriteStands, AddsWrites}
 use Rattle.sp_load_nets.specs.Runs.{LoadRun, AreLoadRuns}
 use Rattle.sp_load_nets.proofs.Writing.{write_later}
 use Rattle.sp_load_nets.proofs.Running.{run_before}
@@ -52,56 +53,66 @@ rise_lower a b (n ∷ ns) l h = ((let k = h.0 in omega (arith, l, k)), h.1)
 pub rise_from_none : (from : ℕ) (ns : List ℕ) → Rise from ns → Rise 0 ns
 rise_from_none from ns h = rise_lower 0 from ns (omega arith) h
 
+-- numbers that rise, those before a place and those behind it
+rise_front : (from : ℕ) (xs ys : List ℕ) → Rise from (xs ++ ys) → Rise from xs
+rise_front from [] ys h = tt
+rise_front from (x ∷ xs) ys h = (h.0, rise_front (suc x) xs ys h.1)
+
+rise_back : (from : ℕ) (xs ys : List ℕ) → Rise from (xs ++ ys) → Rise from ys
+rise_back from [] ys h = h
+rise_back from (x ∷ xs) ys h = rise_lower from (suc x) ys (let l = h.0 in omega (arith, l)) (rise_back (suc x) xs ys h.1)
+
+rise_apart : (from : ℕ) (xs ys : List ℕ) → Rise from (xs ++ ys) → (net : ℕ) → Contains ys net → Contains xs net → ⊥
+rise_apart from [] ys h net c own = (let l = own.1 in absurd (omega (arith, l)))
+rise_apart from (x ∷ xs) ys h net c (zero, l, is) = (let past = above (suc x) ys net (rise_back (suc x) xs ys h.1) c in absurd (omega (arith, past, is)))
+rise_apart from (x ∷ xs) ys h net c (suc k, l, is) = rise_apart (suc x) xs ys h.1 net c (k, omega (arith, l), is)
+
 -- the wires of the first unit, and those of the others
-pub own_rise : (unit : LoadUnit) (units : List LoadUnit) → Rise 0 (unit_wires_in (unit ∷ units)) → Rise 0 (unit_wires unit)
-own_rise unit units h = (h.0, (h.1.0, (h.1.1.0, (h.1.1.1.0, tt))))
+pub own_rise : (unit : TransferUnit) (units : List TransferUnit) → Rise 0 (unit_wires_in (unit ∷ units)) → Rise 0 (unit_wires unit)
+own_rise unit units h = rise_front 0 (unit_wires unit) (unit_wires_in units) h
 
-pub later_rise : (unit : LoadUnit) (units : List LoadUnit) → Rise 0 (unit_wires_in (unit ∷ units)) → Rise 0 (unit_wires_in units)
-later_rise unit units h = rise_lower 0 (suc unit.done) (unit_wires_in units) (omega arith) h.1.1.1.1
+pub later_rise : (unit : TransferUnit) (units : List TransferUnit) → Rise 0 (unit_wires_in (unit ∷ units)) → Rise 0 (unit_wires_in units)
+later_rise unit units h = rise_back 0 (unit_wires unit) (unit_wires_in units) h
 
-apart : (unit : LoadUnit) (units : List LoadUnit) → Rise 0 (unit_wires_in (unit ∷ units)) → (net : ℕ) → Contains (unit_wires_in units) net → Contains (unit_wires unit) net → ⊥
-apart unit units h net c own =
-    let past = above (suc unit.done) (unit_wires_in units) net h.1.1.1.1 c in
-    let l = h.1.0 in
-    let a = h.1.1.0 in
-    let e = h.1.1.1.0 in
-    below own l a e past
-  where
-    below : Contains (unit_wires unit) net → suc unit.port.request ≤ unit.port.last → suc unit.port.last ≤ unit.port.address → suc unit.port.address ≤ unit.done → suc unit.done ≤ net → ⊥
-    below (zero, m, is) l a e p = absurd (omega (arith, is, l, a, e, p))
-    below (suc zero, m, is) l a e p = absurd (omega (arith, is, l, a, e, p))
-    below (suc (suc zero), m, is) l a e p = absurd (omega (arith, is, l, a, e, p))
-    below (suc (suc (suc zero)), m, is) l a e p = absurd (omega (arith, is, l, a, e, p))
-    below (suc (suc (suc (suc k))), m, is) l a e p = absurd (omega (arith, m))
+apart : (unit : TransferUnit) (units : List TransferUnit) → Rise 0 (unit_wires_in (unit ∷ units)) → (net : ℕ) → Contains (unit_wires_in units) net → Contains (unit_wires unit) net → ⊥
+apart unit units h net c own = rise_apart 0 (unit_wires unit) (unit_wires_in units) h net c own
 
 -- those that come later still stand
-pub later_stand : (a b : Draft) (core : PlainCore) (unit : LoadUnit) (units : List LoadUnit) → Fills a b (unit_wires unit) → Rise 0 (unit_wires_in (unit ∷ units)) → All (UnitStandsAlone a core) units → All (UnitStandsAlone b core) units
+pub later_stand : (a b : Draft) (core : PlainCore) (unit : TransferUnit) (units : List TransferUnit) → Fills a b (unit_wires unit) → Rise 0 (unit_wires_in (unit ∷ units)) → All (UnitStandsAlone a core) units → All (UnitStandsAlone b core) units
 later_stand a b core unit units f rise h = each units (λ net c own. apart unit units rise net c own) h
   where
-    each : (us : List LoadUnit) → ((net : ℕ) → Contains (unit_wires_in us) net → Contains (unit_wires unit) net → ⊥) → All (UnitStandsAlone a core) us → All (UnitStandsAlone b core) us
+    each : (us : List TransferUnit) → ((net : ℕ) → Contains (unit_wires_in us) net → Contains (unit_wires unit) net → ⊥) → All (UnitStandsAlone a core) us → All (UnitStandsAlone b core) us
     each [] out g = All-nil (UnitStandsAlone b core)
     each (u ∷ us) out g =
         let here = All-head (UnitStandsAlone a core) u us g in
         All-cons (UnitStandsAlone b core) u us
-        (unit_stays a b core f.grows u.load u (λ net c. f.still_open net (unit_is_open a core u.load u here net c) (out net (Contains-append_left (unit_wires u) (unit_wires_in us) net c))) here)
+        (unit_stays a b core f.grows u.transfer u (λ net c. f.still_open net (unit_is_open a core u.transfer u here net c) (out net (Contains-append_left (unit_wires u) (unit_wires_in us) net c))) here)
         (each us (λ net c. out net (Contains-append_right (unit_wires u) (unit_wires_in us) net c)) (All-tail (UnitStandsAlone a core) u us g))
 
 pub names_later : (a b : Draft) (names : List (Option ℕ)) → Grows a b → StandNumbers a names → StandNumbers b names
 names_later a b names g h = λ net c. HasNet-stays a b net 32 g (h net c)
 
--- each unit is that of a load, so it is that of its own one
-pub stand_alone : (d : Draft) (core : PlainCore) (loads : List CoreLoad) (units : List LoadUnit) → AllZip (UnitStands d core) loads units → All (UnitStandsAlone d core) units
+-- each unit is that of a transfer, so it is that of its own one
+pub stand_alone : (d : Draft) (core : PlainCore) (transfers : List CoreTransfer) (units : List TransferUnit) → AllZip (UnitStands d core) transfers units → All (UnitStandsAlone d core) units
 stand_alone d core [] [] h = All-nil (UnitStandsAlone d core)
 stand_alone d core [] (u ∷ units) h = absurd h
-stand_alone d core (x ∷ loads) [] h = absurd h
-stand_alone d core (x ∷ loads) (u ∷ units) h = All-cons (UnitStandsAlone d core) u units (subst (λ load. UnitStands d core load u) (sym h.0.load_is) h.0) (stand_alone d core loads units h.1)
+stand_alone d core (x ∷ transfers) [] h = absurd h
+stand_alone d core (x ∷ transfers) (u ∷ units) h = All-cons (UnitStandsAlone d core) u units (subst (λ transfer. UnitStands d core transfer u) (sym h.0.transfer_is) h.0) (stand_alone d core transfers units h.1)
+
+-- those of loads load
+pub units_load : (d : Draft) (core : PlainCore) (transfers : List CoreTransfer) (units : List TransferUnit) → AllZip (UnitStands d core) transfers units → All Loads transfers → All Loading units
+units_load d core [] [] h all = All-nil Loading
+units_load d core [] (u ∷ units) h all = absurd h
+units_load d core (x ∷ transfers) [] h all = absurd h
+units_load d core (x ∷ transfers) (u ∷ units) h all =
+    All-cons Loading u units (ap (λ (y : CoreTransfer). y.direction) h.0.transfer_is ∙ All-head Loads x transfers all) (units_load d core transfers units h.1 (All-tail Loads x transfers all))
 
 -- slices that come later still stand
 span_later : (a b : Draft) (net : SpanNet) → Grows a b → HasEnds a net → HasEnds b net
 span_later a b (One net) g h = HasNet-stays a b net 32 g h
 span_later a b (Range from until) g h = (HasNet-stays a b from 32 g h.0, HasNet-stays a b until 32 g h.1)
 
-pub slices_later : (a b : Draft) (core : PlainCore) (units : List LoadUnit) (slices : List TreeMove) → Grows a b → AreSlicesStanding a core units slices → AreSlicesStanding b core units slices
+pub slices_later : (a b : Draft) (core : PlainCore) (units : List TransferUnit) (slices : List TreeMove) → Grows a b → AreSlicesStanding a core units slices → AreSlicesStanding b core units slices
 slices_later a b core [] [] g h = tt
 slices_later a b core [] (x ∷ slices) g h = absurd h
 slices_later a b core (unit ∷ units) [] g h = absurd h
@@ -111,27 +122,27 @@ slices_later a b core (unit ∷ units) (x ∷ slices) g h = (
 )
 
 -- there are as many as units
-pub no_slices : (d : Draft) (core : PlainCore) (units : List LoadUnit) (slices : List TreeMove) → units ≡ [] → AreSlicesStanding d core units slices → slices ≡ []
+pub no_slices : (d : Draft) (core : PlainCore) (units : List TransferUnit) (slices : List TreeMove) → units ≡ [] → AreSlicesStanding d core units slices → slices ≡ []
 no_slices d core [] [] e h = refl
 no_slices d core [] (x ∷ slices) e h = absurd h
-no_slices d core (unit ∷ units) slices e h = (let l = ap (λ (us : List LoadUnit). length us) e in absurd (omega (arith, l)))
+no_slices d core (unit ∷ units) slices e h = (let l = ap (λ (us : List TransferUnit). length us) e in absurd (omega (arith, l)))
 
-pub no_units : (d : Draft) (core : PlainCore) (units : List LoadUnit) (slices : List TreeMove) → slices ≡ [] → AreSlicesStanding d core units slices → units ≡ []
+pub no_units : (d : Draft) (core : PlainCore) (units : List TransferUnit) (slices : List TreeMove) → slices ≡ [] → AreSlicesStanding d core units slices → units ≡ []
 no_units d core [] slices e h = refl
 no_units d core (unit ∷ units) [] e h = absurd h
 no_units d core (unit ∷ units) (x ∷ slices) e h = (let l = ap (λ (xs : List TreeMove). length xs) e in absurd (omega (arith, l)))
 
-pub no_fills : (d : Draft) (units : List LoadUnit) → units ≡ [] → Fills d d (unit_wires_in units)
+pub no_fills : (d : Draft) (units : List TransferUnit) → units ≡ [] → Fills d d (unit_wires_in units)
 no_fills d units e = subst (λ us. Fills d d (unit_wires_in us)) (sym e) (Fills-none d)
 
 module _ (new : Draft) (core : PlainCore) (names : List (Option ℕ)) where
   no_writes : (before : List AccessNets) → AddsWrites new core names [] [] before before
   no_writes before = record { added = []; behind = sym (append-nil before); stand = All-nil (WriteStands new core); runs = λ s r. tt }
 
-  pub adds_none : (units : List LoadUnit) (slices : List TreeMove) (before : List AccessNets) → units ≡ [] → slices ≡ [] → AddsWrites new core names units slices before before
+  pub adds_none : (units : List TransferUnit) (slices : List TreeMove) (before : List AccessNets) → units ≡ [] → slices ≡ [] → AddsWrites new core names units slices before before
   adds_none units slices before e f = subst (λ us. AddsWrites new core names us slices before before) (sym e) (subst (λ xs. AddsWrites new core names [] xs before before) (sym f) (no_writes before))
 
-  pub adds_more : (mid : Draft) (unit : LoadUnit) (units : List LoadUnit) (slice : TreeMove) (slices : List TreeMove) (a : AccessNets) (before between after : List AccessNets) → Grows mid new → WriteStands mid core a
+  pub adds_more : (mid : Draft) (unit : TransferUnit) (units : List TransferUnit) (slice : TreeMove) (slices : List TreeMove) (a : AccessNets) (before between after : List AccessNets) → Grows mid new → WriteStands mid core a
       → ((s : Signals) → (r : RunsOn s mid.cells) → LoadRun core r.setting s names unit slice a) → between ≡ before ++ a ∷ [] → AddsWrites new core names units slices between after → AddsWrites new core names (unit ∷ units) (slice ∷ slices) before after
   adds_more mid unit units slice slices a before between after g stands runs e h = record {
     added = a ∷ h.added;
@@ -141,7 +152,7 @@ module _ (new : Draft) (core : PlainCore) (names : List (Option ℕ)) where
   }
 
   -- where none came before
-  module _ (units : List LoadUnit) (slices : List TreeMove) (before after : List AccessNets) (h : AddsWrites new core names units slices before after) (none : before ≡ []) where
+  module _ (units : List TransferUnit) (slices : List TreeMove) (before after : List AccessNets) (h : AddsWrites new core names units slices before after) (none : before ≡ []) where
     all_added : after ≡ h.added
     all_added = h.behind ∙ ap (λ xs. xs ++ h.added) none
 

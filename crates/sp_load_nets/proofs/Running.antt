@@ -9,9 +9,10 @@ use Rattle.sp_netlist.specs.Signals.{Signals}
 use Rattle.sp_gates.specs.Grows.{Grows}
 use Rattle.sp_gates.specs.Runs.{RunsOn}
 use Rattle.sp_gates.proofs.Running.{none_joined}
+use Rattle.sp_words.specs.Types.{width_of}
 use Rattle.sp_core.specs.Declarations.{mem, dram, dims, dram_number}
 use Rattle.sp_core.specs.PlainCore.{PlainCore}
-use Rattle.sp_channels.specs.Units.{RunsLoadUnit}
+use Rattle.sp_channels.specs.Units.{IsLoadUnit, RunsLoadUnit}
 use Rattle.sp_xfer.specs.declared.part.Load.{Load}
 use Rattle.sp_xfer.specs.declared.part.Loaded.{Loaded}
 use Rattle.sp_xfer.specs.Moving.{RunsLoad}
@@ -19,7 +20,8 @@ use Rattle.sp_access_nets.specs.declared.access.AccessNets.{AccessNets}
 use Rattle.sp_access_nets.specs.Accesses.{copy_in}
 use Rattle.sp_tree_handed.specs.declared.moves.TreeMove.{TreeMove}
 use Rattle.sp_stored_cores.specs.Loads.{IsLoadWrite}
-use Rattle.sp_load_units.specs.declared.unit.LoadUnit.{LoadUnit}
+use Rattle.sp_load_units.specs.declared.unit.TransferUnit.{TransferUnit}
+use Rattle.sp_load_units.specs.Ports.{PortRuns}
 use Rattle.sp_load_units.specs.Walks.{UnitStandsAlone}
 use Rattle.sp_load_nets.specs.Parts.{IsPartOf}
 use Rattle.sp_load_nets.specs.Runs.{LoadRun}
@@ -49,13 +51,14 @@ back n r = omega arith
 dram_dims : (core : PlainCore) (r : ℕ) → (dram core r).dims ≡ dims core (dram_number core r)
 dram_dims core r = sym (ap (λ b. if b then (mem core (dram_number core r)).dims else (dram core (dram_number core r - length core.mems)).dims) (not_less (length core.mems) r) ∙ ap (λ k. (dram core k).dims) (back (length core.mems) r))
 
-pub load_run : (old new : Draft) (core : PlainCore) (names : List (Option ℕ)) (unit : LoadUnit) (slice : TreeMove) (part : Load) (loaded : Loaded) (a : AccessNets)
-    → UnitStandsAlone old core unit → Grows old new → slice.node ≡ unit.load.node → IsPartOf core unit slice part → loaded.moving.done ≡ unit.done → IsLoadWrite unit.load.number unit.load.mem (copy_in names unit.load.number) part loaded a
+pub load_run : (old new : Draft) (core : PlainCore) (names : List (Option ℕ)) (unit : TransferUnit) (slice : TreeMove) (part : Load) (loaded : Loaded) (a : AccessNets)
+    → UnitStandsAlone old core unit → Grows old new → slice.node ≡ unit.transfer.node → IsPartOf core unit slice part → loaded.moving.done ≡ unit.done → IsLoadWrite unit.transfer.number unit.transfer.mem (copy_in names unit.transfer.number) part loaded a
     → (s : Signals) → (r : RunsOn s new.cells) → RunsLoad s part loaded → LoadRun core r.setting s names unit slice a
 load_run old new core names unit slice part loaded a u g node p done write s r runs =
     let earlier = run_before old new s g r in
-    let x = u.runs.runs r.setting s earlier.rest r.run earlier.stands in
-    let y : RunsLoadUnit r.setting s u.runs.before u.channel unit.load.dram part.port = subst (λ port. RunsLoadUnit r.setting s u.runs.before u.channel unit.load.dram port) (sym p.port) x in
+    let width : ℕ = width_of (dram core unit.transfer.dram).ty in
+    let own : IsLoadUnit old u.channel unit.transfer.dram width part.port = subst (PortRuns old u.channel unit.transfer.dram width) p.port u.runs in
+    let y : RunsLoadUnit r.setting s own.before u.channel unit.transfer.dram part.port = own.runs r.setting s earlier.rest r.run earlier.stands in
     record {
       node = node;
       few = u.of_core.has_dram;
@@ -66,8 +69,8 @@ load_run old new core names unit slice part loaded a u g node p done write s r r
       starts = p.start;
       ends = done;
       moves = p.moves;
-      dims_are = p.dims ∙ dram_dims core unit.load.dram;
-      before = u.runs.before;
+      dims_are = p.dims ∙ dram_dims core unit.transfer.dram;
+      before = own.before;
       channel = u.channel;
       channel_runs = y.channel_runs;
       word = y.moves;

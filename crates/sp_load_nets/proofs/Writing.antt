@@ -15,7 +15,7 @@ use Rattle.sp_mem.specs.Fits.{CopyFits}
 use Rattle.sp_part_runs.specs.ActsEntries.{index_words, word_that_changes}
 use Rattle.sp_circuit_ops.specs.declared.ops.WordNet.{WordNet}
 use Rattle.sp_copy_nets.specs.Numbers.{StandNumbers}
-use Rattle.sp_channels.specs.declared.ports.LoadPort.{LoadPort}
+use Rattle.sp_channels.specs.Units.{IsLoadUnit}
 use Rattle.sp_xfer.specs.declared.part.Load.{Load}
 use Rattle.sp_xfer.specs.declared.part.Loaded.{Loaded}
 use Rattle.sp_xfer.specs.Fits.{IsLoaded}
@@ -23,7 +23,9 @@ use Rattle.sp_access_nets.specs.declared.access.AccessNets.{AccessNets}
 use Rattle.sp_access_nets.specs.Accesses.{copy_in}
 use Rattle.sp_access_nets.specs.Laws.{answer_nets, net_in}
 use Rattle.sp_stored_cores.specs.Loads.{IsLoadWrite}
-use Rattle.sp_load_units.specs.declared.unit.LoadUnit.{LoadUnit}
+use Rattle.sp_load_units.specs.declared.unit.TransferUnit.{TransferUnit}
+use Rattle.sp_load_units.specs.declared.unit.UnitPort.TheVariants.{Loads}
+use Rattle.sp_load_units.specs.Ports.{PortRuns}
 use Rattle.sp_load_units.specs.Walks.{UnitStandsAlone}
 use Rattle.sp_load_nets.specs.Parts.{WriteStands}
 
@@ -93,10 +95,11 @@ module _ (d : Draft) (core : PlainCore) (number m : ℕ) (copy : Option ℕ) (pa
   }
 
 -- the word of a load's unit is as wide as those of its memory
-pub word_stands : (old new : Draft) (core : PlainCore) (unit : LoadUnit) (part : Load) → UnitStandsAlone old core unit → Grows old new → part.port ≡ unit.port → HasNet new part.port.word (width_of (mem core unit.load.mem).ty)
+pub word_stands : (old new : Draft) (core : PlainCore) (unit : TransferUnit) (part : Load) → UnitStandsAlone old core unit → Grows old new → unit.port ≡ Loads part.port → HasNet new part.port.word (width_of (mem core unit.transfer.mem).ty)
 word_stands old new core unit part u g is =
-    subst (λ (port : LoadPort). HasNet new port.word (width_of (mem core unit.load.mem).ty)) (sym is)
-    (subst (λ (width : ℕ). HasNet new unit.port.word width) (sym u.of_core.one_width) (HasNet-stays old new unit.port.word (width_of (dram core unit.load.dram).ty) g u.runs.word))
+    let width : ℕ = width_of (dram core unit.transfer.dram).ty in
+    let own : IsLoadUnit old u.channel unit.transfer.dram width part.port = subst (PortRuns old u.channel unit.transfer.dram width) is u.runs in
+    subst (λ (width : ℕ). HasNet new part.port.word width) (sym u.of_core.one_width) (HasNet-stays old new part.port.word width g own.word)
 
 -- in a later draft
 pub copy_later : (a b : Draft) (copy : Option ℕ) → Grows a b → CopyFits a copy → CopyFits b copy

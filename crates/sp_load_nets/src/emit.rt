@@ -15,14 +15,14 @@ ghost use Rattle.sp_tree_handed.specs.Standing.{AccessStands};
 ghost use Rattle.sp_tree_accesses.specs.Queued.{QueuedStands};
 ghost use Rattle.sp_load_units.specs.Units.{UnitsStand, unit_wires, unit_wires_in};
 ghost use Rattle.sp_load_units.specs.Walks.{UnitStandsAlone};
-ghost use Rattle.sp_load_nets.specs.Parts.{AddsWrites, AreSlicesStanding, SliceStands, WriteStands};
+ghost use Rattle.sp_load_nets.specs.Parts.{AddsWrites, AreSlicesStanding, Loading, SliceStands, WriteStands};
 ghost use Rattle.sp_load_nets.specs.Runs.{AreLoadRuns, LoadRun};
 
 use crate::part::part_of;
 use crate::write::{has_each_index, write_of};
 use sp_access_nets::AccessNets;
 use sp_core::Core;
-use sp_load_units::LoadUnit;
+use sp_load_units::TransferUnit;
 use sp_netlist::{Builder, NetId, NoMemory};
 use sp_tree_handed::TreeMove;
 use sp_xfer::emit_load_to;
@@ -34,11 +34,12 @@ fn emit_one(
     alloc: Global,
     builder: &mut Builder,
     core: &Core,
-    unit: &LoadUnit,
+    unit: &TransferUnit,
     slice: &TreeMove,
     names: &[Option<NetId>],
 ) -> Result<AccessNets, NoMemory>
     requires unit { UnitStandsAlone builder.old (plain_core core.now) unit.now }
+    requires loads { Loading unit.now }
     requires rise { Rise 0 (unit_wires unit.now) }
     requires slice { SliceStands builder.old (plain_core core.now) unit.now slice.now }
     requires names { StandNumbers builder.old names.now }
@@ -48,10 +49,10 @@ fn emit_one(
 {
     let part = part_of(alloc, core, unit, slice)?;
     let loaded = emit_load_to(alloc, builder, &part, unit.done)?;
-    if !has_each_index(core, unit.load.mem, &loaded) {
+    if !has_each_index(core, unit.transfer.mem, &loaded) {
         return Err(NoMemory);
     }
-    let access = write_of(unit, loaded, names)?;
+    let access = write_of(unit, &part, loaded, names)?;
     Ok(access)
 }
 
@@ -60,12 +61,13 @@ fn emit_each(
     alloc: Global,
     builder: &mut Builder,
     core: &Core,
-    units: &[LoadUnit],
+    units: &[TransferUnit],
     slices: &[TreeMove],
     names: &[Option<NetId>],
     accesses: &mut Vec<AccessNets>,
 ) -> Result<(), NoMemory>
     requires units { All (UnitStandsAlone builder.old (plain_core core.now)) units.now }
+    requires loads { All Loading units.now }
     requires rise { Rise 0 (unit_wires_in units.now) }
     requires slices { AreSlicesStanding builder.old (plain_core core.now) units.now slices.now }
     requires names { StandNumbers builder.old names.now }
@@ -92,7 +94,7 @@ pub fn emit_loads(
     alloc: Global,
     builder: &mut Builder,
     core: &Core,
-    units: &[LoadUnit],
+    units: &[TransferUnit],
     slices: &[TreeMove],
     names: &[Option<NetId>],
 ) -> Result<Vec<AccessNets>, NoMemory>

@@ -4,11 +4,14 @@ ghost use Rattle.sp_core.specs.CoreParts.{plain_core};
 ghost use Rattle.sp_core.specs.Declarations.{dram};
 ghost use Rattle.sp_transfer_runs.specs.Words.{move_of};
 ghost use Rattle.sp_bound_nets.specs.Spans.{net_of_span};
-ghost use Rattle.sp_load_nets.specs.Parts.{IsPartOf};
+ghost use Rattle.sp_load_units.specs.Ports.{direction_of};
+ghost use Rattle.sp_load_units.specs.declared.unit.UnitPort.TheVariants.{Loads};
+ghost use Rattle.sp_load_nets.specs.Parts.{IsPartOf, Loading};
 
 use sp_bound_nets::SpanNet;
+use sp_channels::LoadPort;
 use sp_core::Core;
-use sp_load_units::LoadUnit;
+use sp_load_units::{TransferUnit, UnitPort};
 use sp_netlist::NoMemory;
 use sp_slices::Move;
 use sp_tree_handed::TreeMove;
@@ -42,21 +45,35 @@ fn moves_of(alloc: Global, nets: &[SpanNet]) -> Result<Vec<Move>, NoMemory>
     nets.iter().map(|net| move_of(*net)).collect(alloc)
 }
 
+/// The nets of a unit that loads.
+fn load_port(unit: &TransferUnit) -> LoadPort
+    requires loads { Loading unit.now }
+    requires way { direction_of unit.now.port ≡ unit.now.transfer.direction }
+    ensures { unit.now.port ≡ Loads result }
+{
+    match unit.port {
+        UnitPort::Loads(port) => port,
+        UnitPort::Stores(_) => unreachable!(),
+    }
+}
+
 /// The part of a load, by its unit and its slice.
 #[tactic(auto, using(crate::proofs::Fitting::moves_are))]
 pub(crate) fn part_of(
     alloc: Global,
     core: &Core,
-    unit: &LoadUnit,
+    unit: &TransferUnit,
     slice: &TreeMove,
 ) -> Result<Load, NoMemory>
+    requires loads { Loading unit.now }
+    requires way { direction_of unit.now.port ≡ unit.now.transfer.direction }
     ensures { IfOk result (IsPartOf (plain_core core.now) unit.now slice.now) }
 {
-    let dims = Vec::from_slice(alloc, dram_dims(core, unit.load.dram))?;
+    let dims = Vec::from_slice(alloc, dram_dims(core, unit.transfer.dram))?;
     let moves = moves_of(alloc, &slice.nets)?;
     Ok(Load {
         start: slice.start,
-        port: unit.port,
+        port: load_port(unit),
         dims,
         moves,
     })

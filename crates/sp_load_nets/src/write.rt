@@ -7,9 +7,9 @@ ghost use Rattle.sp_access_nets.specs.Accesses.{copy_in};
 
 use sp_access_nets::AccessNets;
 use sp_core::{Core, OpKind};
-use sp_load_units::LoadUnit;
+use sp_load_units::TransferUnit;
 use sp_netlist::{NetId, NoMemory};
-use sp_xfer::Loaded;
+use sp_xfer::{Load, Loaded};
 
 /// The dimensions of the memory of a number.
 fn memory_dims(core: &Core, m: u32) -> &[u32]
@@ -37,28 +37,29 @@ fn copy_net(names: &[Option<NetId>], number: u32) -> Option<NetId>
     }
 }
 
-/// The write of a load, of the word of its unit.
+/// The write of a load, of the word of its part.
 pub(crate) fn write_of(
-    unit: &LoadUnit,
+    unit: &TransferUnit,
+    part: &Load,
     loaded: Loaded,
     names: &[Option<NetId>],
 ) -> Result<AccessNets, NoMemory>
-    ensures number { IfOk result (λ a. a.number ≡ unit.now.load.number) }
-    ensures mem { IfOk result (λ a. a.mem ≡ unit.now.load.mem) }
+    ensures number { IfOk result (λ a. a.number ≡ unit.now.transfer.number) }
+    ensures mem { IfOk result (λ a. a.mem ≡ unit.now.transfer.mem) }
     ensures kind { IfOk result (λ a. a.kind ≡ Write) }
     ensures enable { IfOk result (λ a. a.enable ≡ loaded.write) }
-    ensures operands { IfOk result (λ a. a.operands.items ≡ loaded.indices.items ++ unit.now.port.word ∷ []) }
-    ensures copy { IfOk result (λ a. a.copy ≡ copy_in names.now unit.now.load.number) }
+    ensures operands { IfOk result (λ a. a.operands.items ≡ loaded.indices.items ++ part.now.port.word ∷ []) }
+    ensures copy { IfOk result (λ a. a.copy ≡ copy_in names.now unit.now.transfer.number) }
     ensures answer { IfOk result (λ a. a.answer ≡ None) }
 {
-    let copy = copy_net(names, unit.load.number);
+    let copy = copy_net(names, unit.transfer.number);
     let enable = loaded.write;
     let mut operands = loaded.indices;
-    operands.push(unit.port.word)?;
+    operands.push(part.port.word)?;
     Ok(AccessNets {
-        number: unit.load.number,
+        number: unit.transfer.number,
         kind: OpKind::Write,
-        mem: unit.load.mem,
+        mem: unit.transfer.mem,
         enable,
         operands,
         copy,

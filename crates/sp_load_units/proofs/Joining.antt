@@ -2,23 +2,29 @@
 use Rattle.std.proofs.Common.{◌≡◌, ℕ, zero, suc, ◌+◌, ◌<◌, ◌≤◌, List, [], ◌∷◌, ◌++◌, length, slice_index_or, count_by, All, Contains, Option, Some, append_assoc, refl, sym, ap, ap₂, subst, ◌∙◌, inl, inr, arith}
 use Rattle.std.proofs.lemmas.Grind.{flat_map-append}
 use Rattle.std.proofs.lemmas.List.{append-nil, length-append, map-append}
-use Rattle.std.proofs.lemmas.List.Elements.{All-nil, All-cons, All-tail, All-append, All-weaker, Contains-append_right, Contains-append_cases}
+use Rattle.std.proofs.lemmas.List.Elements.{All-nil, All-cons, All-head, All-tail, All-append, All-weaker, Contains-append_right, Contains-append_cases}
 use Rattle.sp_netlist.specs.Draft.{Draft}
+use Rattle.sp_netlist.specs.Parts.{NoCell}
 use Rattle.sp_netlist.specs.Rules.{is_unit}
-use Rattle.sp_gates.specs.Nets.{IsOpen}
+use Rattle.sp_gates.specs.Grows.{Opens}
+use Rattle.sp_gates.specs.Nets.{HasNet, Awaits, IsOpen}
 use Rattle.sp_gates.proofs.Running.{none_joined}
 use Rattle.sp_taps.specs.Wires.{Promises}
 use Rattle.sp_taps.proofs.Rows.{none_promised, promises_join}
-use Rattle.sp_frames.specs.Framed.{AddsLoads, is_no_load}
+use Rattle.sp_frames.specs.Framed.{AddsUnits, is_no_unit, is_store}
+use Rattle.sp_words.specs.Types.{width_of}
+use Rattle.sp_core.specs.Declarations.{dram}
 use Rattle.sp_core.specs.PlainCore.{PlainCore}
 use Rattle.sp_op_nets.specs.Reserved.{Rise}
-use Rattle.sp_tree_handed.specs.declared.loads.CoreLoad.{CoreLoad}
+use Rattle.sp_tree_handed.specs.declared.moves.Direction.TheVariants.{Load}
+use Rattle.sp_tree_handed.specs.declared.transfers.CoreTransfer.{CoreTransfer}
 use Rattle.sp_tree_handed.specs.Moves.{end_at}
-use Rattle.sp_load_units.specs.declared.unit.LoadUnit.{LoadUnit}
+use Rattle.sp_load_units.specs.declared.unit.TransferUnit.{TransferUnit}
 use Rattle.sp_load_units.specs.declared.walk.Walk.{Walk}
-use Rattle.sp_load_units.specs.Units.{unit_wires, unit_wires_in, HaveDone}
+use Rattle.sp_load_units.specs.Ports.{PortRuns, PortWires, direction_of, port_wires}
+use Rattle.sp_load_units.specs.Units.{IsTransferOf, unit_wires, unit_wires_in, HaveDone}
 use Rattle.sp_load_units.specs.Walks.{CanGo, UnitStandsAlone, Adds}
-use Rattle.sp_load_units.proofs.Standing.{unit_stays, unit_is_open}
+use Rattle.sp_load_units.proofs.Standing.{one_promised, one_stands, ports_below, unit_stays, unit_is_open}
 
 -- each element of either part of a list, and of the two together
 pub all_front : {X : Type 0} (P : X → Type 0) (xs ys : List X) → All P (xs ++ ys) → All P xs
@@ -36,15 +42,20 @@ rise_join from to [] (m ∷ ms) le r below later = ((let l = later.0 in omega (a
 rise_join from to (n ∷ ns) ms le r below later =
     (r.0, rise_join (suc n) to ns ms (let l = below n (0, omega arith, refl) in omega (arith, l)) r.1 (λ m c. below m (Contains-append_right (n ∷ []) ns m c)) later)
 
--- cells of loads, one part behind the other
-no_loads : (a : Draft) → AddsLoads a a
-no_loads a = record { added = []; stands = sym (append-nil a.cells); all = refl }
+-- the nets of a unit rise
+unit_rises : (old mid new : Draft) (width : ℕ) (unit : TransferUnit) → Promises old mid (port_wires unit.port) → Rise (length old.promised) (port_wires unit.port) → PortWires mid width unit.port → Opens mid new unit.done → Rise (length old.promised) (unit_wires unit)
+unit_rises old mid new width unit p rise wires o =
+    rise_join (length old.promised) (length mid.promised) (port_wires unit.port) (unit.done ∷ []) p.longer rise (ports_below mid width unit.port wires) ((let e = o.fresh in omega (arith, e)), tt)
 
-more_loads : (a b c : Draft) → AddsLoads a b → AddsLoads b c → AddsLoads a c
-more_loads a b c g h = record {
+-- cells of units, one part behind the other
+no_units_added : (a : Draft) → AddsUnits a a
+no_units_added a = record { added = []; stands = sym (append-nil a.cells); all = refl }
+
+more_units : (a b c : Draft) → AddsUnits a b → AddsUnits b c → AddsUnits a c
+more_units a b c g h = record {
   added = g.added ++ h.added;
   stands = h.stands ∙ ap (λ xs. xs ++ h.added) g.stands ∙ append_assoc a.cells g.added h.added;
-  all = none_joined is_no_load g.added h.added g.all h.all;
+  all = none_joined is_no_unit g.added h.added g.all h.all;
 }
 
 -- what a table has it has with more behind
@@ -57,78 +68,92 @@ pub end_behind : (ends : List (Option ℕ)) (end : Option ℕ) → end_at (ends 
 end_behind [] end = refl
 end_behind (x ∷ ends) end = end_behind ends end
 
-done_kept : (ends more after : List (Option ℕ)) (units : List LoadUnit) → after ≡ ends ++ more → HaveDone ends units → HaveDone after units
-done_kept ends more after units e h = λ k d l. (let u = slice_index_or units k d in subst (λ es. end_at es u.load.node ≡ Some u.done) (sym e) (end_kept ends more u.load.node u.done (h k d l)))
+done_kept : (ends more after : List (Option ℕ)) (units : List TransferUnit) → after ≡ ends ++ more → HaveDone ends units → HaveDone after units
+done_kept ends more after units e h = λ k d l. (let u = slice_index_or units k d in subst (λ es. end_at es u.transfer.node ≡ Some u.done) (sym e) (end_kept ends more u.transfer.node u.done (h k d l)))
 
 -- the nets of units that stand are open
-units_open : (d : Draft) (core : PlainCore) (units : List LoadUnit) → All (UnitStandsAlone d core) units → (net : ℕ) → Contains (unit_wires_in units) net → IsOpen d net
+units_open : (d : Draft) (core : PlainCore) (units : List TransferUnit) → All (UnitStandsAlone d core) units → (net : ℕ) → Contains (unit_wires_in units) net → IsOpen d net
 units_open d core [] h net (k, l, e) = absurd (omega (arith, l))
 units_open d core (unit ∷ units) h net c = elim (Contains-append_cases (unit_wires unit) (unit_wires_in units) net c) [
-  | inl own ↦ unit_is_open d core unit.load unit (h 0 unit (omega arith)) net own
+  | inl own ↦ unit_is_open d core unit.transfer unit (h 0 unit (omega arith)) net own
   | inr later ↦ units_open d core units (All-tail (UnitStandsAlone d core) unit units h) net later
 ]
 
 module _ (core : PlainCore) (a b : Draft) (nets : List ℕ) (p : Promises a b nets) where
-  unit_kept : (unit : LoadUnit) → UnitStandsAlone a core unit → UnitStandsAlone b core unit
-  unit_kept unit h = unit_stays a b core p.grows unit.load unit (λ net c. p.still_open net (unit_is_open a core unit.load unit h net c)) h
+  unit_kept : (unit : TransferUnit) → UnitStandsAlone a core unit → UnitStandsAlone b core unit
+  unit_kept unit h = unit_stays a b core p.grows unit.transfer unit (λ net c. p.still_open net (unit_is_open a core unit.transfer unit h net c)) h
 
--- a walk that passes what isn't a load adds none
+-- a walk that passes what isn't a transfer adds none
 pub adds_none : (core : PlainCore) (d : Draft) (before after : Walk) (ends : List (Option ℕ)) → after.units.items ≡ before.units.items → after.ends.items ≡ before.ends.items ++ ends → Adds core d before d after []
 adds_none core d before after ends same more = record {
   units = [];
   ends = ends;
   units_are = same ∙ sym (append-nil before.units.items);
   ends_are = more;
-  loads_are = refl;
+  transfers_are = refl;
   promises = none_promised d;
   rise = tt;
   stand = All-nil (UnitStandsAlone d core);
-  done = All-nil (λ (u : LoadUnit). end_at after.ends.items u.load.node ≡ Some u.done);
-  cells = no_loads d;
+  done = All-nil (λ (u : TransferUnit). end_at after.ends.items u.transfer.node ≡ Some u.done);
+  cells = no_units_added d;
+  no_store = λ all h. h;
   one_each = omega arith;
 }
 
--- one load alone
-pub adds_one : (core : PlainCore) (a b : Draft) (before after : Walk) (load : CoreLoad) (unit : LoadUnit) (n : ℕ) → unit.load ≡ load → load.node ≡ length before.ends.items → after.units.items ≡ before.units.items ++ unit ∷ []
-    → after.ends.items ≡ before.ends.items ++ Some unit.done ∷ [] → Promises a b (unit_wires unit) → Rise (length a.promised) (unit_wires unit) → UnitStandsAlone b core unit → AddsLoads a b → n ≡ count_by is_unit a.cells → count_by is_unit b.cells ≡ n + 1 → Adds core a before b after (load ∷ [])
-adds_one core a b before after load unit n is at units ends promises rise stands cells had more = record {
+-- one transfer alone
+adds_one : (core : PlainCore) (a b : Draft) (before after : Walk) (transfer : CoreTransfer) (unit : TransferUnit) (n : ℕ) → unit.transfer ≡ transfer → transfer.node ≡ length before.ends.items → after.units.items ≡ before.units.items ++ unit ∷ []
+    → after.ends.items ≡ before.ends.items ++ Some unit.done ∷ [] → Promises a b (unit_wires unit) → Rise (length a.promised) (unit_wires unit) → UnitStandsAlone b core unit → AddsUnits a b → (transfer.direction ≡ Load → NoCell is_store a.cells → NoCell is_store b.cells) → n ≡ count_by is_unit a.cells → count_by is_unit b.cells ≡ n + 1 → Adds core a before b after (transfer ∷ [])
+adds_one core a b before after transfer unit n is at units ends promises rise stands cells alone had more = record {
   units = unit ∷ [];
   ends = Some unit.done ∷ [];
   units_are = units;
   ends_are = ends;
-  loads_are = ap (λ l. l ∷ []) is;
-  promises = promises;
-  rise = rise;
+  transfers_are = ap (λ l. l ∷ []) is;
+  promises = subst (Promises a b) (sym (append-nil (unit_wires unit))) promises;
+  rise = subst (Rise (length a.promised)) (sym (append-nil (unit_wires unit))) rise;
   stand = All-cons (UnitStandsAlone b core) unit [] stands (All-nil (UnitStandsAlone b core));
-  done = All-cons (λ (u : LoadUnit). end_at after.ends.items u.load.node ≡ Some u.done) unit [] there (All-nil (λ (u : LoadUnit). end_at after.ends.items u.load.node ≡ Some u.done));
+  done = All-cons (λ (u : TransferUnit). end_at after.ends.items u.transfer.node ≡ Some u.done) unit [] there (All-nil (λ (u : TransferUnit). end_at after.ends.items u.transfer.node ≡ Some u.done));
   cells = cells;
+  no_store = λ all h. alone (All-head (λ (x : CoreTransfer). x.direction ≡ Load) transfer [] all) h;
   one_each = omega (arith, had, more);
 }
   where
-    there : end_at after.ends.items unit.load.node ≡ Some unit.done
-    there = ap (λ es. end_at es unit.load.node) ends ∙ ap (λ k. end_at (before.ends.items ++ Some unit.done ∷ []) k) (ap (λ (l : CoreLoad). l.node) is ∙ at) ∙ end_behind before.ends.items (Some unit.done)
+    there : end_at after.ends.items unit.transfer.node ≡ Some unit.done
+    there = ap (λ es. end_at es unit.transfer.node) ends ∙ ap (λ k. end_at (before.ends.items ++ Some unit.done ∷ []) k) (ap (λ (l : CoreTransfer). l.node) is ∙ at) ∙ end_behind before.ends.items (Some unit.done)
 
-pub adds_join : (core : PlainCore) (a b c : Draft) (x y z : Walk) (loads more : List CoreLoad) → Adds core a x b y loads → Adds core b y c z more → Adds core a x c z (loads ++ more)
-adds_join core a b c x y z loads more g h =
+-- by its port, and the net that was promised behind it
+pub adds_port : (core : PlainCore) (a mid b : Draft) (before after : Walk) (transfer : CoreTransfer) (unit : TransferUnit) (channel width : ℕ) → unit.transfer ≡ transfer → transfer.node ≡ length before.ends.items → after.units.items ≡ before.units.items ++ unit ∷ []
+    → after.ends.items ≡ before.ends.items ++ Some unit.done ∷ [] → Promises a mid (port_wires unit.port) → Rise (length a.promised) (port_wires unit.port) → PortWires mid width unit.port → PortRuns mid channel transfer.dram width unit.port → direction_of unit.port ≡ transfer.direction
+    → width ≡ width_of (dram core transfer.dram).ty → IsTransferOf core transfer → AddsUnits a mid → (transfer.direction ≡ Load → NoCell is_store a.cells → NoCell is_store mid.cells) → Opens mid b unit.done → Awaits b unit.done 1 → HasNet b unit.done 1 → b.cells ≡ mid.cells
+    → (n : ℕ) → n ≡ count_by is_unit a.cells → count_by is_unit mid.cells ≡ n + 1 → Adds core a before b after (transfer ∷ [])
+adds_port core a mid b before after transfer unit channel width is at units ends promises rise wires runs way same of_core cells alone o w has still n had more =
+    adds_one core a b before after transfer unit n is at units ends (one_promised mid b unit o w a promises) (unit_rises a mid b width unit promises rise wires o)
+    (one_stands mid b unit o w core channel width (same ∙ ap (λ (t : CoreTransfer). width_of (dram core t.dram).ty) (sym is)) (way ∙ ap (λ (t : CoreTransfer). t.direction) (sym is)) (subst (IsTransferOf core) (sym is) of_core)
+    (subst (λ (t : CoreTransfer). PortRuns mid channel t.dram width unit.port) (sym is) runs) wires has)
+    (record { added = cells.added; stands = still ∙ cells.stands; all = cells.all }) (λ load none. subst (NoCell is_store) (sym still) (alone load none)) had (ap (count_by is_unit) still ∙ more)
+
+pub adds_join : (core : PlainCore) (a b c : Draft) (x y z : Walk) (transfers more : List CoreTransfer) → Adds core a x b y transfers → Adds core b y c z more → Adds core a x c z (transfers ++ more)
+adds_join core a b c x y z transfers more g h =
     let wires = flat_map-append unit_wires g.units h.units in
     record {
       units = g.units ++ h.units;
       ends = g.ends ++ h.ends;
       units_are = h.units_are ∙ ap (λ us. us ++ h.units) g.units_are ∙ append_assoc x.units.items g.units h.units;
       ends_are = h.ends_are ∙ ap (λ es. es ++ h.ends) g.ends_are ∙ append_assoc x.ends.items g.ends h.ends;
-      loads_are = map-append (λ (unit : LoadUnit). unit.load) g.units h.units ∙ ap₂ (λ ls ms. ls ++ ms) g.loads_are h.loads_are;
+      transfers_are = map-append (λ (unit : TransferUnit). unit.transfer) g.units h.units ∙ ap₂ (λ ls ms. ls ++ ms) g.transfers_are h.transfers_are;
       promises = subst (Promises a c) (sym wires) (promises_join a b c (unit_wires_in g.units) (unit_wires_in h.units) g.promises h.promises);
       rise = subst (Rise (length a.promised)) (sym wires)
           (rise_join (length a.promised) (length b.promised) (unit_wires_in g.units) (unit_wires_in h.units) g.promises.longer g.rise (λ n k. (units_open b core g.units g.stand n k).within) h.rise);
       stand = All-append (UnitStandsAlone c core) g.units h.units (All-weaker (UnitStandsAlone b core) (UnitStandsAlone c core) (unit_kept core b c (unit_wires_in h.units) h.promises) g.units g.stand) h.stand;
-      done = All-append (λ (u : LoadUnit). end_at z.ends.items u.load.node ≡ Some u.done) g.units h.units (done_kept y.ends.items h.ends z.ends.items g.units h.ends_are g.done) h.done;
-      cells = more_loads a b c g.cells h.cells;
+      done = All-append (λ (u : TransferUnit). end_at z.ends.items u.transfer.node ≡ Some u.done) g.units h.units (done_kept y.ends.items h.ends z.ends.items g.units h.ends_are g.done) h.done;
+      cells = more_units a b c g.cells h.cells;
+      no_store = λ all none. h.no_store (all_back (λ (x : CoreTransfer). x.direction ≡ Load) transfers more all) (g.no_store (all_front (λ (x : CoreTransfer). x.direction ≡ Load) transfers more all) none);
       one_each = (let e = g.one_each in let f = h.one_each in let l = length-append g.units h.units in omega (arith, e, f, l));
     }
 
 -- a walk goes on behind what was added
-pub goes_on : (core : PlainCore) (a b : Draft) (x y : Walk) (loads : List CoreLoad) → CanGo core a x → Adds core a x b y loads → CanGo core b y
-goes_on core a b x y loads can g = record {
+pub goes_on : (core : PlainCore) (a b : Draft) (x y : Walk) (transfers : List CoreTransfer) → CanGo core a x → Adds core a x b y transfers → CanGo core b y
+goes_on core a b x y transfers can g = record {
   draft = g.promises.grows.draft can.draft;
   units = (let e = can.units in let f = g.one_each in let l = ap (λ us. length us) g.units_are ∙ length-append x.units.items g.units in omega (arith, e, f, l));
   drams = λ r low. (let was = can.drams r low in let k = g.promises.grows.keeps.drams r was.0 in (k.0, k.1 ∙ was.1));

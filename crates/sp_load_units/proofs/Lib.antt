@@ -2,7 +2,8 @@ mod Banks
 mod Drams
 mod Ending
 mod Joining
-mod Loads
 mod Nodes
 pub mod Standing
+mod Stores
+mod Transfers
 mod Walking

@@ -1,3 +1,4 @@
 pub mod Laws
+pub mod Ports
 pub mod Units
 pub mod Walks

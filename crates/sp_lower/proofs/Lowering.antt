@@ -11,8 +11,9 @@ use Rattle.sp_words.specs.Words.{IsWord}
 use Rattle.sp_netlist.specs.declared.parts.Child.{Child}
 use Rattle.sp_netlist.specs.Cells.{PlainCell, done_cell}
 use Rattle.sp_netlist.specs.declared.cell.Port.{Port}
-use Rattle.sp_netlist.specs.Cycle.{is_enabled_tap, Ends, done_in}
+use Rattle.sp_netlist.specs.Cycle.{is_enabled_tap, dram_lists, Ends, done_in}
 use Rattle.sp_netlist.specs.Draft.{Draft}
+use Rattle.sp_netlist.specs.Parts.{NoCell}
 use Rattle.sp_netlist.specs.Laws.{HasOneRun}
 use Rattle.sp_netlist.specs.Ports.{ports_of}
 use Rattle.sp_netlist.specs.Rules.{IsNetlist, is_bank, is_unit}
@@ -39,8 +40,8 @@ use Rattle.sp_core.specs.Store.{Store, words_of}
 use Rattle.sp_plan.specs.PlainPlan.{PlainPlan}
 use Rattle.sp_machine.specs.Timeline.{core_timed}
 use Rattle.sp_machine.specs.Transfers.{Delays}
-use Rattle.sp_frames.specs.Framed.{in_cells, dram_cells, front_cells, out_cells, AddsLoads, AddsInside, IsFramed}
-use Rattle.sp_frames.specs.Laws.{given_lists, PortLaws, FramesRight, FramesEnd, SharesNoneUpTo, TapsShareNone, IsFirst}
+use Rattle.sp_frames.specs.Framed.{in_cells, dram_cells, front_cells, out_cells, is_store, AddsUnits, AddsInside, IsFramed}
+use Rattle.sp_frames.specs.Laws.{PortLaws, FramesRight, FramesEnd, SharesNoneUpTo, TapsShareNone, IsFirst}
 use Rattle.sp_frames.specs.Ports.{AreNamed, HaveNoDims, HaveSizes, HaveNets}
 use Rattle.sp_port_nets.specs.Laws.{ArgumentsArePorts, OutputsArePorts, ArgumentsHaveWords}
 use Rattle.sp_port_nets.specs.Nets.{nets_of_arguments}
@@ -53,7 +54,7 @@ use Rattle.sp_transfer_runs.specs.Delays.{delays_of, DelaysAreThere}
 use Rattle.sp_stored_cores.specs.Closing.{RunsByPlan, DramsGiven, GoesAlong, StoredCoresGo}
 use Rattle.sp_stored_cores.specs.Loads.{took_by}
 use Rattle.sp_stored_cores.specs.Outside.{DramsStay, FirstWordsGiven}
-use Rattle.sp_load_units.specs.declared.unit.LoadUnit.{LoadUnit}
+use Rattle.sp_load_units.specs.declared.unit.TransferUnit.{TransferUnit}
 use Rattle.sp_load_units.specs.Laws.{UnitsAreOpen, UnitsStay}
 use Rattle.sp_load_units.specs.Units.{unit_wires_in, UnitsStand, HaveDone}
 use Rattle.sp_op_nets.specs.Reserved.{Rise}
@@ -164,10 +165,10 @@ none_in n (k, l, e) = absurd (omega (arith, l))
 pub joined : (stored a b c e final : Draft) (wires : List ℕ) → Fills stored a [] → Fills a b [] → Fills b c [] → Fills c e wires → Fills e final [] → Fills stored final (wires ++ [])
 joined stored a b c e final wires f g h i j = Fills-join stored a final [] (wires ++ []) f (Fills-join a b final [] (wires ++ []) g (Fills-join b c final [] (wires ++ []) h (Fills-join c e final wires [] i j)))
 
--- units that load, banks, and gates behind them, stand inside of a frame
-pub inside : (law : PortLaws) (begun manned stored a b c e final : Draft) (wires : List ℕ) → AddsLoads begun manned → AddsBanks manned stored → Fills stored a [] → Fills a b [] → Fills b c [] → Fills c e wires → Fills e final [] → AddsInside begun final
+-- units, banks, and gates behind them, stand inside of a frame
+pub inside : (law : PortLaws) (begun manned stored a b c e final : Draft) (wires : List ℕ) → AddsUnits begun manned → AddsBanks manned stored → Fills stored a [] → Fills a b [] → Fills b c [] → Fills c e wires → Fills e final [] → AddsInside begun final
 inside law begun manned stored a b c e final wires units banks f g h i j =
-    law.inside_join begun manned final (law.loads_inside begun manned units)
+    law.inside_join begun manned final (law.units_inside begun manned units)
     (law.inside_join manned stored final (law.banks_inside manned stored banks) (law.gates_inside stored final (joined stored a b c e final wires f g h i j).gates))
 
 -- of the nets that are open in the end none is
@@ -196,7 +197,7 @@ pub no_units : (args : List PlainPort) (nets : List ℕ) (drams : List PlainPort
 no_units args nets drams = none_among args nets (dram_cells 0 drams) ∙ no_dram_unit 0 drams
 
 -- units still stand behind banks and the first gates, and none of their nets is one of a bank
-pub loads_stand : (core : PlainCore) (manned stored a b c : Draft) (units : List LoadUnit) (ends : List (Option ℕ)) (wires : List ℕ) (from : ℕ) → UnitsAreOpen → UnitsStay → UnitsStand manned core units → HaveEnds manned ends core.root 0 → HaveDone ends units → Rise from (unit_wires_in units)
+pub loads_stand : (core : PlainCore) (manned stored a b c : Draft) (units : List TransferUnit) (ends : List (Option ℕ)) (wires : List ℕ) (from : ℕ) → UnitsAreOpen → UnitsStay → UnitsStand manned core units → HaveEnds manned ends core.root 0 → HaveDone ends units → Rise from (unit_wires_in units)
     → Promises manned stored wires → Fills stored a [] → Fills a b [] → Fills b c [] → LoadsStand c core units ends wires
 loads_stand core manned stored a b c units ends wires from are_open stay stand have done rise promises f g h =
     let grows = grown manned stored a b c wires promises f g h in
@@ -213,7 +214,8 @@ loads_stand core manned stored a b c units ends wires from are_open stay stand h
 pub record Steps (core : PlainCore) (plan : PlainPlan) (begun manned stored a b c e final : Draft) (ports wires : List ℕ) (always never start : ℕ) (child : Child) (arguments words : List ℕ) (done : ℕ) : Type 0 where
   pub front : begun.cells ≡ front_cells core.ports.args ports core.ports.drams
   pub have : HaveNets begun core.ports.args ports
-  pub units : AddsLoads begun manned
+  pub units : AddsUnits begun manned
+  pub no_store : NoCell is_store manned.cells
   pub banks : AddsBanks manned stored
   pub no_conflict : (bank : ℕ) → bank < count_by is_bank stored.cells → HasNoConflict stored bank
   pub one : Fills stored a []
@@ -246,6 +248,12 @@ module _ (core : PlainCore) (plan : PlainPlan) (can : CanLower core plan) (right
     framed =
         law.framed begun final core.ports.args ports core.ports.drams core.ports.outs (map (slice_index words) (outs_of core)) done cells x.front whole cells_are (law.net_for_each begun core.ports.args ports x.have)
         (as_long (slice_index words) (outs_of core) ∙ (out_ports core right).each)
+
+    -- no unit stores
+    no_store : NoCell is_store cells
+    no_store =
+        law.ends_store_none final core.ports.outs (map (slice_index words) (outs_of core)) done cells cells_are
+        (law.gates_store_none stored final behind.gates (law.banks_store_none manned stored x.banks x.no_store))
 
     ports_are : ports_of cells ≡ core.ports
     ports_are =
@@ -301,7 +309,7 @@ module _ (core : PlainCore) (plan : PlainPlan) (can : CanLower core plan) (right
       -- the words of DRAMs
       stored_words : DramsGiven core input s
       stored_words t q i few inside =
-          (frames cells core.ports.args ports core.ports.drams whole.added core.ports.outs (map (slice_index words) (outs_of core)) done framed).drams_given (record { cells = cells; args = input.args; drams = input.drams; delays = delays }) s refl is_run t q i no_port few
+          (frames cells core.ports.args ports core.ports.drams whole.added core.ports.outs (map (slice_index words) (outs_of core)) done framed).drams_given no_store (record { cells = cells; args = input.args; drams = input.drams; delays = delays }) s refl is_run t q i no_port few
           (subst (λ ds. i < word_count ds) (dram_dims q) inside)
           ∙ ap (λ ws. slice_index ws i) (sym (first_words input (sym (zip_length (λ (port : PlainPort) ws. (length ws ≡ word_count port.dims) × All (IsWord port.ty) ws) core.ports.drams input.drams r.fits.drams)) q few))
         where
@@ -356,16 +364,17 @@ module _ (core : PlainCore) (plan : PlainPlan) (can : CanLower core plan) (right
           let at = (out_ports core right).at i below in
           along.outs (slice_index (outs_of core) i) (core_timed core plan timing h).took low at.within at.of_kind (omega arith)))
 
-      drams_left : given_lists (record { cells = cells; args = input.args; drams = input.drams; delays = delays }) 0 core.ports.drams ≡ dram_words core left
+      drams_left : dram_lists cells (s.dram (core_timed core plan timing h).took) ≡ dram_words core left
       drams_left =
-          law.given (record { cells = cells; args = input.args; drams = input.drams; delays = delays }) core.ports.drams (as_many core.ports.drams input.drams r.fits.drams)
+          (frames cells core.ports.args ports core.ports.drams whole.added core.ports.outs (map (slice_index words) (outs_of core)) done framed).drams_stand no_store (record { cells = cells; args = input.args; drams = input.drams; delays = delays }) s refl is_run (core_timed core plan timing h).took
+          ∙ law.given (record { cells = cells; args = input.args; drams = input.drams; delays = delays }) core.ports.drams (as_many core.ports.drams input.drams r.fits.drams)
           ∙ sym (stay right can.stored.loads_alone in_lanes input r.turns h left (sym (zip_length (λ (port : PlainPort) ws. (length ws ≡ word_count port.dims) × All (IsWord port.ty) ws) core.ports.drams input.drams r.fits.drams)) r.ran)
 
       ended : (last : ℕ) → (core_timed core plan timing h).took ≤ bound → (core_timed core plan timing h).took ≤ last → Ends (record { cells = cells; args = input.args; drams = input.drams; delays = delays }) last (done_in (core_timed core plan timing h).took (out_words core left) (dram_words core left))
       ended last low le =
           subst (λ ds. Ends (record { cells = cells; args = input.args; drams = input.drams; delays = delays }) last (done_in (core_timed core plan timing h).took (out_words core left) ds)) drams_left
           (subst (λ ws. Ends (record { cells = cells; args = input.args; drams = input.drams; delays = delays }) last
-          (done_in (core_timed core plan timing h).took ws (given_lists (record { cells = cells; args = input.args; drams = input.drams; delays = delays }) 0 core.ports.drams))) (words_left low)
+          (done_in (core_timed core plan timing h).took ws (dram_lists cells (s.dram (core_timed core plan timing h).took)))) (words_left low)
           ((ends (record { cells = cells; args = input.args; drams = input.drams; delays = delays }) s core.ports.args ports core.ports.drams whole.added core.ports.outs (map (slice_index words) (outs_of core)) done (core_timed core plan timing h).took last
           framed is_run none_shared (first_at (core_timed core plan timing h).took refl low) le).of_netlist is))
 

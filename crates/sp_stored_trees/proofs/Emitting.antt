@@ -53,7 +53,7 @@ use Rattle.sp_array_nets.specs.Fits.{MemoriesFit}
 use Rattle.sp_array_nets.specs.Laws.{ArraysAreOpen, ArraysStay}
 use Rattle.sp_array_nets.specs.Runs.{RunMemories}
 use Rattle.sp_scalar_nets.specs.Fits.{OwnersNameCopies}
-use Rattle.sp_load_units.specs.declared.unit.LoadUnit.{LoadUnit}
+use Rattle.sp_load_units.specs.declared.unit.TransferUnit.{TransferUnit}
 use Rattle.sp_load_units.specs.Laws.{UnitsAreOpen, UnitsStay}
 use Rattle.sp_load_units.specs.Units.{unit_wires_in, UnitsStand}
 use Rattle.sp_stored_cores.specs.Circuits.{StoredCircuit}
@@ -171,10 +171,10 @@ open_within d (x ∷ nets) n from le r (zero, l, e) less = (let a = r.0 in absur
 open_within d (x ∷ nets) n from le r (suc k, l, e) less = (let a = r.0 in open_within d nets n (suc x) (omega (arith, a, le)) r.1 (k, omega (arith, l), e) less)
 
 -- units stand in a later draft, in which nothing drives their nets yet
-pub units_later : UnitsAreOpen → UnitsStay → (old mid : Draft) (core : PlainCore) (units : List LoadUnit) (nets : List ℕ) → Reserves old mid nets → UnitsStand old core units → UnitsStand mid core units
+pub units_later : UnitsAreOpen → UnitsStay → (old mid : Draft) (core : PlainCore) (units : List TransferUnit) (nets : List ℕ) → Reserves old mid nets → UnitsStand old core units → UnitsStand mid core units
 units_later are_open stay old mid core units nets r h = stay old mid core units r.grows (λ net there. r.still_open net (are_open old core units h net there)) h
 
-module _ (core : PlainCore) (plan : PlainPlan) (old mid late : Draft) (acted : List ActedList) (copies : List (Option ℕ)) (owners : OwnerNets) (accesses writes : List AccessNets) (arguments : List ℕ) (arrays : List Array) (start : ℕ) (units : List LoadUnit) (able : CanEmitStored core plan)
+module _ (core : PlainCore) (plan : PlainPlan) (old mid late : Draft) (acted : List ActedList) (copies : List (Option ℕ)) (owners : OwnerNets) (accesses writes : List AccessNets) (arguments : List ℕ) (arrays : List Array) (start : ℕ) (units : List TransferUnit) (able : CanEmitStored core plan)
     (r : Reserves old mid (answers_in acted)) (moved : Fills mid late (unit_wires_in units)) (same : answer_nets accesses ≡ answers_in acted) (stand : BoundsReadArguments core core.root → All (AccessStands late core) accesses) (of_core : All (IsOfCore core (copy_in copies)) accesses)
     (queued : All (QueuedStands late core) accesses) (right : IsCore core) (read : AnswersAreOfReads core) (lists : AreListsStanding late core (lists_in core.root 0) acted) (all : AreAllAccesses (copy_in copies) (lists_in core.root 0) acted accesses) (unanswered : answer_nets writes ≡ []) where
   are : AreTreeAccesses core (copy_in copies) acted accesses

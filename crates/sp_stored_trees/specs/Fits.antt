@@ -8,7 +8,7 @@ use Rattle.sp_core.specs.Declarations.{mem, kind_of}
 use Rattle.sp_core.specs.PlainCore.{PlainCore}
 use Rattle.sp_plan.specs.PlainPlan.{PlainPlan}
 use Rattle.sp_op_nets.specs.Reserved.{Rise}
-use Rattle.sp_load_units.specs.declared.unit.LoadUnit.{LoadUnit}
+use Rattle.sp_load_units.specs.declared.unit.TransferUnit.{TransferUnit}
 use Rattle.sp_load_units.specs.Units.{unit_wires_in, UnitsStand, HaveDone}
 use Rattle.sp_tree_handed.specs.Loads.{HasNoStore}
 use Rattle.sp_tree_handed.specs.Moves.{HaveEnds}
@@ -37,7 +37,7 @@ pub record WordsStand (d : Draft) (core : PlainCore) (words : List ℕ) : Type 0
   pub nets : (m : ℕ) → m < length core.mems → kind_of core m ≢ Sram → kind_of core m ≢ Fifo → HasNet d (slice_index words m) (width_of (mem core m).ty)
 
 -- The unit of each load stands, and a table has the nets by which loads are done; their nets are apart, also from these.
-pub record LoadsStand (d : Draft) (core : PlainCore) (units : List LoadUnit) (ends : List (Option ℕ)) (wires : List ℕ) : Type 0 where
+pub record LoadsStand (d : Draft) (core : PlainCore) (units : List TransferUnit) (ends : List (Option ℕ)) (wires : List ℕ) : Type 0 where
   pub units_stand : UnitsStand d core units
   pub ends_stand : HaveEnds d ends core.root 0
   pub done : HaveDone ends units

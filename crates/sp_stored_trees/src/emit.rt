@@ -14,7 +14,7 @@ ghost use Rattle.sp_stored_trees.specs.Fits.{ArgumentsStand, CanEmitStored, Load
 use sp_array_nets::{Array, arrays_are_open, arrays_stay, emit_memories};
 use sp_core::Core;
 use sp_load_nets::{emit_loads, loads_are_had};
-use sp_load_units::{LoadUnits, units_are_open, units_stay};
+use sp_load_units::{TransferUnits, units_are_open, units_stay};
 use sp_netlist::{Builder, Child, NetId, NoMemory};
 use sp_op_nets::reserved_are_driven;
 use sp_plan::Plan;
@@ -43,7 +43,7 @@ pub fn emit_stored_core(
     plan: &Plan,
     arguments: &[NetId],
     arrays: &[Array],
-    loads: &LoadUnits,
+    loads: &TransferUnits,
     start: NetId,
 ) -> Result<StoredTree, NoMemory>
     requires can { CanEmitStored (plain_core core.now) (plain_plan plan.now) }

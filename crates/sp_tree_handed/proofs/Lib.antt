@@ -1,3 +1,4 @@
+pub mod Alone
 pub mod Joining
 mod Least
 pub mod Moving

@@ -4,3 +4,4 @@ pub mod Moves
 pub mod Owners
 pub mod Standing
 pub mod Scalars
+pub mod Transfers

@@ -2,12 +2,12 @@
 //! states and its transfers are started, and how lists of operations stand in a draft.
 #![tactic(auto)]
 
-mod loads;
 mod moves;
 mod owners;
 mod slots;
+mod transfers;
 
-pub use loads::CoreLoad;
 pub use moves::{Direction, TreeMove};
 pub use owners::{Keeping, LoopTurns, OwnerNets, Renewal, TreeOwners};
 pub use slots::{first_slot, stage_slots};
+pub use transfers::CoreTransfer;

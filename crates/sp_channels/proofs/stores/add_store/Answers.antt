@@ -1,3 +1,5 @@
+use Rattle.std.proofs.Common.{[], ◌∷◌, ◌++◌, ap, ◌∙◌}
+use Rattle.sp_netlist.specs.Cells.{store_unit}
 use Rattle.sp_gates.proofs.Growing.{Keeps-same}
 use Rattle.sp_channels.proofs.StoreStanding.{can_store, store_promises, store_wires_are, store_unit_is, store_units, store_banks, store_longer}
 use Rattle.sp_channels.proofs.stores.add_store.Goals as goal
@@ -42,3 +44,8 @@ returns-clause-one_more c =
     let p = c.in_ok-port.ensures in
     let a = c.in_ok-add.ensures in
     store_units c.args.builder.now c.promise_store.new.builder c.add.new.self c.requires.draft p.same_cells p.keeps a.keeps a.draft c.args.channel c.args.dram c.args.width c.in_ok-port.port p.row p.promised a.added a.same_nets a.drivers c.requires.channel
+
+pub returns-clause-cells : goal.returns-clause-cells
+returns-clause-cells c =
+    let p = c.in_ok-port.port in
+    c.in_ok-add.ensures.added ∙ ap (λ cs. cs ++ store_unit c.args.channel c.args.dram p.ready p.request p.last p.address p.word ∷ []) c.in_ok-port.ensures.same_cells

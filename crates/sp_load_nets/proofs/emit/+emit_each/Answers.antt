@@ -6,7 +6,7 @@ use Rattle.sp_core.specs.CoreParts.{plain_core}
 use Rattle.sp_op_nets.specs.Reserved.{Rise}
 use Rattle.sp_load_units.specs.Units.{unit_wires, unit_wires_in}
 use Rattle.sp_load_units.specs.Walks.{UnitStandsAlone}
-use Rattle.sp_load_nets.specs.Parts.{AddsWrites, AreSlicesStanding}
+use Rattle.sp_load_nets.specs.Parts.{AddsWrites, AreSlicesStanding, Loading}
 use Rattle.sp_load_nets.proofs.Adding.{others, first_is, none_is, no_fills, no_slices, no_units, later_stand, later_rise, slices_later, names_later, adds_none, adds_more}
 use Rattle.sp_load_nets.proofs.emit.+emit_each.Goals as goal
 
@@ -50,7 +50,8 @@ emit_each-requires t c =
     let grows = c.in_ok-access.ensures.fills.grows in
     let later = later_stand old mid core unit (others units) c.in_ok-access.ensures.fills rise (All-tail (UnitStandsAlone old core) unit (others units) (subst (All (UnitStandsAlone old core)) units_are c.requires.units)) in
     let stand = subst (λ us. AreSlicesStanding old core us (slice ∷ others slices)) units_are (subst (AreSlicesStanding old core units) slices_are c.requires.slices) in
-    (search rules, (later, (later_rise unit (others units) rise, (slices_later old mid core (others units) (others slices) grows stand.1, names_later old mid c.args.names.now grows c.requires.names))))
+    let loads = All-tail Loading unit (others units) (subst (All Loading) units_are c.requires.loads) in
+    (search rules, (later, (loads, (later_rise unit (others units) rise, (slices_later old mid core (others units) (others slices) grows stand.1, names_later old mid c.args.names.now grows c.requires.names)))))
 
 pub returns-clause-fills : goal.returns-clause-fills
 returns-clause-fills t c =

@@ -3,21 +3,27 @@ use Rattle.std.proofs.lemmas.List.Elements.{All-weaker}
 use Rattle.sp_core.specs.CoreParts.{plain_core}
 use Rattle.sp_mem.specs.Fits.{CopyFits}
 use Rattle.sp_access_nets.specs.declared.access.AccessNets.{AccessNets}
-use Rattle.sp_tree_handed.specs.Loads.{loads_in}
+use Rattle.sp_tree_handed.specs.Transfers.{transfers_in}
 use Rattle.sp_tree_handed.specs.Standing.{AccessStands}
+use Rattle.sp_tree_handed.proofs.Alone.{all_load}
 use Rattle.sp_tree_accesses.specs.Queued.{QueuedStands}
 use Rattle.sp_load_units.specs.Units.{unit_wires_in}
 use Rattle.sp_load_nets.specs.Parts.{WriteStands}
-use Rattle.sp_load_nets.proofs.Adding.{stand_alone, rise_from_none, all_stand, all_run}
+use Rattle.sp_load_nets.proofs.Adding.{stand_alone, units_load, rise_from_none, all_stand, all_run}
 use Rattle.sp_load_nets.proofs.Slices.{slices_stand}
 use Rattle.sp_load_nets.proofs.Writing.{no_answers}
 use Rattle.sp_load_nets.proofs.emit.emit_loads.Goals as goal
 
 pub emit_each-requires-clause-units : goal.emit_each-requires-clause-units
-emit_each-requires-clause-units c = let core = plain_core c.args.core.now in stand_alone c.args.builder.now core (loads_in core.root 0 0) c.args.units.now c.requires.units
+emit_each-requires-clause-units c = let core = plain_core c.args.core.now in stand_alone c.args.builder.now core (transfers_in core.root 0 0) c.args.units.now c.requires.units
+
+pub emit_each-requires-clause-loads : goal.emit_each-requires-clause-loads
+emit_each-requires-clause-loads c =
+    let core = plain_core c.args.core.now in
+    units_load c.args.builder.now core (transfers_in core.root 0 0) c.args.units.now c.requires.units (all_load core.root 0 0 c.requires.loads_alone)
 
 pub emit_each-requires-clause-slices : goal.emit_each-requires-clause-slices
-emit_each-requires-clause-slices c = slices_stand (plain_core c.args.core.now) c.args.builder.now c.args.units.now c.args.slices.now c.root-root.ensures.core c.requires.loads_alone c.requires.units c.requires.slices
+emit_each-requires-clause-slices c = slices_stand (plain_core c.args.core.now) c.args.builder.now c.args.units.now c.args.slices.now c.root-root.ensures.core c.requires.units c.requires.slices
 
 pub emit_each-requires-clause-rise : goal.emit_each-requires-clause-rise
 emit_each-requires-clause-rise c = rise_from_none c.requires.rise.0 (unit_wires_in c.args.units.now) c.requires.rise.1

@@ -1,6 +1,4 @@
-use Rattle.std.proofs.Common.{◌∷◌, [], ◌++◌, sym, ap, ◌∙◌}
 use Rattle.sp_core.specs.CoreParts.{plain_core}
-use Rattle.sp_channels.specs.declared.ports.LoadPort.{LoadPort}
 use Rattle.sp_access_nets.specs.Accesses.{copy_in}
 use Rattle.sp_stored_cores.specs.Loads.{IsLoadWrite}
 use Rattle.sp_load_nets.proofs.Fitting.{load_fits, load_fills}
@@ -22,32 +20,32 @@ returns-clause-stands c =
     let part = c.in_ok-part.part in
     let old = c.args.builder.now in
     let new = c.emit_load_to.new.builder in
-    let copy = copy_in c.args.names.now unit.load.number in
+    let copy = copy_in c.args.names.now unit.transfer.number in
     let grows = c.in_ok-loaded.ensures.fills.grows in
     let e = c.in_ok-access.ensures in
-    let write : IsLoadWrite unit.load.number unit.load.mem copy part c.in_ok-loaded.loaded c.in_ok-access.access = record {
+    let write : IsLoadWrite unit.transfer.number unit.transfer.mem copy part c.in_ok-loaded.loaded c.in_ok-access.access = record {
       number_is = e.number;
       mem_is = e.mem;
       kind_is = e.kind;
       enable = e.enable;
-      operands = e.operands ∙ ap (λ (port : LoadPort). c.in_ok-loaded.loaded.indices.items ++ port.word ∷ []) (sym c.in_ok-part.ensures.port);
+      operands = e.operands;
       copied = e.copy;
       unanswered = e.answer;
     } in
-    write_stands new core unit.load.number unit.load.mem copy part c.in_ok-loaded.loaded c.in_ok-access.access write c.requires.unit.of_core.has_mem (word_stands old new core unit part c.requires.unit grows c.in_ok-part.ensures.port) c.in_ok-loaded.ensures.nets
-    (c.has_each_index.ensures c.if-not-has_each_index.false) (copy_later old new copy grows (copy_fits old c.args.names.now unit.load.number c.requires.names))
+    write_stands new core unit.transfer.number unit.transfer.mem copy part c.in_ok-loaded.loaded c.in_ok-access.access write c.requires.unit.of_core.has_mem (word_stands old new core unit part c.requires.unit grows c.in_ok-part.ensures.port) c.in_ok-loaded.ensures.nets
+    (c.has_each_index.ensures c.if-not-has_each_index.false) (copy_later old new copy grows (copy_fits old c.args.names.now unit.transfer.number c.requires.names))
 
 pub returns-clause-runs : goal.returns-clause-runs
 returns-clause-runs c = λ s r.
     let core = plain_core c.args.core.now in
     let unit = c.args.unit.now in
     let e = c.in_ok-access.ensures in
-    let write : IsLoadWrite unit.load.number unit.load.mem (copy_in c.args.names.now unit.load.number) c.in_ok-part.part c.in_ok-loaded.loaded c.in_ok-access.access = record {
+    let write : IsLoadWrite unit.transfer.number unit.transfer.mem (copy_in c.args.names.now unit.transfer.number) c.in_ok-part.part c.in_ok-loaded.loaded c.in_ok-access.access = record {
       number_is = e.number;
       mem_is = e.mem;
       kind_is = e.kind;
       enable = e.enable;
-      operands = e.operands ∙ ap (λ (port : LoadPort). c.in_ok-loaded.loaded.indices.items ++ port.word ∷ []) (sym c.in_ok-part.ensures.port);
+      operands = e.operands;
       copied = e.copy;
       unanswered = e.answer;
     } in

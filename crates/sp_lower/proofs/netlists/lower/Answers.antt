@@ -95,7 +95,7 @@ emit_stored_core-requires-clause-loads c =
     let l = c.in_ok-loads.ensures in
     subst (λ xs. LoadsStand c.hold.new.builder core units c.in_ok-loads.loads.ends.items (wires_in xs)) (sym c.deref-5.ensures.value)
     (loads_stand core c.add_units.new.builder c.add_arrays.new.builder c.one.new.builder c.constant.new.builder c.hold.new.builder units c.in_ok-loads.loads.ends.items (wires_in c.in_ok-arrays.arrays.items) (length c.add_drams.new.builder.promised) c.units_are_open.ensures c.units_stay.ensures l.stand
-    (l.ends c.requires.stored.loads_alone) l.done l.rise c.in_ok-arrays.ensures.promises c.in_ok-always.ensures.fills c.in_ok-zero.ensures.fills c.in_ok-start.ensures.fills)
+    (l.ends c.requires.stored.timed) l.done l.rise c.in_ok-arrays.ensures.promises c.in_ok-always.ensures.fills c.in_ok-zero.ensures.fills c.in_ok-start.ensures.fills)
 
 pub hold-requires-2-clause-enable : goal.hold-requires-2-clause-enable
 hold-requires-2-clause-enable c =
@@ -151,12 +151,14 @@ returns-clause-carries c =
     let tree = subst (λ xs. Fills c.hold.new.builder c.emit_stored_core.new.builder (unit_wires_in c.in_ok-loads.loads.units.items ++ wires_in xs)) c.deref-5.ensures.value c.in_ok-tree.ensures.fills in
     let final = c.hold-2.new.builder in
     let cells_are = c.in_ok-netlist.ensures.cells ∙ ap (λ ps. final.cells ++ out_cells ps c.deref-8.result.now ++ done_cell c.in_ok-done.done ∷ []) outs_are ∙ ap (λ ns. final.cells ++ out_cells core.ports.outs ns ++ done_cell c.in_ok-done.done ∷ []) nets_are in
+    let front = c.in_ok-add_drams.ensures.cells ∙ ap (λ cells. cells ++ dram_cells 0 (map plain_port c.deref-2.result.now)) c.in_ok-ports.ensures.cells
+    ∙ ap (λ ps. front_cells ps c.in_ok-ports.ports.items (map plain_port c.deref-2.result.now)) args_are ∙ ap (λ ps. front_cells core.ports.args c.in_ok-ports.ports.items ps) drams_are in
     let steps : Steps core plan c.add_drams.new.builder c.add_units.new.builder c.add_arrays.new.builder c.one.new.builder c.constant.new.builder c.hold.new.builder c.emit_stored_core.new.builder c.hold-2.new.builder c.in_ok-ports.ports.items (unit_wires_in c.in_ok-loads.loads.units.items ++ wires_in arrays)
     c.in_ok-always.always c.in_ok-zero.zero c.in_ok-start.start c.in_ok-tree.tree.child c.deref-4.result.now c.in_ok-tree.tree.words.items c.in_ok-done.done = record {
-      front = c.in_ok-add_drams.ensures.cells ∙ ap (λ cells. cells ++ dram_cells 0 (map plain_port c.deref-2.result.now)) c.in_ok-ports.ensures.cells
-          ∙ ap (λ ps. front_cells ps c.in_ok-ports.ports.items (map plain_port c.deref-2.result.now)) args_are ∙ ap (λ ps. front_cells core.ports.args c.in_ok-ports.ports.items ps) drams_are;
+      front = front;
       have = subst (λ ps. HaveNets c.add_drams.new.builder ps c.in_ok-ports.ports.items) args_are (c.port_laws.ensures.nets_stay c.add_inputs.new.builder c.add_drams.new.builder (map plain_port c.deref.result.now) c.in_ok-ports.ports.items c.in_ok-add_drams.ensures.builds.grows c.in_ok-ports.ensures.nets);
       units = c.in_ok-loads.ensures.cells;
+      no_store = c.in_ok-loads.ensures.no_store c.requires.stored.loads_alone (c.port_laws.ensures.front_stores_none c.add_drams.new.builder core.ports.args c.in_ok-ports.ports.items core.ports.drams front);
       banks = c.in_ok-arrays.ensures.cells;
       no_conflict = λ bank within. c.arrays_share_none.ensures c.add_arrays.new.builder core plan arrays c.in_ok-arrays.ensures.stand c.in_ok-arrays.ensures.numbers (let e = c.in_ok-arrays.ensures.count in omega (arith, e)) bank within;
       one = c.in_ok-always.ensures.fills;
