@@ -243,7 +243,6 @@ can_lower p plan valid is by arrays planned short h =
       stored = record {
         right = is;
         timed = timed core core.root b.tree;
-        loads_alone = loads_alone core core.root b.tree;
         uncounted = uncounted core.root b.root;
         stored = stored core b.are_stored;
         arguments = reads_arguments core b.tree;

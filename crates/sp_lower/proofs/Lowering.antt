@@ -51,7 +51,11 @@ use Rattle.sp_taps.specs.Wires.{Promises}
 use Rattle.sp_stored_cores.specs.Circuits.{StoredCircuit, StartsOnce}
 use Rattle.sp_channel_runs.specs.Bursts.{DelaysAreSmall}
 use Rattle.sp_transfer_runs.specs.Delays.{delays_of, DelaysAreThere}
-use Rattle.sp_stored_cores.specs.Closing.{RunsByPlan, DramsGiven, GoesAlong, StoredCoresGo}
+use Rattle.sp_stored_cores.specs.Closing.{RunsByPlan, DramsRun, GoesAlong, StoredCoresGo}
+use Rattle.sp_stored_cores.specs.Stores.{units_of, NoneStands}
+use Rattle.sp_op_nets.specs.Table.{nets_at}
+use Rattle.sp_dram_words.specs.Units.{nets_of as store_nets, RunsDram}
+use Rattle.sp_dram_words.specs.Laws.{dram_size, input_word}
 use Rattle.sp_stored_cores.specs.Loads.{took_by}
 use Rattle.sp_stored_cores.specs.Outside.{DramsStay, FirstWordsGiven}
 use Rattle.sp_load_units.specs.declared.unit.TransferUnit.{TransferUnit}
@@ -239,7 +243,7 @@ module _ (core : PlainCore) (plan : PlainPlan) (can : CanLower core plan) (right
   whole : AddsInside begun final
   whole = inside law begun manned stored a b c e final wires x.units x.banks x.one x.none x.held x.tree x.last
 
-  module _ (frames : FramesRight) (ends : FramesEnd) (sharing : TapsShareNone) (go : StoredCoresGo core plan) (stay : DramsStay core) (first_words : FirstWordsGiven core) (there : (h : History) (took : (node ask : ℕ) → ℕ) → DelaysAreThere core h took) (small : DelaysAreSmall) (have_words : ArgumentsHaveWords) (run : HasOneRun)
+  module _ (frames : FramesRight) (ends : FramesEnd) (sharing : TapsShareNone) (go : StoredCoresGo core plan) (none_stand : NoneStands core plan) (stay : DramsStay core) (first_words : FirstWordsGiven core) (there : (h : History) (took : (node ask : ℕ) → ℕ) → DelaysAreThere core h took) (small : DelaysAreSmall) (have_words : ArgumentsHaveWords) (run : HasOneRun)
       (cells : List PlainCell) (cells_are : cells ≡ final.cells ++ out_cells core.ports.outs (map (slice_index words) (outs_of core)) ++ done_cell done ∷ []) (is : IsNetlist cells) where
     outs : List ℕ
     outs = map (slice_index words) (outs_of core)
@@ -307,8 +311,8 @@ module _ (core : PlainCore) (plan : PlainPlan) (can : CanLower core plan) (right
           ((frames cells core.ports.args ports core.ports.drams whole.added core.ports.outs (map (slice_index words) (outs_of core)) done framed).args_stand (record { cells = cells; args = input.args; drams = input.drams; delays = delays }) s refl is_run) m l arg t
 
       -- the words of DRAMs
-      stored_words : DramsGiven core input s
-      stored_words t q i few inside =
+      words_stay : (t q i : ℕ) → q < length core.ports.drams → i < dram_size core q → s.dram t q i ≡ input_word core input q i
+      words_stay t q i few inside =
           (frames cells core.ports.args ports core.ports.drams whole.added core.ports.outs (map (slice_index words) (outs_of core)) done framed).drams_given no_store (record { cells = cells; args = input.args; drams = input.drams; delays = delays }) s refl is_run t q i no_port few
           (subst (λ ds. i < word_count ds) (dram_dims q) inside)
           ∙ ap (λ ws. slice_index ws i) (sym (first_words input (sym (zip_length (λ (port : PlainPort) ws. (length ws ≡ word_count port.dims) × All (IsWord port.ty) ws) core.ports.drams input.drams r.fits.drams)) q few))
@@ -322,6 +326,17 @@ module _ (core : PlainCore) (plan : PlainPlan) (can : CanLower core plan) (right
       circuit : StoredCircuit core plan on_e.0.setting s child arguments words
       circuit = x.circuit s on_e.0
 
+      -- no unit stores to them
+      no_unit : (q : ℕ) → units_of q (x.circuit s on_e.0).storing ≡ []
+      no_unit q =
+          let own = x.circuit s on_e.0 in
+          ap (units_of q) (none_stand.only can.can.loads_alone on_e.0.setting s (nets_at []) child own.channels own.copies own.circuit own.storing own.stores)
+
+      drams_run : DramsRun core input s (x.circuit s on_e.0).storing
+      drams_run q few =
+          subst (λ us. RunsDram s q (dram_size core q) (input_word core input q) (store_nets us)) (sym (no_unit q))
+          (record { begins = λ i inside. words_stay 0 q i few inside; goes = λ t i inside. words_stay (suc t) q i few inside ∙ sym (words_stay t q i few inside) })
+
       took : (node ask : ℕ) → ℕ
       took = took_by on_e.0.setting s circuit.channels bound
 
@@ -330,7 +345,7 @@ module _ (core : PlainCore) (plan : PlainPlan) (can : CanLower core plan) (right
 
       along : GoesAlong core plan timing s bound child words h left
       unfolding timing took circuit
-      along = go on_e.0.setting s child arguments words can.stored (x.circuit s on_e.0) starts input h left r given stored_words bound
+      along = go on_e.0.setting s child arguments words can.stored (x.circuit s on_e.0) starts input h left r given drams_run bound
 
       next : (t : ℕ) → s.net (suc t) done ≡ s.net t child.done
       next t = (x.dones s on_final).1 t ∙ passed t (s.net t child.done) (s.net t done)
@@ -368,7 +383,7 @@ module _ (core : PlainCore) (plan : PlainPlan) (can : CanLower core plan) (right
       drams_left =
           (frames cells core.ports.args ports core.ports.drams whole.added core.ports.outs (map (slice_index words) (outs_of core)) done framed).drams_stand no_store (record { cells = cells; args = input.args; drams = input.drams; delays = delays }) s refl is_run (core_timed core plan timing h).took
           ∙ law.given (record { cells = cells; args = input.args; drams = input.drams; delays = delays }) core.ports.drams (as_many core.ports.drams input.drams r.fits.drams)
-          ∙ sym (stay right can.stored.loads_alone in_lanes input r.turns h left (sym (zip_length (λ (port : PlainPort) ws. (length ws ≡ word_count port.dims) × All (IsWord port.ty) ws) core.ports.drams input.drams r.fits.drams)) r.ran)
+          ∙ sym (stay right can.can.loads_alone in_lanes input r.turns h left (sym (zip_length (λ (port : PlainPort) ws. (length ws ≡ word_count port.dims) × All (IsWord port.ty) ws) core.ports.drams input.drams r.fits.drams)) r.ran)
 
       ended : (last : ℕ) → (core_timed core plan timing h).took ≤ bound → (core_timed core plan timing h).took ≤ last → Ends (record { cells = cells; args = input.args; drams = input.drams; delays = delays }) last (done_in (core_timed core plan timing h).took (out_words core left) (dram_words core left))
       ended last low le =

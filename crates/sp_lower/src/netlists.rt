@@ -18,7 +18,7 @@ use sp_plan::Plan;
 use sp_port_nets::{
     argument_nets, arguments_are_ports, arguments_have_words, output_nets, outputs_are_ports,
 };
-use sp_stored_cores::{drams_stay, first_words_given, stored_cores_go};
+use sp_stored_cores::{drams_stay, first_words_given, none_stands, stored_cores_go};
 use sp_stored_trees::emit_stored_core;
 use sp_taps::tap_laws;
 use sp_transfer_runs::delays_are_there;
@@ -44,6 +44,7 @@ pub fn lower(alloc: Global, core: &Core, plan: &Plan) -> Result<Netlist, NoMemor
     first_words_given();
     frame_laws();
     frames_end();
+    none_stands();
     one_run();
     outputs_are_ports();
     port_laws();

@@ -1,10 +1,11 @@
+mod Acting
 mod Circle
 mod Early
 mod Elements
 mod Loaded
-mod Loads
-mod NoStore
+mod Moved
+mod Moves
 mod OnChip
-mod Reading
+mod Saved
 mod Storing
 mod Untouched

@@ -1,57 +1,43 @@
--- The loads of a core in a run: what they read is found in the DRAMs, so they go as the timeline says, and their writes act in time.
+-- The loads of a core in a run: where what they read is found in the DRAMs, they go as the timeline says, and their writes act in time.
 use Rattle.std.proofs.Common.{◌≡◌, ℕ, zero, suc, ◌+◌, ◌-◌, ◌<◌, ◌≤◌, true, List, [], ◌∷◌, ◌++◌, take, length, slice_index, slice_index_or, Option, Some, None, inl, inr, refl, sym, ap, subst, ◌∙◌, arith}
 use Rattle.std.proofs.lemmas.List.{length_push}
 use Rattle.std.specs.List.{Contains}
 use Rattle.sp_words.specs.declared.kind.Kind.{Kind}
-use Rattle.sp_words.specs.declared.kind.Kind.TheVariants.{Sram, LineBuf, Dram}
-use Rattle.sp_words.specs.Interface.{word_count}
-use Rattle.sp_words.specs.Ports.{PlainInput}
+use Rattle.sp_words.specs.declared.kind.Kind.TheVariants.{Sram, LineBuf}
 use Rattle.sp_netlist.specs.declared.parts.Child.{Child}
 use Rattle.sp_netlist.specs.Signals.{Setting, Signals}
 use Rattle.sp_core.specs.declared.operation.OpKind.TheVariants.{Write}
-use Rattle.sp_core.specs.Declarations.{kind_of, dims, dram_number}
-use Rattle.sp_core.specs.Elements.{row_major}
-use Rattle.sp_core.specs.Events.{Act, reads, writes, Event, touches}
-use Rattle.sp_core.specs.History.{History}
-use Rattle.sp_core.specs.Meeting.{changes}
-use Rattle.sp_core.specs.Numbering.{spans_size, number_count}
-use Rattle.sp_core.specs.PlainCore.{PlainSpan, PlainNode, load, store, PlainCore}
-use Rattle.sp_core.specs.Store.{Store, words_of}
+use Rattle.sp_core.specs.Declarations.{kind_of}
+use Rattle.sp_core.specs.Events.{writes, Event}
+use Rattle.sp_core.specs.Numbering.{spans_size}
+use Rattle.sp_core.specs.PlainCore.{PlainSpan, load, PlainCore}
 use Rattle.sp_core.specs.Transfers.{loaded_at}
-use Rattle.sp_core.specs.Meaning.{first_store}
 use Rattle.sp_plan.specs.PlainPlan.{PlainPlan}
-use Rattle.sp_time.specs.Lists.{Each}
 use Rattle.sp_machine.specs.Stamps.{Stamped}
 use Rattle.sp_machine.specs.Transfers.{Delays}
-use Rattle.sp_contents.specs.Steady.{MayRead, MayAct, IsAllowed}
 use Rattle.sp_part_runs.specs.ActsEntries.{index_words, word_that_changes}
 use Rattle.sp_node_runs.specs.RunsTold.{all_events}
 use Rattle.sp_node_runs.specs.BodiesGiven.{Nets}
 use Rattle.sp_node_runs.specs.BodiesSpans.{SpanNets}
 use Rattle.sp_node_runs.specs.BodiesTold.{Happens, SomeHappens}
 use Rattle.sp_tree_events.specs.PartsAgreeing.{Agree, AgreeIn}
-use Rattle.sp_tree_events.specs.ToldItems.{Item, operation, transfer, NodeHas}
-use Rattle.sp_tree_events.specs.ToldLaws.{IsMoved, NumbersStandForOne}
+use Rattle.sp_tree_events.specs.ToldItems.{transfer, NodeHas}
+use Rattle.sp_tree_events.specs.ToldLaws.{IsMoved}
 use Rattle.sp_tree_runs.specs.BodiesScoped.{Scoped, placed}
-use Rattle.sp_tree_circuits.specs.Acts.{Acts}
-use Rattle.sp_tree_circuits.specs.Answers.{EachTransfer, MovesInTime, TransfersMove}
 use Rattle.sp_tree_circuits.specs.Circuits.{Circuit}
-use Rattle.sp_tree_circuits.proofs.Mapping.{transfers_give}
-use Rattle.sp_transfer_runs.specs.Told.{DoesAt, WritesInTime, AreFoundInDram}
-use Rattle.sp_transfer_trees.specs.Agreeing.{TransferAgrees}
-use Rattle.sp_transfer_trees.specs.Trees.{HasTransfer, TransferGoes}
+use Rattle.sp_transfer_runs.specs.Told.{WritesInTime}
+use Rattle.sp_transfer_trees.specs.Trees.{TransferGoes}
 use Rattle.sp_memory_words.specs.Answers.{NamesCopies}
 use Rattle.sp_bank_words.specs.Accesses.{writes_in}
 use Rattle.sp_access_nets.specs.declared.access.AccessNets.{AccessNets}
 use Rattle.sp_access_nets.specs.Accesses.{copy_in}
+use Rattle.sp_tree_handed.specs.declared.moves.Direction.TheVariants.{Load}
+use Rattle.sp_dram_words.specs.Moves.{loads, NodeMoves, MovesAreItems}
 use Rattle.sp_array_nets.specs.Kinds.{IsEmitted}
 use Rattle.sp_array_words.specs.Loads.{IsLoading, LoadsInTime, LoadsWriteInWhole}
-use Rattle.sp_stored_cores.specs.Closing.{DramsGiven}
 use Rattle.sp_stored_cores.specs.Loads.{Channel, took_by, IsLoadWrite, LoadStands, LoadsAre}
-use Rattle.sp_stored_cores.specs.Outside.{StoresNone, IsNoStore, ReadsInput}
-use Rattle.sp_stored_cores.proofs.Elements.{each_in}
-use Rattle.sp_stored_cores.proofs.Reading.{kind_is}
-use Rattle.sp_stored_cores.proofs.Loads.{Placed, HasSuch, IsSuch, TransferActs, both_give, transfers_follow, items_stand, by_access, by_number, transfers_act}
+use Rattle.sp_stored_cores.proofs.Acting.{TransferActs}
+use Rattle.sp_stored_cores.proofs.Moves.{Placed, HasSuch, by_access, by_number}
 
 -- all but the last word, and the last one, of words with one more behind
 all_at : (ws : List ℕ) (w n : ℕ) → n ≡ length ws → take n (ws ++ w ∷ []) ≡ ws
@@ -80,7 +66,7 @@ some_words [] w = omega arith
 some_words (x ∷ ws) w = omega arith
 
 -- a memory that is filled and has a circuit is an SRAM
-is_sram : (k : Kind) → IsMoved k → IsEmitted k → k ≡ Sram
+pub is_sram : (k : Kind) → IsMoved k → IsEmitted k → k ≡ Sram
 is_sram Sram m e = refl
 is_sram LineBuf m e = absurd e
 is_sram k m e = absurd m
@@ -101,51 +87,28 @@ module _ (core : PlainCore) (plan : PlainPlan) (delays : Delays) (g : Setting) (
     pub stands : Stands r m spans k n qs c nets a
     pub agrees : Agree whole (all_events core plan delays (load r m spans) k n (placed qs)) (n + spans_size spans)
 
-  -- and its item stands in the core
+  -- and it stands in the core
   abbrev pub LoadPlaced : (r m : ℕ) (spans : List PlainSpan) (k n : ℕ) → List Scoped → Child → List SpanNets → AccessNets → Type 0
-  LoadPlaced = Placed core plan delays s LoadKnown (NodeHas core.root 0)
+  LoadPlaced = Placed core plan delays s Load LoadKnown (NodeMoves core.root 0)
 
-  -- it goes as the timeline says
-  pub record LoadGoing (r m : ℕ) (spans : List PlainSpan) (k n : ℕ) (qs : List Scoped) (c : Child) (nets : List SpanNets) (a : AccessNets) : Type 0 where
+  -- it goes as the timeline says, up to a cycle
+  pub record LoadGoing (t : ℕ) (r m : ℕ) (spans : List PlainSpan) (k n : ℕ) (qs : List Scoped) (c : Child) (nets : List SpanNets) (a : AccessNets) : Type 0 where
     pub place : LoadPlaced r m spans k n qs c nets a
-    pub goes : TransferGoes core plan delays g s bound bound (took_by g s channels bound) (load r m spans) k n qs c nets
+    pub goes : TransferGoes core plan delays g s bound t (took_by g s channels bound) (load r m spans) k n qs c nets
 
   -- what it does, up to a cycle
   pub record LoadActs (t : ℕ) (r m : ℕ) (spans : List PlainSpan) (k n : ℕ) (qs : List Scoped) (c : Child) (nets : List SpanNets) (a : AccessNets) : Type 0 where
     pub place : LoadPlaced r m spans k n qs c nets a
-    pub goes : TransferGoes core plan delays g s bound bound (took_by g s channels bound) (load r m spans) k n qs c nets
+    pub goes : TransferGoes core plan delays g s bound t (took_by g s channels bound) (load r m spans) k n qs c nets
     pub acts : TransferActs core plan delays s whole t (load r m spans) k n qs c nets
-
-  -- what it reads is found in its DRAM
-  module _ (input : PlainInput) (given : DramsGiven core input s) (allowed : Each (λ (x : Stamped). IsAllowed core x.moment) whole)
-      (reads_input : (t c : ℕ) (e : Event) → Contains whole (record { cycle = t; copy = c; moment = touches e }) → (r m : ℕ) → NodeHas core.root 0 e.number (transfer r m) → (w : ℕ) → e.act ≡ reads w → ReadsInput core input r e w) where
-    inside : (t c : ℕ) (e : Event) (w r : ℕ) → Contains whole (record { cycle = t; copy = c; moment = touches e }) → e.act ≡ reads w → e.mem ≡ dram_number core r → row_major (dims core (dram_number core r)) e.indices < word_count (dims core (dram_number core r))
-    inside t c e w r there act at =
-        let may = subst (MayAct core e.mem e.indices) act (each_in (λ (x : Stamped). IsAllowed core x.moment) whole _ allowed there) in
-        subst (λ k. MayRead k (dims core (dram_number core r)) e.indices) (kind_is core r) (subst (λ m. MayRead (kind_of core m) (dims core m) e.indices) at may)
-
-    found : (r m : ℕ) (spans : List PlainSpan) (k n : ℕ) (qs : List Scoped) (c : Child) (nets : List SpanNets) (a : AccessNets) → LoadPlaced r m spans k n qs c nets a
-        → AreFoundInDram s r (dims core (dram_number core r)) (all_events core plan delays (load r m spans) k n (placed qs)) bound (n + spans_size spans)
-    found r m spans k n qs c nets a p t is w le d =
-        let f = p.is.agrees.back t d.event d.happens in
-        let act : f.0.act ≡ reads w = f.2.act ∙ d.does in
-        let read = reads_input t f.1.copy f.0 f.1.there r m (subst (λ x. NodeHas core.root 0 x (transfer r m)) (sym f.1.numbered) p.item) w act in
-        let same : is ≡ f.0.indices = sym d.at ∙ sym f.2.indices in
-        ap (λ xs. s.dram t r (row_major (dims core (dram_number core r)) xs)) same
-        ∙ given t r (row_major (dims core (dram_number core r)) f.0.indices) p.is.stands.few (inside t f.1.copy f.0 w r f.1.there act read.at)
-        ∙ sym read.word
-
-    pub has_so : (r m : ℕ) (spans : List PlainSpan) (k n : ℕ) (qs : List Scoped) (c : Child) (nets : List SpanNets) (a : AccessNets) → LoadPlaced r m spans k n qs c nets a
-        → HasTransfer core plan delays g s bound bound (took_by g s channels bound) (load r m spans) k n qs c nets
-    has_so r m spans k n qs c nets a p = (p.is.stands.has, found r m spans k n qs c nets a p)
 
   -- its access
   module _ (r m : ℕ) (spans : List PlainSpan) (k n : ℕ) (qs : List Scoped) (c : Child) (nets : List SpanNets) (a : AccessNets) (p : LoadPlaced r m spans k n qs c nets a) where
     access : IsLoadWrite (n + spans_size spans) m (copy_in copies (n + spans_size spans)) p.is.stands.has.part p.is.stands.has.nets a
     access = p.is.stands.write
 
-    pub number_stands : NodeHas core.root 0 a.number (transfer r a.mem)
-    number_stands = subst (λ y. NodeHas core.root 0 a.number (transfer r y)) (sym access.mem_is) (subst (λ x. NodeHas core.root 0 x (transfer r m)) (sym access.number_is) p.item)
+    pub number_stands : MovesAreItems core.root → NodeHas core.root 0 a.number (transfer r a.mem)
+    number_stands items = subst (λ y. NodeHas core.root 0 a.number (transfer r y)) (sym access.mem_is) (subst (λ x. NodeHas core.root 0 x (transfer r m)) (sym access.number_is) (items.load_is 0 (n + spans_size spans) r m p.item))
 
     pub indices_are : index_words Write a.operands.items ≡ p.is.stands.has.nets.indices.items
     indices_are = ap (λ ws. index_words Write ws) access.operands ∙ all_but_last p.is.stands.has.nets.indices.items p.is.stands.has.part.port.word
@@ -157,18 +120,25 @@ module _ (core : PlainCore) (plan : PlainPlan) (delays : Delays) (g : Setting) (
     some_operands = subst (λ ws. 0 < length ws) (sym access.operands) (some_words p.is.stands.has.nets.indices.items p.is.stands.has.part.port.word)
 
   -- the writes of the loads act in time
-  module _ (t : ℕ) (le : t ≤ bound) (env : Nets) (c : Child) (w : Circuit core plan s core.root [] env 0 c) (qs : List Scoped) (loading : List AccessNets) (h : LoadsAre core plan delays s (LoadActs t) core.root [] env 0 0 qs c w loading)
+  module _ (t : ℕ) (env : Nets) (c : Child) (w : Circuit core plan s core.root [] env 0 c) (qs : List Scoped) (loading : List AccessNets) (h : LoadsAre core plan delays s (LoadActs t) core.root [] env 0 0 qs c w loading) (items : MovesAreItems core.root)
       (moved : (x r m : ℕ) → NodeHas core.root 0 x (transfer r m) → IsMoved (kind_of core m)) (emitted : (m : ℕ) → m < length core.mems → IsEmitted (kind_of core m))
-      (stays : (x r m u v : ℕ) (e : Event) → NodeHas core.root 0 x (transfer r m) → Happens whole x u e → e.act ≡ writes v → e.mem ≡ m)
+      (by_load : (m n dram u : ℕ) → kind_of core m ≡ Sram → NodeHas core.root 0 n (transfer dram m) → SomeHappens (writes_in m whole) n u → NodeMoves core.root 0 n (loads dram m))
+      (stays : (x r m u v : ℕ) (e : Event) → NodeMoves core.root 0 x (loads r m) → Happens whole x u e → e.act ≡ writes v → e.mem ≡ m)
       (names : (x r m : ℕ) → NodeHas core.root 0 x (transfer r m) → NamesCopies s (writes_in m whole) t x (slice_index_or copies x None)) (in_whole : LoadsWriteInWhole) where
-    such : (a : AccessNets) → Contains loading a → HasSuch core plan delays s (LoadActs t) (NodeHas core.root 0) a
-    such a there = by_access core plan delays s (LoadActs t) (NodeHas core.root 0) a core.root [] env 0 0 qs c w loading (λ x i q. q) h there
+    abbrev Such : AccessNets → Type 0
+    Such a = HasSuch core plan delays s Load (LoadActs t) (NodeMoves core.root 0) a
+
+    such : (a : AccessNets) → Contains loading a → Such a
+    such a there = by_access core plan delays s Load (LoadActs t) (NodeMoves core.root 0) a core.root [] env 0 0 qs c w loading (λ x v q. q) h there
+
+    stands_for : (a : AccessNets) (x : Such a) → NodeHas core.root 0 (x.n + spans_size x.spans) (transfer x.r x.m)
+    stands_for a x = items.load_is 0 (x.n + spans_size x.spans) x.r x.m x.stands
 
     -- an SRAM
-    sram_of : (a : AccessNets) (x : HasSuch core plan delays s (LoadActs t) (NodeHas core.root 0) a) → kind_of core a.mem ≡ Sram
+    sram_of : (a : AccessNets) (x : Such a) → kind_of core a.mem ≡ Sram
     sram_of a x =
         ap (kind_of core) x.is.place.is.stands.write.mem_is
-        ∙ is_sram (kind_of core x.m) (moved (x.n + spans_size x.spans) x.r x.m x.stands) (emitted x.m x.is.place.is.stands.chip)
+        ∙ is_sram (kind_of core x.m) (moved (x.n + spans_size x.spans) x.r x.m (stands_for a x)) (emitted x.m x.is.place.is.stands.chip)
 
     moves_along : (m k number other enable on : ℕ) (indices operands : List ℕ) (word net : ℕ) → m ≡ k → number ≡ other → enable ≡ on → indices ≡ operands → word ≡ net
         → WritesInTime s (writes_in k whole) t other (loaded_at core (kind_of core k) k) on operands net → WritesInTime s (writes_in m whole) t number (loaded_at core (kind_of core m) m) enable indices word
@@ -179,21 +149,21 @@ module _ (core : PlainCore) (plan : PlainPlan) (delays : Delays) (g : Setting) (
         (subst (λ z. WritesInTime s (writes_in m whole) t z (loaded_at core (kind_of core m) m) on operands net) (sym b)
         (subst (λ z. WritesInTime s (writes_in z whole) t other (loaded_at core (kind_of core z) z) on operands net) (sym a) h))))
 
-    write_acts : (a : AccessNets) (x : HasSuch core plan delays s (LoadActs t) (NodeHas core.root 0) a) → WritesInTime s (writes_in a.mem whole) t a.number (loaded_at core (kind_of core a.mem) a.mem) a.enable (index_words Write a.operands.items) (word_that_changes Write a.operands.items)
+    write_acts : (a : AccessNets) (x : Such a) → WritesInTime s (writes_in a.mem whole) t a.number (loaded_at core (kind_of core a.mem) a.mem) a.enable (index_words Write a.operands.items) (word_that_changes Write a.operands.items)
     write_acts a x =
         let p = x.is.place in
-        let own = (x.is.goes.goes p.is.stands.has t le x.is.acts.part.starts x.is.acts.slices).acts in
+        let own = (x.is.goes.goes p.is.stands.has t (omega arith) x.is.acts.part.starts x.is.acts.slices).acts in
         moves_along a.mem x.m a.number (x.n + spans_size x.spans) a.enable p.is.stands.has.nets.write (index_words Write a.operands.items) p.is.stands.has.nets.indices.items (word_that_changes Write a.operands.items) p.is.stands.has.part.port.word
         p.is.stands.write.mem_is p.is.stands.write.number_is p.is.stands.write.enable (indices_are x.r x.m x.spans x.k x.n x.qs x.c x.nets a p) (word_is x.r x.m x.spans x.k x.n x.qs x.c x.nets a p)
         (in_whole s whole (all_events core plan delays (load x.r x.m x.spans) x.k x.n (placed x.qs)) t (x.n + spans_size x.spans) x.m (loaded_at core (kind_of core x.m) x.m) p.is.stands.has.nets.write p.is.stands.has.nets.indices.items p.is.stands.has.part.port.word
         p.is.agrees (λ u v e happens act. stays (x.n + spans_size x.spans) x.r x.m u v e x.stands happens act) own)
 
-    write_names : (a : AccessNets) (x : HasSuch core plan delays s (LoadActs t) (NodeHas core.root 0) a) → NamesCopies s (writes_in a.mem whole) t a.number a.copy
+    write_names : (a : AccessNets) (x : Such a) → NamesCopies s (writes_in a.mem whole) t a.number a.copy
     write_names a x =
         let write = x.is.place.is.stands.write in
         subst (λ m. NamesCopies s (writes_in m whole) t a.number a.copy) (sym write.mem_is)
         (subst (λ n. NamesCopies s (writes_in x.m whole) t n a.copy) (sym write.number_is)
-        (subst (λ (copy : Option ℕ). NamesCopies s (writes_in x.m whole) t (x.n + spans_size x.spans) copy) (sym write.copied) (names (x.n + spans_size x.spans) x.r x.m x.stands)))
+        (subst (λ (copy : Option ℕ). NamesCopies s (writes_in x.m whole) t (x.n + spans_size x.spans) copy) (sym write.copied) (names (x.n + spans_size x.spans) x.r x.m (stands_for a x))))
 
     pub loads_in_time : LoadsInTime core s whole t loading
     loads_in_time = record {
@@ -201,14 +171,14 @@ module _ (core : PlainCore) (plan : PlainPlan) (delays : Delays) (g : Setting) (
           let x = such a there in
           record {
             dram = x.r;
-            stands = number_stands x.r x.m x.spans x.k x.n x.qs x.c x.nets a x.is.place;
+            stands = number_stands x.r x.m x.spans x.k x.n x.qs x.c x.nets a x.is.place items;
             sram = sram_of a x;
             kind_is = x.is.place.is.stands.write.kind_is;
             some = some_operands x.r x.m x.spans x.k x.n x.qs x.c x.nets a x.is.place;
             unanswered = x.is.place.is.stands.write.unanswered;
           };
       all_loads = λ m n dram u sram there happens.
-          let y = by_number core plan delays s (LoadActs t) n dram m core.root [] env 0 0 qs c w loading there h in
+          let y = by_number core plan delays s Load (LoadActs t) n dram m core.root [] env 0 0 qs c w loading (by_load m n dram u sram there happens) h in
           (y.a, y.there, y.is.place.is.stands.write.number_is ∙ sym y.number, y.is.place.is.stands.write.mem_is);
       act = λ a there. write_acts a (such a there);
       named = λ a there. write_names a (such a there);

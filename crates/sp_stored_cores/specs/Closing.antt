@@ -1,16 +1,15 @@
--- A core of registers, arguments, outputs, SRAMs and FIFOs, whose transfers are loads, goes along with its timeline, as a statement.
+-- A core of registers, arguments, outputs, SRAMs and FIFOs goes along with its timeline, as a statement.
 use Rattle.std.specs.Prelude.{◌≡◌, ℕ, suc, ◌<◌, ◌≤◌, true, List, length, slice_index, slice_index_or}
 use Rattle.sp_words.specs.declared.kind.Kind.TheVariants.{ArgOut}
-use Rattle.sp_words.specs.Interface.{word_count}
 use Rattle.sp_words.specs.Ports.{PlainInput}
 use Rattle.sp_netlist.specs.declared.parts.Child.{Child}
 use Rattle.sp_netlist.specs.Signals.{Setting, Signals}
 use Rattle.sp_gates.specs.Tested.{is_on}
 use Rattle.sp_core.specs.declared.access.Meet.{Meet}
-use Rattle.sp_core.specs.Declarations.{mem, dims, dram_number}
+use Rattle.sp_core.specs.Declarations.{mem, dram_number}
 use Rattle.sp_core.specs.History.{History}
 use Rattle.sp_core.specs.Inputs.{InputFits}
-use Rattle.sp_core.specs.Meaning.{first_store, run_core}
+use Rattle.sp_core.specs.Meaning.{run_core}
 use Rattle.sp_core.specs.PlainCore.{PlainCore}
 use Rattle.sp_core.specs.Scope.{in_lanes}
 use Rattle.sp_core.specs.Step.{went}
@@ -22,9 +21,12 @@ use Rattle.sp_overlap.specs.Whole.{HasPlan}
 use Rattle.sp_patterns.specs.Patterns.{patterns_of}
 use Rattle.sp_meets.specs.Meets.{IsMeetsOf}
 use Rattle.sp_transfer_runs.specs.Delays.{delays_of}
+use Rattle.sp_dram_words.specs.Units.{nets_of, RunsDram}
+use Rattle.sp_dram_words.specs.Laws.{dram_size, input_word}
 use Rattle.sp_scalar_words.specs.InTime.{ArgumentsGiven}
 use Rattle.sp_stored_cores.specs.Circuits.{IsStoredCore, StoredCircuit, StartsOnce}
 use Rattle.sp_stored_cores.specs.Loads.{took_by}
+use Rattle.sp_stored_cores.specs.Stores.{StoreAccess, units_of}
 
 -- a run of the core from an input that fits, by a plan that is valid for the core's own forms and meets
 pub record RunsByPlan (core : PlainCore) (plan : PlainPlan) (input : PlainInput) (h : History) (left : Store) : Type 0 where
@@ -35,23 +37,23 @@ pub record RunsByPlan (core : PlainCore) (plan : PlainPlan) (input : PlainInput)
   pub turns : ℕ
   pub ran : run_core in_lanes turns core input ≡ went h left
 
--- in each cycle DRAMs have the words that they are given
-abbrev pub DramsGiven : PlainCore → PlainInput → Signals → Type 0
-DramsGiven core input s =
-    (t r i : ℕ) → r < length core.ports.drams → i < word_count (dims core (dram_number core r)) → s.dram t r i ≡ slice_index_or (words_of (first_store core input (dram_number core r))) i 0
+-- each DRAM has at first the words that it is given, and after each cycle what the units of its stores leave
+abbrev pub DramsRun : PlainCore → PlainInput → Signals → List StoreAccess → Type 0
+DramsRun core input s storing = (r : ℕ) → r < length core.ports.drams → RunsDram s r (dram_size core r) (input_word core input r) (nets_of (units_of r storing))
 
--- The run takes time. Up to a cycle the circuit is done in its last cycle, and in no other; from the next cycle on the nets of outputs have
--- the words that the run leaves.
+-- The run takes time. Up to a cycle the circuit is done in its last cycle, and in no other; from the next cycle on the nets of outputs
+-- and the DRAMs have the words that the run leaves.
 pub record GoesAlong (core : PlainCore) (plan : PlainPlan) (delays : Delays) (s : Signals) (bound : ℕ) (c : Child) (words : List ℕ) (h : History) (left : Store) : Type 0 where
   pub takes_time : 1 ≤ (core_timed core plan delays h).took
   pub is_done : (t : ℕ) → t ≤ bound → suc t ≡ (core_timed core plan delays h).took → is_on s c.done t ≡ true
   pub only : (t : ℕ) → t ≤ bound → is_on s c.done t ≡ true → suc t ≡ (core_timed core plan delays h).took
+  pub drams : (r i t : ℕ) → t ≤ bound → r < length core.ports.drams → i < dram_size core r → (core_timed core plan delays h).took ≤ t → s.dram t r i ≡ slice_index_or (words_of (left (dram_number core r))) i 0
   pub outs : (m t : ℕ) → t ≤ bound → m < length core.mems → (mem core m).kind ≡ ArgOut → (core_timed core plan delays h).took ≤ t → s.net t (slice_index words m) ≡ slice_index_or (words_of (left m)) 0 0
 
--- So does the circuit of such a core, with the words of its arguments on their nets and those of its DRAMs in them, by the timeline in which
--- its loads wait for what their channels took in the cycles before the bound.
+-- So does the circuit of such a core, with the words of its arguments on their nets and those of its DRAMs in them at first, by the timeline
+-- in which its transfers wait for what their channels took in the cycles before the bound.
 abbrev pub StoredCoresGo : PlainCore → PlainPlan → Type 0
 StoredCoresGo core plan =
     (g : Setting) (s : Signals) (c : Child) (arguments words : List ℕ) → IsStoredCore core → (x : StoredCircuit core plan g s c arguments words) → StartsOnce s c.start
-    → (input : PlainInput) (h : History) (left : Store) → RunsByPlan core plan input h left → ArgumentsGiven core input s arguments → DramsGiven core input s
+    → (input : PlainInput) (h : History) (left : Store) → RunsByPlan core plan input h left → ArgumentsGiven core input s arguments → DramsRun core input s x.storing
     → (bound : ℕ) → GoesAlong core plan (delays_of core h (took_by g s x.channels bound)) s bound c words h left

@@ -1,10 +1,8 @@
 -- What a core without stores does to its DRAMs, as statements: it reads them, and leaves them as they are.
-use Rattle.std.specs.Prelude.{◌≡◌, ◌⊎◌, ℕ, ◌<◌, true, List, [], length, slice_index_or, Some}
-use Rattle.std.specs.List.{Contains}
+use Rattle.std.specs.Prelude.{◌≡◌, ◌⊎◌, ℕ, ◌<◌, true, [], length, slice_index_or, Some}
 use Rattle.sp_words.specs.Ports.{PlainInput}
-use Rattle.sp_core.specs.Declarations.{dims, dram_number}
-use Rattle.sp_core.specs.Elements.{row_major}
-use Rattle.sp_core.specs.Events.{Act, reads, writes, Event, Moment, touches, slices, renews, keeps, core_moments}
+use Rattle.sp_core.specs.Declarations.{dram_number}
+use Rattle.sp_core.specs.Events.{reads, Event, Moment, touches, slices, renews, keeps, core_moments}
 use Rattle.sp_core.specs.History.{History}
 use Rattle.sp_core.specs.Invariant.{IsCore}
 use Rattle.sp_core.specs.Meaning.{first_store, run_core, dram_words}
@@ -14,12 +12,7 @@ use Rattle.sp_core.specs.Scope.{Reading}
 use Rattle.sp_core.specs.Step.{went}
 use Rattle.sp_core.specs.Store.{Store, words_of}
 use Rattle.sp_time.specs.Lists.{Each}
-use Rattle.sp_plan.specs.PlainPlan.{PlainPlan}
-use Rattle.sp_machine.specs.Stamps.{Stamped}
-use Rattle.sp_machine.specs.Timeline.{core_timed}
-use Rattle.sp_machine.specs.Transfers.{Delays}
 use Rattle.sp_tree_events.specs.ToldItems.{Item, operation, transfer, NodeHas}
-use Rattle.sp_bank_runs.specs.Laws.{GoesWell}
 use Rattle.sp_tree_handed.specs.Loads.{HasNoStore}
 
 -- an operation names a memory on the chip; a load reads its DRAM, and changes a memory on the chip
@@ -47,20 +40,3 @@ abbrev pub DramsStay : PlainCore → Type 0
 DramsStay core =
     IsCore core → HasNoStore core.root → (reading : Reading) (input : PlainInput) (turns : ℕ) (h : History) (left : Store)
     → length input.drams ≡ length core.ports.drams → run_core reading turns core input ≡ went h left → dram_words core left ≡ input.drams
-
--- In the timeline of a run that goes well what a load reads is the word of the input, and each event of a load that reads is at its DRAM.
-pub record ReadsInput (core : PlainCore) (input : PlainInput) (r : ℕ) (e : Event) (w : ℕ) : Type 0 where
-  pub at : e.mem ≡ dram_number core r
-  pub word : w ≡ slice_index_or (words_of (first_store core input (dram_number core r))) (row_major (dims core (dram_number core r)) e.indices) 0
-
-abbrev pub LoadsReadInput : PlainCore → PlainPlan → Delays → Type 0
-LoadsReadInput core plan delays =
-    IsCore core → HasNoStore core.root → (input : PlainInput) (h : History) (left : Store) → GoesWell core plan delays input h left
-    → (t c : ℕ) (e : Event) → Contains (core_timed core plan delays h).events (record { cycle = t; copy = c; moment = touches e })
-    → (r m : ℕ) → NodeHas core.root 0 e.number (transfer r m) → (w : ℕ) → e.act ≡ reads w → ReadsInput core input r e w
-
--- and what it writes it writes to its memory
-abbrev pub LoadsWriteMemory : PlainCore → PlainPlan → Delays → Type 0
-LoadsWriteMemory core plan delays =
-    IsCore core → HasNoStore core.root → (h : History) (t c : ℕ) (e : Event) → Contains (core_timed core plan delays h).events (record { cycle = t; copy = c; moment = touches e })
-    → (r m : ℕ) → NodeHas core.root 0 e.number (transfer r m) → (w : ℕ) → e.act ≡ writes w → e.mem ≡ m

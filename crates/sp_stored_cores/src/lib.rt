@@ -1,5 +1,5 @@
-//! Laws only, of cores whose memories are registers, arguments, outputs, SRAMs and FIFOs, and whose transfers are loads. Each function
-//! does nothing: what it ensures is the law.
+//! Laws only, of cores whose memories are registers, arguments, outputs, SRAMs and FIFOs. Each function does nothing: what it ensures is
+//! the law.
 #![tactic(auto)]
 
 mod closing;
@@ -7,7 +7,5 @@ mod outside;
 mod quiet;
 
 pub use closing::stored_cores_go;
-pub use outside::{
-    drams_stay, first_words_given, loads_read_input, loads_write_memory, nothing_is_stored,
-};
+pub use outside::{drams_stay, first_words_given, none_stands, nothing_is_stored};
 pub use quiet::{core_events_are_timed, nothing_begins_at_once, runs_take_time};

@@ -58,6 +58,7 @@ use Rattle.sp_load_units.specs.Laws.{UnitsAreOpen, UnitsStay}
 use Rattle.sp_load_units.specs.Units.{unit_wires_in, UnitsStand}
 use Rattle.sp_stored_cores.specs.Circuits.{StoredCircuit}
 use Rattle.sp_stored_cores.specs.Loads.{Channel, HasLoads}
+use Rattle.sp_stored_cores.specs.Stores.{HasStores}
 use Rattle.sp_stored_trees.specs.Fits.{ArgumentsStand, CanEmitStored}
 
 lower : (from to : ℕ) (ns : List ℕ) → from ≤ to → Rise to ns → Rise from ns
@@ -102,6 +103,7 @@ pub record TreeRuns (core : PlainCore) (plan : PlainPlan) (g : Setting) (s : Sig
   pub named : AreNamed core plan s core.root [] (nets_at []) 0 c circuit no_numbers copies owners.renewed.items owners.kept.items
   pub channels : (node : ℕ) → Channel
   pub loads : HasLoads core plan g s (nets_at []) c channels copies circuit writes
+  pub stores : HasStores core plan g s (nets_at []) c channels copies circuit []
 
 -- what runs on a draft runs on the one before, in the same setting
 more_banks : (xs ys : List PlainCell) → count_by is_bank xs ≤ count_by is_bank (xs ++ ys)
@@ -261,5 +263,7 @@ module _ (core : PlainCore) (plan : PlainPlan) (old mid late : Draft) (acted : L
           channels = t.channels;
           loading = writes;
           loads = t.loads;
-          memories = memories s run;
+          storing = [];
+          stores = t.stores;
+          memories = subst (λ xs. RunMemories core plan s xs owners arguments words) (sym (append-nil (accesses ++ writes))) (memories s run);
         }

@@ -176,4 +176,4 @@ returns-clause-carries c =
     } in
     carried core plan c.requires c.ports.ensures.core c.port_laws.ensures c.arguments_are_ports.ensures c.outputs_are_ports.ensures c.add_drams.new.builder c.add_units.new.builder c.add_arrays.new.builder c.one.new.builder c.constant.new.builder c.hold.new.builder
     c.emit_stored_core.new.builder c.hold-2.new.builder c.in_ok-ports.ports.items (unit_wires_in c.in_ok-loads.loads.units.items ++ wires_in arrays) c.in_ok-always.always c.in_ok-zero.zero c.in_ok-start.start c.in_ok-tree.tree.child c.deref-4.result.now c.in_ok-tree.tree.words.items c.in_ok-done.done
-    steps c.frame_laws.ensures c.frames_end.ensures c.taps_share_none.ensures (c.stored_cores_go.ensures core plan) (c.drams_stay.ensures core) (c.first_words_given.ensures core) (c.delays_are_there.ensures core) c.delays_are_small.ensures c.arguments_have_words.ensures c.one_run.ensures c.in_ok-netlist.netlist cells_are c.in_ok-netlist.ensures.netlist
+    steps c.frame_laws.ensures c.frames_end.ensures c.taps_share_none.ensures (c.stored_cores_go.ensures core plan) (c.none_stands.ensures core plan) (c.drams_stay.ensures core) (c.first_words_given.ensures core) (c.delays_are_there.ensures core) c.delays_are_small.ensures c.arguments_have_words.ensures c.one_run.ensures c.in_ok-netlist.netlist cells_are c.in_ok-netlist.ensures.netlist

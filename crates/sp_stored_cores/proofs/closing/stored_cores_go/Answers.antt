@@ -27,8 +27,18 @@ returns c core plan g s child arguments words is x starts input h left r given s
       moving = c.going_is_moving.ensures core plan delays;
       moved_all = c.transfers_move_all.ensures core plan delays;
       filled = c.transfers_move.ensures core;
-      reads = c.loads_read_input.ensures core plan delays;
-      writes_own = c.loads_write_memory.ensures core plan delays;
+      items = c.moves_are_items.ensures core.root;
+      one = c.numbers_stand_for_one.ensures core.root;
+      acted = c.timelines_are_acted.ensures core plan delays;
+      own_acts = c.transfers_act.ensures core plan delays;
       in_whole = c.loads_write_in_whole.ensures;
+      read_in_whole = c.stores_read_in_whole.ensures;
+      are_answered = c.stores_are_answered.ensures;
+      name_stores = c.cores_name_stores.ensures core plan delays;
+      one_copy = c.drams_are_one.ensures core plan delays;
+      store_in_time = c.stores_are_in_time.ensures core plan delays;
+      find = c.loads_find.ensures core plan;
+      find_own = c.loads_find_own.ensures core plan delays;
+      drams_end = c.drams_end.ensures core plan delays;
     })
     (c.cores_transfer.ensures core plan) g s child arguments words is x starts input h left r given stored bound

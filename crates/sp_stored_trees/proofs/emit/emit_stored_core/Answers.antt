@@ -155,5 +155,6 @@ returns-clause-circuit c =
       named = subst (λ names. AreNamed core plan s core.root [] (nets_at []) 0 child t.circuit no_numbers names owners.renewed.items owners.kept.items) (sym c.deref-3.ensures.value) (c.in_ok-copies.ensures.named s behind c.requires.can.arrays.copies (nets_at []) child t.circuit t.owners);
       channels = channels_of core g s copies units slices writes runs;
       loads = c.loads_are_had.ensures core plan g s (nets_at []) child ends copies units slices writes c.args.builder.now c.requires.loads.units_stand ended c.requires.can.loads_alone t.circuit t.moved runs;
+      stores = (c.none_stands.ensures core plan).none c.requires.can.loads_alone g s (nets_at []) child (channels_of core g s copies units slices writes runs) copies t.circuit;
     })
     (λ s run. subst (λ xs. RunMemories core plan s xs owners c.args.arguments.now c.in_ok-nets.nets.words.items) all (c.in_ok-nets.ensures.runs s run))
