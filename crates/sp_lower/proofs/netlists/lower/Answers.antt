@@ -158,7 +158,7 @@ returns-clause-carries c =
       front = front;
       have = subst (λ ps. HaveNets c.add_drams.new.builder ps c.in_ok-ports.ports.items) args_are (c.port_laws.ensures.nets_stay c.add_inputs.new.builder c.add_drams.new.builder (map plain_port c.deref.result.now) c.in_ok-ports.ports.items c.in_ok-add_drams.ensures.builds.grows c.in_ok-ports.ensures.nets);
       units = c.in_ok-loads.ensures.cells;
-      no_store = c.in_ok-loads.ensures.no_store c.requires.stored.loads_alone (c.port_laws.ensures.front_stores_none c.add_drams.new.builder core.ports.args c.in_ok-ports.ports.items core.ports.drams front);
+      no_store = c.in_ok-loads.ensures.no_store c.requires.can.loads_alone (c.port_laws.ensures.front_stores_none c.add_drams.new.builder core.ports.args c.in_ok-ports.ports.items core.ports.drams front);
       banks = c.in_ok-arrays.ensures.cells;
       no_conflict = λ bank within. c.arrays_share_none.ensures c.add_arrays.new.builder core plan arrays c.in_ok-arrays.ensures.stand c.in_ok-arrays.ensures.numbers (let e = c.in_ok-arrays.ensures.count in omega (arith, e)) bank within;
       one = c.in_ok-always.ensures.fills;
