@@ -1,0 +1,4 @@
+pub mod Fitting
+pub mod Reserving
+pub mod Reading
+pub mod Running
