@@ -1,10 +1,13 @@
 -- The parts of stores, what they drive and reserve, and how their reads stand in a draft.
-use Rattle.std.specs.Prelude.{◌≡◌, ℕ, ◌<◌, List, length, Contains, Some}
+use Rattle.std.specs.Prelude.{◌≡◌, ℕ, ◌<◌, List, [], ◌++◌, length, flat_map, All, Contains, Option, Some}
+use Rattle.sp_words.specs.declared.kind.Kind.TheVariants.{Sram}
 use Rattle.sp_words.specs.Types.{width_of}
 use Rattle.sp_netlist.specs.Draft.{Draft}
+use Rattle.sp_netlist.specs.Signals.{Signals}
 use Rattle.sp_gates.specs.Grows.{Grows, AddsGates}
 use Rattle.sp_gates.specs.Nets.{IsOpen, Awaits}
-use Rattle.sp_core.specs.Declarations.{mem, dram}
+use Rattle.sp_gates.specs.Runs.{RunsOn}
+use Rattle.sp_core.specs.Declarations.{mem, dram, kind_of}
 use Rattle.sp_core.specs.PlainCore.{PlainCore}
 use Rattle.sp_mem.specs.Fits.{CopyFits}
 use Rattle.sp_circuit_ops.specs.declared.ops.WordNet.{WordNet}
@@ -13,12 +16,17 @@ use Rattle.sp_xfer.specs.declared.part.Store.{Store}
 use Rattle.sp_transfer_runs.specs.Words.{moves_of}
 use Rattle.sp_bound_nets.specs.Spans.{nets_of_spans}
 use Rattle.sp_access_nets.specs.declared.access.AccessNets.{AccessNets}
-use Rattle.sp_tree_handed.specs.declared.moves.Direction.TheVariants.{Store as Outward}
+use Rattle.sp_access_nets.specs.Laws.{answer_nets}
+use Rattle.sp_tree_handed.specs.declared.moves.Direction.{Direction}
+use Rattle.sp_tree_handed.specs.declared.moves.Direction.TheVariants.{Load as Inward, Store as Outward}
 use Rattle.sp_tree_handed.specs.declared.moves.TreeMove.{TreeMove}
 use Rattle.sp_tree_handed.specs.Standing.{AccessStands}
 use Rattle.sp_tree_accesses.specs.Queued.{QueuedStands}
 use Rattle.sp_load_units.specs.declared.unit.TransferUnit.{TransferUnit}
 use Rattle.sp_load_units.specs.declared.unit.UnitPort.TheVariants.{Stores}
+use Rattle.sp_load_units.specs.Units.{unit_wires}
+use Rattle.sp_load_units.specs.Walks.{UnitStandsAlone}
+use Rattle.sp_store_nets.specs.Runs.{AreStoreRuns}
 
 -- a unit stores
 abbrev pub Storing : TransferUnit → Type 0
@@ -55,3 +63,27 @@ pub record ReadStands (d : Draft) (core : PlainCore) (a : AccessNets) : Type 0 w
   pub word : WordNet
   pub answer : a.answer ≡ Some word
   pub awaits : Awaits d word.net (width_of (mem core a.mem).ty)
+
+-- a unit of a store stands by itself; of that of a load nothing is said
+abbrev pub StoreUnitStands : Draft → PlainCore → TransferUnit → Type 0
+StoreUnitStands d core unit = Storing unit → UnitStandsAlone d core unit
+
+-- a store reads an SRAM
+abbrev pub ReadsSram : PlainCore → TransferUnit → Type 0
+ReadsSram core unit = Storing unit → kind_of core unit.transfer.mem ≡ Sram
+
+-- the nets of units of stores that are to be driven
+abbrev pub wires_by : Direction → List ℕ → List ℕ
+wires_by Inward wires = []
+wires_by Outward wires = wires
+
+abbrev pub store_wires_in : List TransferUnit → List ℕ
+store_wires_in units = flat_map (λ (unit : TransferUnit). wires_by unit.transfer.direction (unit_wires unit)) units
+
+-- the reads of stores come behind other accesses
+pub record AddsReads (old new : Draft) (core : PlainCore) (names : List (Option ℕ)) (units : List TransferUnit) (slices : List TreeMove) (before after : List AccessNets) : Type 0 where
+  pub added : List AccessNets
+  pub behind : after ≡ before ++ added
+  pub drives : DrivesAndReserves old new (store_wires_in units) (answer_nets added)
+  pub stand : All (ReadStands new core) added
+  pub runs : (s : Signals) → (r : RunsOn s new.cells) → AreStoreRuns core r.setting s names units slices added

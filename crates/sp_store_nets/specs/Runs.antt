@@ -1,6 +1,6 @@
 -- What the circuit of a store is in a run: it has its part and its channel, the cell of its unit has the nets of the part's port, and its
 -- read is an access of its memory.
-use Rattle.std.specs.Prelude.{◌≡◌, ℕ, ◌<◌, List, ◌∷◌, ◌++◌, length, Option}
+use Rattle.std.specs.Prelude.{◌≡◌, ℕ, ◌<◌, List, [], ◌∷◌, ◌++◌, length, Option}
 use Rattle.sp_netlist.specs.Cells.{PlainCell, store_unit}
 use Rattle.sp_netlist.specs.Signals.{Setting, Signals, RunsChannel}
 use Rattle.sp_core.specs.Declarations.{dims, dram_number}
@@ -12,6 +12,8 @@ use Rattle.sp_transfer_runs.specs.Words.{moves_of}
 use Rattle.sp_bound_nets.specs.Spans.{nets_of_spans}
 use Rattle.sp_access_nets.specs.declared.access.AccessNets.{AccessNets}
 use Rattle.sp_access_nets.specs.Accesses.{copy_in}
+use Rattle.sp_tree_handed.specs.declared.moves.Direction.{Direction}
+use Rattle.sp_tree_handed.specs.declared.moves.Direction.TheVariants.{Load as Inward, Store as Outward}
 use Rattle.sp_tree_handed.specs.declared.moves.TreeMove.{TreeMove}
 use Rattle.sp_load_units.specs.declared.unit.TransferUnit.{TransferUnit}
 use Rattle.sp_load_units.specs.declared.unit.UnitPort.TheVariants.{Stores}
@@ -36,3 +38,17 @@ pub record StoreRun (core : PlainCore) (g : Setting) (s : Signals) (names : List
   pub cell : g.cells ≡ before ++ store_unit channel unit.transfer.dram part.port.ready part.port.request part.port.last part.port.address part.port.word ∷ after
   pub channel_runs : RunsChannel g s before channel part.port.ready part.port.request part.port.last
   pub read : IsStoreRead core unit.transfer.number unit.transfer.mem (copy_in names unit.transfer.number) part nets a
+
+-- of a transfer that stores it is so with the first access, and the rest is of the others; one that loads has none
+abbrev pub OneRuns : Direction → PlainCore → Setting → Signals → List (Option ℕ) → TransferUnit → TreeMove → (List AccessNets → Type 0) → List AccessNets → Type 0
+OneRuns Inward core g s names unit slice Rest accesses = Rest accesses
+OneRuns Outward core g s names unit slice Rest [] = ⊥
+OneRuns Outward core g s names unit slice Rest (a ∷ accesses) = StoreRun core g s names unit slice a × Rest accesses
+
+-- so it is with each store, in turn
+abbrev pub AreStoreRuns : PlainCore → Setting → Signals → List (Option ℕ) → List TransferUnit → List TreeMove → List AccessNets → Type 0
+AreStoreRuns core g s names [] [] [] = Unit {0}
+AreStoreRuns core g s names [] [] (a ∷ accesses) = ⊥
+AreStoreRuns core g s names [] (slice ∷ slices) accesses = ⊥
+AreStoreRuns core g s names (unit ∷ units) [] accesses = ⊥
+AreStoreRuns core g s names (unit ∷ units) (slice ∷ slices) accesses = OneRuns unit.transfer.direction core g s names unit slice (λ more. AreStoreRuns core g s names units slices more) accesses

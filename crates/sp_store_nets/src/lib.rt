@@ -5,5 +5,7 @@
 mod emit;
 mod part;
 mod read;
+mod stores;
 
 pub use emit::emit_store_of;
+pub use stores::emit_stores;
