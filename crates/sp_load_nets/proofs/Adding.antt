@@ -74,7 +74,7 @@ own_rise unit units h = rise_front 0 (unit_wires unit) (unit_wires_in units) h
 pub later_rise : (unit : TransferUnit) (units : List TransferUnit) → Rise 0 (unit_wires_in (unit ∷ units)) → Rise 0 (unit_wires_in units)
 later_rise unit units h = rise_back 0 (unit_wires unit) (unit_wires_in units) h
 
-apart : (unit : TransferUnit) (units : List TransferUnit) → Rise 0 (unit_wires_in (unit ∷ units)) → (net : ℕ) → Contains (unit_wires_in units) net → Contains (unit_wires unit) net → ⊥
+pub apart : (unit : TransferUnit) (units : List TransferUnit) → Rise 0 (unit_wires_in (unit ∷ units)) → (net : ℕ) → Contains (unit_wires_in units) net → Contains (unit_wires unit) net → ⊥
 apart unit units h net c own = rise_apart 0 (unit_wires unit) (unit_wires_in units) h net c own
 
 -- those that come later still stand

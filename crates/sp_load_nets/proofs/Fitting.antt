@@ -38,7 +38,7 @@ move_fits : (d : Draft) (net : SpanNet) → HasEnds d net → MoveFits d (move_o
 move_fits d (One net) h = h
 move_fits d (Range from until) h = h
 
-moves_fit : (d : Draft) (nets : List SpanNet) → All (HasEnds d) nets → All (MoveFits d) (moves_of (nets_of_spans nets))
+pub moves_fit : (d : Draft) (nets : List SpanNet) → All (HasEnds d) nets → All (MoveFits d) (moves_of (nets_of_spans nets))
 moves_fit d [] h = All-nil (MoveFits d)
 moves_fit d (net ∷ nets) h = All-cons (MoveFits d) (move_of (net_of_span net)) (moves_of (nets_of_spans nets)) (move_fits d net (All-head (HasEnds d) net nets h)) (moves_fit d nets (All-tail (HasEnds d) net nets h))
 
@@ -47,7 +47,7 @@ abbrev by_port : (start : ℕ) → LoadPort → Wires
 by_port start port = record { start = start; ready = port.ready; request = port.request; last = port.last; address = port.address }
 
 -- numbers that rise are apart
-apart_in : (a b : ℕ) → suc a ≤ b → a ≢ b
+pub apart_in : (a b : ℕ) → suc a ≤ b → a ≢ b
 apart_in a b l = omega (arith, l)
 
 wires_fit : (d : Draft) (core : PlainCore) (unit : TransferUnit) (port : LoadPort) (slice : TreeMove) → unit.port ≡ Loads port → UnitStandsAlone d core unit → Rise 0 (unit_wires unit) → SliceStands d core unit slice → WiresFit d (by_port slice.start port)

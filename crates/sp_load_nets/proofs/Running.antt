@@ -48,7 +48,7 @@ not_less n r = grind arith
 back : (n r : ℕ) → (n + r) - n ≡ r
 back n r = omega arith
 
-dram_dims : (core : PlainCore) (r : ℕ) → (dram core r).dims ≡ dims core (dram_number core r)
+pub dram_dims : (core : PlainCore) (r : ℕ) → (dram core r).dims ≡ dims core (dram_number core r)
 dram_dims core r = sym (ap (λ b. if b then (mem core (dram_number core r)).dims else (dram core (dram_number core r - length core.mems)).dims) (not_less (length core.mems) r) ∙ ap (λ k. (dram core k).dims) (back (length core.mems) r))
 
 pub load_run : (old new : Draft) (core : PlainCore) (names : List (Option ℕ)) (unit : TransferUnit) (slice : TreeMove) (part : Load) (loaded : Loaded) (a : AccessNets)

@@ -9,3 +9,5 @@ mod write;
 
 pub use emit::emit_loads;
 pub use laws::loads_are_had;
+pub use part::{dram_dims, moves_of};
+pub use write::{copy_net, memory_dims};

@@ -19,7 +19,7 @@ use sp_xfer::Load;
 use std::alloc::Global;
 
 /// The dimensions of a DRAM.
-fn dram_dims(core: &Core, r: u32) -> &[u32]
+pub fn dram_dims(core: &Core, r: u32) -> &[u32]
     ensures { result.now ≡ (dram (plain_core core.now) r).dims }
 {
     match core.ports().drams.get(r as usize) {
@@ -39,7 +39,7 @@ fn move_of(net: SpanNet) -> Move
 }
 
 /// What a slice takes of each dimension.
-fn moves_of(alloc: Global, nets: &[SpanNet]) -> Result<Vec<Move>, NoMemory>
+pub fn moves_of(alloc: Global, nets: &[SpanNet]) -> Result<Vec<Move>, NoMemory>
     ensures { IfOk result (λ moves. moves.items ≡ map (λ net. move_of (net_of_span net)) nets.now) }
 {
     nets.iter().map(|net| move_of(*net)).collect(alloc)

@@ -12,7 +12,7 @@ use sp_netlist::{NetId, NoMemory};
 use sp_xfer::{Load, Loaded};
 
 /// The dimensions of the memory of a number.
-fn memory_dims(core: &Core, m: u32) -> &[u32]
+pub fn memory_dims(core: &Core, m: u32) -> &[u32]
     requires { m < length (plain_core core.now).mems }
     ensures { result.now ≡ dims (plain_core core.now) m }
 {
@@ -28,7 +28,7 @@ pub(crate) fn has_each_index(core: &Core, m: u32, loaded: &Loaded) -> bool
 }
 
 /// The net of the number of the copy on which the operation of a number acts.
-fn copy_net(names: &[Option<NetId>], number: u32) -> Option<NetId>
+pub fn copy_net(names: &[Option<NetId>], number: u32) -> Option<NetId>
     ensures { result ≡ copy_in names.now number }
 {
     match names.get(number as usize) {

@@ -1,0 +1,6 @@
+pub mod Fitting
+pub mod Reserving
+pub mod Reading
+pub mod Running
+pub mod Adding
+pub mod Later
