@@ -4,3 +4,4 @@ pub mod Reading
 pub mod Running
 pub mod Adding
 pub mod Later
+pub mod Knowing

@@ -3,9 +3,14 @@
 #![tactic(auto)]
 
 mod emit;
+mod laws;
 mod part;
 mod read;
 mod stores;
 
 pub use emit::emit_store_of;
+pub use laws::{
+    drive_in_turn, driven_behind, fills_drive, reserves_alone, slices_are_of_units, slices_stay,
+    stores_are_open, stores_read_srams, stores_stand, stores_stay,
+};
 pub use stores::emit_stores;
