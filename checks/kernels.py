@@ -63,6 +63,11 @@ def distance(a, b):
     return {'apart': sum(abs(x - y) for x, y in zip(a, b))}, 1 + 1 + loop(4, tile) + 1
 
 
+def axpy(scale, a, b):
+    tile = 3 + 1 + 2 * transfer(16) + loop(16, 1) + transfer(16)
+    return {'sums': [scale * x + y for x, y in zip(a, b)]}, 1 + loop(4, tile)
+
+
 def matrix(a, b):
     columns = list(zip(*rows_of(b, 16)))
     tile = 3 + 1 + 2 * transfer(128) + loop(256, 1 + loop(8, 0) + 1) + 256
@@ -177,7 +182,7 @@ def spread(seed):
     return {'widest': max(spreads), 'number': spreads.index(max(spreads))}, turns
 
 
-KERNELS = [dot, distance, matrix, transpose, histogram, prefix_sum, fir, convolution, pooling, power, gcd, biquad, sparse, sort, crc, sieve, window, spread]
+KERNELS = [dot, distance, axpy, matrix, transpose, histogram, prefix_sum, fir, convolution, pooling, power, gcd, biquad, sparse, sort, crc, sieve, window, spread]
 
 
 def text_of(name):

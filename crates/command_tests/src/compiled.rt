@@ -1,5 +1,6 @@
-use crate::cases::{CASES, COUNT};
+use crate::cases::CASES;
 use crate::commands::Answer;
+use crate::stores::STORES;
 use sp_edges::{MemFile, MemInputs, MemSink};
 use sp_top::spatialc;
 use std::alloc::{AllocError, Global};
@@ -106,10 +107,12 @@ fn runs_as_wanted(alloc: Global, case: &str) -> Result<bool, Fail> {
 fn compiled_programs_leave_what_is_wanted(rt: HostRuntime) -> Result<(), Fail> {
     let alloc = rt.alloc();
     let mut count = 0u32;
-    for case in CASES.split("====\n") {
-        assert!(rt; runs_as_wanted(alloc, case)?, "{case}");
-        count = count.saturating_add(1);
+    for cases in [CASES, STORES] {
+        for case in cases.split("====\n") {
+            assert!(rt; runs_as_wanted(alloc, case)?, "{case}");
+            count = count.saturating_add(1);
+        }
     }
-    assert_eq!(rt; count, COUNT);
+    assert_eq!(rt; count, 28);
     Ok(())
 }

@@ -11,3 +11,5 @@ mod compiled;
 mod setup;
 #[cfg(test)]
 mod simulation;
+#[cfg(test)]
+mod stores;

@@ -20,7 +20,6 @@ use Rattle.sp_plans.specs.Laws.{ChosenAreValid}
 use Rattle.sp_tree_handed.specs.Lists.{NumberedOps, numbered, standing, bounds_in, spans_in, lists_in, lists_in_stages}
 use Rattle.sp_array_nets.specs.Kinds.{IsEmitted, AreEmitted}
 use Rattle.sp_tree_handed.specs.Standing.{BoundsReadArguments}
-use Rattle.sp_tree_handed.specs.Loads.{HasNoStore, HaveNoStore}
 use Rattle.sp_tree_nets.specs.Whole.{HasTreePlan}
 use Rattle.sp_stored_cores.specs.Quiet.{HasNoCounters}
 use Rattle.sp_lower.specs.Carries.{CanLower}
@@ -138,7 +137,7 @@ module _ (core : PlainCore) where
         before_early n test (lists_in first (n + length test) ++ lists_in second (n + (length test + number_count first)))
         (either_early (lists_in first (n + length test)) (lists_in second (n + (length test + number_count first))) (lists_early first (n + length test) both.0) (lists_early second (n + (length test + number_count first)) both.1))
     lists_early (load r m spans) n h = spans_early spans n h
-    lists_early (store r m spans) n h = absurd (true≢false (sym h))
+    lists_early (store r m spans) n h = spans_early spans n h
     lists_early (sparse kind r m places spans count par) n h = absurd (true≢false (sym h))
 
     stages_early : (stages : PlainStages) (n : ℕ) → are_buildable core stages ≡ true → AreEarly (lists_in_stages stages n)
@@ -162,21 +161,6 @@ module _ (core : PlainCore) where
     all_timed : (stages : PlainStages) → are_buildable core stages ≡ true → AreTimed stages
     all_timed no_stage h = tt
     all_timed (more_stage first last comb node rest) h = let both = and_parts (is_node_buildable core node) (are_buildable core rest) h in (timed node both.0, all_timed rest both.1)
-
-  mutual
-    loads_alone : (node : PlainNode) → is_node_buildable core node ≡ true → HasNoStore node
-    loads_alone (inner counters owned ops comb) h = tt
-    loads_alone (outer counters style owned stages) h =
-        all_load stages (and_parts (not (is_stream style) && list_all (has_early_bounds core) counters) (are_buildable core stages) h).1
-    loads_alone (fsm start state test body next) h = loads_alone body h
-    loads_alone (branch test first second) h = let both = and_parts (is_node_buildable core first) (is_node_buildable core second) h in (loads_alone first both.0, loads_alone second both.1)
-    loads_alone (load r m spans) h = tt
-    loads_alone (store r m spans) h = absurd (true≢false (sym h))
-    loads_alone (sparse kind r m places spans count par) h = absurd (true≢false (sym h))
-
-    all_load : (stages : PlainStages) → are_buildable core stages ≡ true → HaveNoStore stages
-    all_load no_stage h = tt
-    all_load (more_stage first last comb node rest) h = let both = and_parts (is_node_buildable core node) (are_buildable core rest) h in (loads_alone node both.0, all_load rest both.1)
 
   reads_arguments : is_node_buildable core core.root ≡ true → BoundsReadArguments core core.root
   reads_arguments h list there once op m has k e = early_reads op m (all_at (is_early core) list.ops op (lists_early core.root 0 h list there once) has) k e
@@ -233,7 +217,6 @@ can_lower p plan valid is by arrays planned short h =
           timed = timed core core.root b.tree;
           latencies = short;
         };
-        loads_alone = loads_alone core core.root b.tree;
         stored = stored core b.are_stored;
         arrays = arrays (forms_of p) planned.meets
             (record { is_core = is; is_timed = timed core core.root b.tree; by_lane = by; valid = valid core (forms_of p) planned.meets plan is planned.is_planned })

@@ -45,7 +45,7 @@ module _ (core : PlainCore) where
   has_early_ends (single ops) = list_all is_early ops
   has_early_ends (range a b) = list_all is_early a && list_all is_early b
 
-  -- no transfer but loads, no `Stream` block, and such bounds and slices
+  -- no transfer but loads and stores, no `Stream` block, and such bounds and slices
   abbrev mutual
     pub is_node_buildable : PlainNode → Bool
     is_node_buildable (inner counters owned ops comb) = list_all has_early_bounds counters
@@ -53,7 +53,7 @@ module _ (core : PlainCore) where
     is_node_buildable (fsm start state test body next) = is_node_buildable body
     is_node_buildable (branch test first second) = is_node_buildable first && is_node_buildable second
     is_node_buildable (load r m spans) = list_all has_early_ends spans
-    is_node_buildable (store r m spans) = false
+    is_node_buildable (store r m spans) = list_all has_early_ends spans
     is_node_buildable (sparse kind r m places spans count par) = false
 
     pub are_buildable : PlainStages → Bool
@@ -72,7 +72,7 @@ is_uncounted (fsm start state test body next) = true
 is_uncounted (branch test first second) = true
 is_uncounted _ = false
 
--- A core all of whose memories are of these kinds, whose transfers are loads, and whose root has no counters.
+-- A core all of whose memories are of these kinds, whose parts are such, and whose root has no counters.
 abbrev pub is_buildable : PlainCore → Bool
 is_buildable core = list_all is_stored_mem core.mems && (is_node_buildable core core.root && is_uncounted core.root)
 

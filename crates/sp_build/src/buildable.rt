@@ -120,7 +120,7 @@ fn is_stream(style: Style) -> bool
     style == Style::Stream
 }
 
-/// Whether a part has no transfer but loads and no `Stream` block, and its bounds and slices read arguments alone.
+/// Whether a part has no sparse transfer and no `Stream` block, and its bounds and slices read arguments alone.
 fn is_node_buildable(core: &Core, node: &Node) -> bool
     ensures { result ≡ is_node_buildable (plain_core core.now) (plain_node node.now) }
 {
@@ -143,7 +143,7 @@ fn is_node_buildable(core: &Core, node: &Node) -> bool
             both(is_node_buildable(core, yes), is_node_buildable(core, no))
         }
         Node::Load { span, .. } => have_early_ends(core, span),
-        Node::Store { .. } => false,
+        Node::Store { span, .. } => have_early_ends(core, span),
         Node::Sparse { .. } => false,
     }
 }
@@ -161,8 +161,8 @@ fn is_uncounted(node: &Node) -> bool
     }
 }
 
-/// Whether a core has a netlist so far: its memories are registers, arguments, outputs, SRAMs and FIFOs; its transfers are loads; it has
-/// no `Stream` block; bounds of counters and ends of slices read arguments alone; its root has no counters.
+/// Whether a core has a netlist so far: its memories are registers, arguments, outputs, SRAMs and FIFOs; its transfers are loads and
+/// stores; it has no `Stream` block; bounds of counters and ends of slices read arguments alone; its root has no counters.
 pub fn is_buildable(core: &Core) -> bool
     ensures { result ≡ is_buildable (plain_core core.now) }
 {

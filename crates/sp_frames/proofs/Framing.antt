@@ -14,7 +14,7 @@ use Rattle.sp_netlist.specs.Cells.{PlainCell, in_cell, out_cell, done_cell, cons
 use Rattle.sp_netlist.specs.Rules.{IsNetlist, IsRight, is_in, is_bank, is_done, is_dram, out_name}
 use Rattle.sp_netlist.specs.Ports.{in_port, out_port, dram_port, ports_of}
 use Rattle.sp_netlist.specs.Parts.{NoCell, names_bank}
-use Rattle.sp_netlist.specs.Signals.{Setting, Signals, IsRun, given_words}
+use Rattle.sp_netlist.specs.Signals.{Setting, Signals, IsRun}
 use Rattle.sp_netlist.specs.Cycle.{is_enabled_tap, SharesNone, cell_is_done, is_over, out_words, dram_lists, done_in, EndsAs}
 use Rattle.sp_netlist.specs.Laws.{HasOneEnding}
 use Rattle.sp_netlist.specs.Draft.{Draft}
@@ -24,8 +24,8 @@ use Rattle.sp_gates.proofs.Running.{none_joined}
 use Rattle.sp_taps.specs.Stores.{is_bank_part, is_no_bank_part, AddsBanks}
 use Rattle.sp_frames.specs.Framed.{in_cells, dram_cells, front_cells, out_cells, is_load, is_no_unit, is_store, is_outside, AddsUnits, AddsInside, IsFramed}
 use Rattle.sp_frames.specs.Ports.{HaveNoDims}
-use Rattle.sp_frames.specs.Laws.{given_lists, FrameLaws, FramesRight, TapsShareNone, FramesEnd}
-use Rattle.sp_frames.proofs.DramCells.{drams_fail, drams_give, drams_declare, drams_words, lists_stay, words_stay}
+use Rattle.sp_frames.specs.Laws.{held_lists, HasDramCell, FrameLaws, FramesRight, TapsShareNone, FramesEnd}
+use Rattle.sp_frames.proofs.DramCells.{drams_fail, drams_give, drams_declare, drams_words, lists_read, cell_stands, cell_between}
 
 -- a cell of none of the kinds that declare a port, read one or end a run
 record IsPlain (x : PlainCell) : Type 0 where
@@ -286,20 +286,18 @@ module _ (cells : List PlainCell) (args : List PlainPort) (arg_nets : List ℕ) 
       ap (λ xs. dram_lists xs held) f.stands ∙ dram_lists-append (front_cells args arg_nets drams ++ inside ++ out_cells outs out_nets) (done_cell done ∷ []) held ∙ append-nil _ ∙ middle
 
   -- the front, and all behind it
-  behind : (g : Setting) → g.cells ≡ cells → g.cells ≡ front_cells args arg_nets drams ++ (inside ++ (out_cells outs out_nets ++ done_cell done ∷ []))
-  behind g same =
-      same ∙ f.stands ∙ append_assoc (front_cells args arg_nets drams ++ inside) (out_cells outs out_nets) (done_cell done ∷ [])
+  behind : cells ≡ front_cells args arg_nets drams ++ (inside ++ (out_cells outs out_nets ++ done_cell done ∷ []))
+  behind =
+      f.stands ∙ append_assoc (front_cells args arg_nets drams ++ inside) (out_cells outs out_nets) (done_cell done ∷ [])
       ∙ append_assoc (front_cells args arg_nets drams) inside (out_cells outs out_nets ++ done_cell done ∷ [])
 
-  drams_stand : NoCell is_store cells → (g : Setting) (s : Signals) → g.cells ≡ cells → IsRun g s → (t : ℕ) → dram_lists cells (s.dram t) ≡ given_lists g 0 drams
-  drams_stand no_store g s same run t =
-      lists_are (s.dram t)
-      ∙ lists_stay g s run (ap (list_any is_store) same ∙ no_store) (in_cells args arg_nets) 0 drams (inside ++ (out_cells outs out_nets ++ done_cell done ∷ [])) (behind g same) t
+  drams_read : (held : ℕ → ℕ → ℕ) → dram_lists cells held ≡ held_lists held 0 drams
+  drams_read held = lists_are held ∙ lists_read held 0 drams
 
-  drams_given : NoCell is_store cells → (g : Setting) (s : Signals) → g.cells ≡ cells → IsRun g s → (t r i : ℕ) (other : PlainPort) → r < length drams → i < word_count (slice_index_or drams r other).dims → s.dram t r i ≡ slice_index (given_words g r) i
-  drams_given no_store g s same run t r i other l m =
-      subst (λ d. s.dram t d i ≡ slice_index (given_words g d) i) {x = 0 + r} {y = r} (omega arith)
-      (words_stay g s run (ap (list_any is_store) same ∙ no_store) (in_cells args arg_nets) 0 drams (inside ++ (out_cells outs out_nets ++ done_cell done ∷ [])) (behind g same) t r i other l m)
+  drams_stand : (r : ℕ) (other : PlainPort) → r < length drams → HasDramCell cells r (slice_index_or drams r other)
+  drams_stand r other l =
+      subst (λ cs. HasDramCell cs r (slice_index_or drams r other)) (sym behind)
+      (cell_between (in_cells args arg_nets) (dram_cells 0 drams) (inside ++ (out_cells outs out_nets ++ done_cell done ∷ [])) r (slice_index_or drams r other) (cell_stands 0 drams r r other l (omega arith)))
 
   declared : {X : Type 0} (k : PlainCell → Option X) (a b : List X) → filter_map k (front_cells args arg_nets drams) ≡ a → filter_map k inside ≡ [] → filter_map k (out_cells outs out_nets) ≡ b → filter_map k (done_cell done ∷ []) ≡ []
       → filter_map k cells ≡ a ++ b
@@ -326,11 +324,11 @@ module _ (cells : List PlainCell) (args : List PlainPort) (arg_nets : List ℕ) 
     ports = ports;
     over = over;
     outs_read = outs_read;
+    drams_read = drams_read;
     drams_stand = drams_stand;
-    drams_given = drams_given;
     args_stand = λ g s same run t i l.
         let rest = dram_cells 0 drams ++ (inside ++ (out_cells outs out_nets ++ done_cell done ∷ [])) in
-        let split = behind g same ∙ append_assoc (in_cells args arg_nets) (dram_cells 0 drams) (inside ++ (out_cells outs out_nets ++ done_cell done ∷ [])) in
+        let split = same ∙ behind ∙ append_assoc (in_cells args arg_nets) (dram_cells 0 drams) (inside ++ (out_cells outs out_nets ++ done_cell done ∷ [])) in
         first_words args arg_nets rest g s f.arg_for_each run split t i l;
   }
 

@@ -73,6 +73,5 @@ module _ (laws : PortLaws) (frames : FramesRight) (end : FramesEnd) (one_run : H
       let ends = (end h s args nets [] (gates_inside begun d gates).added outs nets done 1 last here run.1 (λ t l. gates_share_none begun d gates h.cells args nets [] outs nets done here (s.net t)) (begins h s same run.1) within).of_netlist is_netlist in
       let single : length nets ≡ 1 = many ∙ ap length is_args in
       let word = (frames h.cells args nets [] (gates_inside begun d gates).added outs nets done here).args_stand h s refl run.1 1 0 (omega (arith, single)) in
-      let no_store = laws.ends_store_none d outs nets done h.cells (same ∙ stands) (laws.gates_store_none begun d gates (laws.front_stores_none begun args nets [] first)) in
-      let no_dram : dram_lists h.cells (s.dram 1) ≡ [] = (frames h.cells args nets [] (gates_inside begun d gates).added outs nets done here).drams_stand no_store h s refl run.1 1 in
+      let no_dram : dram_lists h.cells (s.dram 1) ≡ [] = (frames h.cells args nets [] (gates_inside begun d gates).added outs nets done here).drams_read (s.dram 1) in
       subst (λ words. Ends h last (done_in 1 words [])) (lone nets (s.net 1) single ∙ ap (λ n. n ∷ []) word) (subst (λ drams. Ends h last (done_in 1 (map (s.net 1) nets) drams)) no_dram ends)

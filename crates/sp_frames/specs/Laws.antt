@@ -1,30 +1,36 @@
 -- What a frame says of a netlist's ports and of its runs.
 use Rattle.std.specs.Prelude.{◌≡◌, ◌≢◌, ℕ, suc, ◌<◌, ◌≤◌, ◌==◌, true, List, [], ◌∷◌, ◌++◌, length, map, filter_map, filter, count_by, slice_index, slice_index_or}
-use Rattle.std.specs.List.{AllZip, list_all, range_with_len}
+use Rattle.std.specs.List.{list_all, range_with_len}
 use Rattle.sp_words.specs.Interface.{word_count}
 use Rattle.sp_words.specs.Ports.{PlainPort}
 use Rattle.sp_words.specs.Types.{width_of}
-use Rattle.sp_netlist.specs.Cells.{PlainCell, done_cell}
+use Rattle.sp_netlist.specs.Cells.{PlainCell, done_cell, dram_cell}
 use Rattle.sp_netlist.specs.Rules.{IsNetlist, is_bank, is_done, is_dram, out_name}
 use Rattle.sp_netlist.specs.Ports.{ports_of}
 use Rattle.sp_netlist.specs.Parts.{NoCell}
-use Rattle.sp_netlist.specs.Signals.{Setting, Signals, IsRun, given_words}
+use Rattle.sp_netlist.specs.Signals.{Setting, Signals, IsRun}
 use Rattle.sp_netlist.specs.declared.cell.Port.{Port}
 use Rattle.sp_netlist.specs.Cycle.{is_enabled_tap, SharesNone, is_over, out_words, dram_lists, done_in, EndsAs, Ends}
 use Rattle.sp_netlist.specs.Draft.{Draft}
-use Rattle.sp_gates.specs.Grows.{AddsGates, Grows}
+use Rattle.sp_gates.specs.Grows.{is_no_gate, AddsGates, Grows}
 use Rattle.sp_gates.specs.Nets.{HasNet}
 use Rattle.sp_gates.specs.Runs.{RunsOn}
-use Rattle.sp_taps.specs.Stores.{AddsBanks}
+use Rattle.sp_taps.specs.Stores.{is_no_bank_part, AddsBanks}
 use Rattle.sp_core.specs.MemoryRules.{names_of, are_port_names, are_ports_of, is_dram_right}
 use Rattle.sp_core.specs.PlainCore.{PlainMem}
 use Rattle.sp_frames.specs.Framed.{in_cells, front_cells, out_cells, is_store, AddsUnits, AddsInside, IsFramed}
 use Rattle.sp_frames.specs.Ports.{AreNamed, HaveNoDims, HaveSizes, HaveNets}
 
--- the words that DRAMs are given, from a number on: of each as many as it has
-abbrev pub given_lists : Setting → (first : ℕ) → List PlainPort → List (List ℕ)
-given_lists g first [] = []
-given_lists g first (port ∷ ports) = map (slice_index (given_words g first)) (range_with_len 0 (word_count port.dims)) ∷ given_lists g (suc first) ports
+-- the words that DRAMs hold, from a number on: of each as many as it has
+abbrev pub held_lists : (held : ℕ → ℕ → ℕ) → (first : ℕ) → List PlainPort → List (List ℕ)
+held_lists held first [] = []
+held_lists held first (port ∷ ports) = map (held first) (range_with_len 0 (word_count port.dims)) ∷ held_lists held (suc first) ports
+
+-- the cell of a DRAM of this number and port stands
+pub record HasDramCell (cells : List PlainCell) (number : ℕ) (port : PlainPort) : Type 0 where
+  pub before : List PlainCell
+  pub after : List PlainCell
+  pub stands : cells ≡ before ++ dram_cell number port.name port.ty port.dims ∷ after
 
 -- what follows from the rules of a core, and from parts that are added later
 pub record PortLaws : Type 0 where
@@ -45,11 +51,11 @@ pub record PortLaws : Type 0 where
   pub banks_inside : (old new : Draft) → AddsBanks old new → AddsInside old new
   pub units_inside : (old new : Draft) → AddsUnits old new → AddsInside old new
   pub inside_join : (old mid new : Draft) → AddsInside old mid → AddsInside mid new → AddsInside old new
-  -- no unit stores among arguments and DRAMs, among gates and banks that are added, or among outputs and the end
-  pub front_stores_none : (begun : Draft) (ports : List PlainPort) (nets : List ℕ) (drams : List PlainPort) → begun.cells ≡ front_cells ports nets drams → NoCell is_store begun.cells
-  pub gates_store_none : (old new : Draft) → AddsGates old new → NoCell is_store old.cells → NoCell is_store new.cells
-  pub banks_store_none : (old new : Draft) → AddsBanks old new → NoCell is_store old.cells → NoCell is_store new.cells
-  pub ends_store_none : (d : Draft) (outs : List PlainPort) (out_nets : List ℕ) (done : ℕ) (cells : List PlainCell) → cells ≡ d.cells ++ out_cells outs out_nets ++ done_cell done ∷ [] → NoCell is_store d.cells → NoCell is_store cells
+  -- no unit stores among arguments and DRAMs, among gates, among banks with their taps, or among outputs and the end
+  pub front_stores_none : (ports : List PlainPort) (nets : List ℕ) (drams : List PlainPort) → NoCell is_store (front_cells ports nets drams)
+  pub gates_store_none : (cells : List PlainCell) → NoCell is_no_gate cells → NoCell is_store cells
+  pub banks_store_none : (cells : List PlainCell) → NoCell is_no_bank_part cells → NoCell is_store cells
+  pub ends_store_none : (outs : List PlainPort) (out_nets : List ℕ) (done : ℕ) → NoCell is_store (out_cells outs out_nets ++ done_cell done ∷ [])
   -- behind arguments, DRAMs and these there is no output and no end
   pub no_output : (begun d : Draft) (ports : List PlainPort) (nets : List ℕ) (drams : List PlainPort) → begun.cells ≡ front_cells ports nets drams → AddsInside begun d → filter_map out_name d.cells ≡ []
   pub no_end : (begun d : Draft) (ports : List PlainPort) (nets : List ℕ) (drams : List PlainPort) → begun.cells ≡ front_cells ports nets drams → AddsInside begun d → NoCell is_done d.cells
@@ -61,17 +67,15 @@ pub record PortLaws : Type 0 where
   -- in each run the net of an argument has its word
   pub words : (ports : List PlainPort) (nets : List ℕ) (rest : List PlainCell) (g : Setting) (s : Signals) → length nets ≡ length ports → IsRun g s → g.cells ≡ in_cells ports nets ++ rest
       → (t i : ℕ) → i < length nets → s.net t (slice_index nets i) ≡ slice_index g.args i
-  -- what DRAMs are given is what is set up, where it is as many words as each has
-  pub given : (g : Setting) (ports : List PlainPort) → AllZip (λ (port : PlainPort) words. length words ≡ word_count port.dims) ports g.drams → given_lists g 0 ports ≡ g.drams
 
 -- what the cells are that stand in the frame, and what they are at the words of a cycle
 pub record FrameLaws (cells : List PlainCell) (args : List PlainPort) (arg_nets : List ℕ) (drams : List PlainPort) (outs : List PlainPort) (out_nets : List ℕ) (done : ℕ) : Type 0 where
   pub ports : HaveNoDims args → HaveNoDims outs → ports_of cells ≡ record { args = args; outs = outs; drams = drams }
   pub over : (words : ℕ → ℕ) → is_over cells words ≡ (words done == 1)
   pub outs_read : (words : ℕ → ℕ) → out_words cells words ≡ map words out_nets
-  -- where nothing stores to a DRAM, it has in each cycle the words that it is given
-  pub drams_stand : NoCell is_store cells → (g : Setting) (s : Signals) → g.cells ≡ cells → IsRun g s → (t : ℕ) → dram_lists cells (s.dram t) ≡ given_lists g 0 drams
-  pub drams_given : NoCell is_store cells → (g : Setting) (s : Signals) → g.cells ≡ cells → IsRun g s → (t r i : ℕ) (other : PlainPort) → r < length drams → i < word_count (slice_index_or drams r other).dims → s.dram t r i ≡ slice_index (given_words g r) i
+  -- the lists of DRAMs are the words that they hold, and each DRAM has its cell
+  pub drams_read : (held : ℕ → ℕ → ℕ) → dram_lists cells held ≡ held_lists held 0 drams
+  pub drams_stand : (r : ℕ) (other : PlainPort) → r < length drams → HasDramCell cells r (slice_index_or drams r other)
   pub args_stand : (g : Setting) (s : Signals) → g.cells ≡ cells → IsRun g s → (t i : ℕ) → i < length arg_nets → s.net t (slice_index arg_nets i) ≡ slice_index g.args i
 
 abbrev pub FramesRight : Type 0

@@ -2,6 +2,6 @@ pub mod Fitting
 pub mod Writing
 pub mod Running
 pub mod Adding
-pub mod Nodes
+pub mod Taking
 pub mod Having
 pub mod Slices

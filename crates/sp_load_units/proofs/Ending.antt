@@ -3,21 +3,18 @@ use Rattle.std.proofs.Common.{◌≡◌, ℕ, suc, ◌+◌, List, [], ◌∷◌,
 use Rattle.std.specs.List.{AllZip}
 use Rattle.std.proofs.lemmas.List.Elements.{All-head, All-map, All-tail}
 use Rattle.sp_netlist.specs.Draft.{Draft}
-use Rattle.sp_netlist.specs.Parts.{NoCell}
-use Rattle.sp_frames.specs.Framed.{is_store}
+use Rattle.sp_dram_words.specs.Units.{units_in}
 use Rattle.sp_core.specs.Numbering.{node_count, number_count, counters_size}
 use Rattle.sp_core.specs.PlainCore.{PlainNode, PlainStages, inner, outer, fsm, branch, load, store, sparse, no_stage, more_stage, PlainCore}
 use Rattle.sp_tree_handed.specs.declared.transfers.CoreTransfer.{CoreTransfer}
 use Rattle.sp_overlap.specs.Whole.{IsTimed, AreTimed}
-use Rattle.sp_tree_handed.specs.Loads.{HasNoStore}
 use Rattle.sp_tree_handed.specs.Transfers.{transfers_in, transfers_in_stages}
 use Rattle.sp_tree_handed.specs.Moves.{HasEnd, HaveEnds, StagesHaveEnds}
 use Rattle.sp_load_units.specs.declared.unit.TransferUnit.{TransferUnit}
 use Rattle.sp_load_units.specs.declared.walk.Walk.{Walk}
-use Rattle.sp_load_units.specs.Units.{UnitStands, UnitsStand, HaveDone}
+use Rattle.sp_load_units.specs.Units.{UnitStands, UnitsStand, HaveDone, stores_to}
 use Rattle.sp_load_units.specs.Walks.{UnitStandsAlone, Walked}
 use Rattle.sp_load_units.proofs.Joining.{all_front, all_back}
-use Rattle.sp_tree_handed.proofs.Alone.{Loads, all_load}
 
 module _ (d : Draft) (core : PlainCore) where
   -- units of these transfers stand, one for each
@@ -73,5 +70,5 @@ module _ (core : PlainCore) (node : PlainNode) (old new : Draft) (before after :
   pub whole_ends : IsTimed core.root → HaveEnds new after.ends.items core.root 0
   whole_ends alone = have_ends new core after.ends.items core.root 0 0 alone (transfers_end new core after.ends.items (transfers_in core.root 0 0) w.adds.units all_transfers w.adds.stand w.adds.done)
 
-  pub whole_loads : HasNoStore core.root → NoCell is_store old.cells → NoCell is_store new.cells
-  whole_loads alone = w.adds.no_store (subst (All Loads) (sym (sym w.adds.transfers_are ∙ all_transfers)) (all_load core.root 0 0 alone))
+  pub whole_stores : (r : ℕ) → units_in r new.cells ≡ units_in r old.cells ++ stores_to r after.units.items
+  whole_stores r = w.adds.stores r ∙ ap (λ us. units_in r old.cells ++ stores_to r us) (sym all_units)

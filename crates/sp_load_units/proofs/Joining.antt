@@ -2,29 +2,29 @@
 use Rattle.std.proofs.Common.{◌≡◌, ℕ, zero, suc, ◌+◌, ◌<◌, ◌≤◌, List, [], ◌∷◌, ◌++◌, length, slice_index_or, count_by, All, Contains, Option, Some, append_assoc, refl, sym, ap, ap₂, subst, ◌∙◌, inl, inr, arith}
 use Rattle.std.proofs.lemmas.Grind.{flat_map-append}
 use Rattle.std.proofs.lemmas.List.{append-nil, length-append, map-append}
-use Rattle.std.proofs.lemmas.List.Elements.{All-nil, All-cons, All-head, All-tail, All-append, All-weaker, Contains-append_right, Contains-append_cases}
+use Rattle.std.proofs.lemmas.List.Elements.{All-nil, All-cons, All-tail, All-append, All-weaker, Contains-append_right, Contains-append_cases}
 use Rattle.sp_netlist.specs.Draft.{Draft}
-use Rattle.sp_netlist.specs.Parts.{NoCell}
 use Rattle.sp_netlist.specs.Rules.{is_unit}
 use Rattle.sp_gates.specs.Grows.{Opens}
 use Rattle.sp_gates.specs.Nets.{HasNet, Awaits, IsOpen}
 use Rattle.sp_gates.proofs.Running.{none_joined}
 use Rattle.sp_taps.specs.Wires.{Promises}
 use Rattle.sp_taps.proofs.Rows.{none_promised, promises_join}
-use Rattle.sp_frames.specs.Framed.{AddsUnits, is_no_unit, is_store}
+use Rattle.sp_dram_words.specs.Units.{units_in}
+use Rattle.sp_frames.specs.Framed.{AddsUnits, is_no_unit}
 use Rattle.sp_words.specs.Types.{width_of}
 use Rattle.sp_core.specs.Declarations.{dram}
 use Rattle.sp_core.specs.PlainCore.{PlainCore}
 use Rattle.sp_op_nets.specs.Reserved.{Rise}
-use Rattle.sp_tree_handed.specs.declared.moves.Direction.TheVariants.{Load}
 use Rattle.sp_tree_handed.specs.declared.transfers.CoreTransfer.{CoreTransfer}
 use Rattle.sp_tree_handed.specs.Moves.{end_at}
 use Rattle.sp_load_units.specs.declared.unit.TransferUnit.{TransferUnit}
 use Rattle.sp_load_units.specs.declared.walk.Walk.{Walk}
 use Rattle.sp_load_units.specs.Ports.{PortRuns, PortWires, direction_of, port_wires}
-use Rattle.sp_load_units.specs.Units.{IsTransferOf, unit_wires, unit_wires_in, HaveDone}
+use Rattle.sp_load_units.specs.Units.{IsTransferOf, unit_wires, unit_wires_in, HaveDone, StoresBehind, stores_to}
 use Rattle.sp_load_units.specs.Walks.{CanGo, UnitStandsAlone, Adds}
 use Rattle.sp_load_units.proofs.Standing.{one_promised, one_stands, ports_below, unit_stays, unit_is_open}
+use Rattle.sp_load_units.proofs.Stores.{one_stores, stores_join}
 
 -- each element of either part of a list, and of the two together
 pub all_front : {X : Type 0} (P : X → Type 0) (xs ys : List X) → All P (xs ++ ys) → All P xs
@@ -96,14 +96,14 @@ adds_none core d before after ends same more = record {
   stand = All-nil (UnitStandsAlone d core);
   done = All-nil (λ (u : TransferUnit). end_at after.ends.items u.transfer.node ≡ Some u.done);
   cells = no_units_added d;
-  no_store = λ all h. h;
+  stores = λ r. sym (append-nil (units_in r d.cells));
   one_each = omega arith;
 }
 
 -- one transfer alone
 adds_one : (core : PlainCore) (a b : Draft) (before after : Walk) (transfer : CoreTransfer) (unit : TransferUnit) (n : ℕ) → unit.transfer ≡ transfer → transfer.node ≡ length before.ends.items → after.units.items ≡ before.units.items ++ unit ∷ []
-    → after.ends.items ≡ before.ends.items ++ Some unit.done ∷ [] → Promises a b (unit_wires unit) → Rise (length a.promised) (unit_wires unit) → UnitStandsAlone b core unit → AddsUnits a b → (transfer.direction ≡ Load → NoCell is_store a.cells → NoCell is_store b.cells) → n ≡ count_by is_unit a.cells → count_by is_unit b.cells ≡ n + 1 → Adds core a before b after (transfer ∷ [])
-adds_one core a b before after transfer unit n is at units ends promises rise stands cells alone had more = record {
+    → after.ends.items ≡ before.ends.items ++ Some unit.done ∷ [] → Promises a b (unit_wires unit) → Rise (length a.promised) (unit_wires unit) → UnitStandsAlone b core unit → AddsUnits a b → StoresBehind a b transfer.dram unit.port → n ≡ count_by is_unit a.cells → count_by is_unit b.cells ≡ n + 1 → Adds core a before b after (transfer ∷ [])
+adds_one core a b before after transfer unit n is at units ends promises rise stands cells behind had more = record {
   units = unit ∷ [];
   ends = Some unit.done ∷ [];
   units_are = units;
@@ -114,23 +114,26 @@ adds_one core a b before after transfer unit n is at units ends promises rise st
   stand = All-cons (UnitStandsAlone b core) unit [] stands (All-nil (UnitStandsAlone b core));
   done = All-cons (λ (u : TransferUnit). end_at after.ends.items u.transfer.node ≡ Some u.done) unit [] there (All-nil (λ (u : TransferUnit). end_at after.ends.items u.transfer.node ≡ Some u.done));
   cells = cells;
-  no_store = λ all h. alone (All-head (λ (x : CoreTransfer). x.direction ≡ Load) transfer [] all) h;
+  stores = λ r. own r ∙ ap (λ us. units_in r a.cells ++ us) (one_stores r unit);
   one_each = omega (arith, had, more);
 }
   where
+    own : StoresBehind a b unit.transfer.dram unit.port
+    own = subst (λ (t : CoreTransfer). StoresBehind a b t.dram unit.port) (sym is) behind
+
     there : end_at after.ends.items unit.transfer.node ≡ Some unit.done
     there = ap (λ es. end_at es unit.transfer.node) ends ∙ ap (λ k. end_at (before.ends.items ++ Some unit.done ∷ []) k) (ap (λ (l : CoreTransfer). l.node) is ∙ at) ∙ end_behind before.ends.items (Some unit.done)
 
 -- by its port, and the net that was promised behind it
 pub adds_port : (core : PlainCore) (a mid b : Draft) (before after : Walk) (transfer : CoreTransfer) (unit : TransferUnit) (channel width : ℕ) → unit.transfer ≡ transfer → transfer.node ≡ length before.ends.items → after.units.items ≡ before.units.items ++ unit ∷ []
     → after.ends.items ≡ before.ends.items ++ Some unit.done ∷ [] → Promises a mid (port_wires unit.port) → Rise (length a.promised) (port_wires unit.port) → PortWires mid width unit.port → PortRuns mid channel transfer.dram width unit.port → direction_of unit.port ≡ transfer.direction
-    → width ≡ width_of (dram core transfer.dram).ty → IsTransferOf core transfer → AddsUnits a mid → (transfer.direction ≡ Load → NoCell is_store a.cells → NoCell is_store mid.cells) → Opens mid b unit.done → Awaits b unit.done 1 → HasNet b unit.done 1 → b.cells ≡ mid.cells
+    → width ≡ width_of (dram core transfer.dram).ty → IsTransferOf core transfer → AddsUnits a mid → StoresBehind a mid transfer.dram unit.port → Opens mid b unit.done → Awaits b unit.done 1 → HasNet b unit.done 1 → b.cells ≡ mid.cells
     → (n : ℕ) → n ≡ count_by is_unit a.cells → count_by is_unit mid.cells ≡ n + 1 → Adds core a before b after (transfer ∷ [])
-adds_port core a mid b before after transfer unit channel width is at units ends promises rise wires runs way same of_core cells alone o w has still n had more =
+adds_port core a mid b before after transfer unit channel width is at units ends promises rise wires runs way same of_core cells behind o w has still n had more =
     adds_one core a b before after transfer unit n is at units ends (one_promised mid b unit o w a promises) (unit_rises a mid b width unit promises rise wires o)
     (one_stands mid b unit o w core channel width (same ∙ ap (λ (t : CoreTransfer). width_of (dram core t.dram).ty) (sym is)) (way ∙ ap (λ (t : CoreTransfer). t.direction) (sym is)) (subst (IsTransferOf core) (sym is) of_core)
     (subst (λ (t : CoreTransfer). PortRuns mid channel t.dram width unit.port) (sym is) runs) wires has)
-    (record { added = cells.added; stands = still ∙ cells.stands; all = cells.all }) (λ load none. subst (NoCell is_store) (sym still) (alone load none)) had (ap (count_by is_unit) still ∙ more)
+    (record { added = cells.added; stands = still ∙ cells.stands; all = cells.all }) (λ r. ap (units_in r) still ∙ behind r) had (ap (count_by is_unit) still ∙ more)
 
 pub adds_join : (core : PlainCore) (a b c : Draft) (x y z : Walk) (transfers more : List CoreTransfer) → Adds core a x b y transfers → Adds core b y c z more → Adds core a x c z (transfers ++ more)
 adds_join core a b c x y z transfers more g h =
@@ -147,7 +150,7 @@ adds_join core a b c x y z transfers more g h =
       stand = All-append (UnitStandsAlone c core) g.units h.units (All-weaker (UnitStandsAlone b core) (UnitStandsAlone c core) (unit_kept core b c (unit_wires_in h.units) h.promises) g.units g.stand) h.stand;
       done = All-append (λ (u : TransferUnit). end_at z.ends.items u.transfer.node ≡ Some u.done) g.units h.units (done_kept y.ends.items h.ends z.ends.items g.units h.ends_are g.done) h.done;
       cells = more_units a b c g.cells h.cells;
-      no_store = λ all none. h.no_store (all_back (λ (x : CoreTransfer). x.direction ≡ Load) transfers more all) (g.no_store (all_front (λ (x : CoreTransfer). x.direction ≡ Load) transfers more all) none);
+      stores = λ r. h.stores r ∙ ap (λ us. us ++ stores_to r h.units) (g.stores r) ∙ append_assoc (units_in r a.cells) (stores_to r g.units) (stores_to r h.units) ∙ ap (λ us. units_in r a.cells ++ us) (sym (stores_join r g.units h.units));
       one_each = (let e = g.one_each in let f = h.one_each in let l = length-append g.units h.units in omega (arith, e, f, l));
     }
 

@@ -1,5 +1,5 @@
 -- The units of a core's transfers in a draft.
-use Rattle.std.specs.Prelude.{◌≡◌, ℕ, ◌<◌, true, List, [], ◌∷◌, ◌++◌, length, count_by, flat_map, All, Option, Some}
+use Rattle.std.specs.Prelude.{◌≡◌, ℕ, ◌<◌, ◌==◌, if◌then◌else◌, true, List, [], ◌∷◌, ◌++◌, length, count_by, flat_map, All, Option, Some}
 use Rattle.std.specs.List.{AllZip}
 use Rattle.sp_words.specs.Types.{width_of}
 use Rattle.sp_netlist.specs.Cells.{PlainCell}
@@ -12,7 +12,10 @@ use Rattle.sp_core.specs.Typed.{is_type}
 use Rattle.sp_tree_handed.specs.declared.transfers.CoreTransfer.{CoreTransfer}
 use Rattle.sp_tree_handed.specs.Transfers.{transfers_in}
 use Rattle.sp_tree_handed.specs.Moves.{end_at}
+use Rattle.sp_dram_words.specs.Units.{StoreNets, units_in}
 use Rattle.sp_load_units.specs.declared.unit.TransferUnit.{TransferUnit}
+use Rattle.sp_load_units.specs.declared.unit.UnitPort.{UnitPort}
+use Rattle.sp_load_units.specs.declared.unit.UnitPort.TheVariants.{Loads, Stores}
 use Rattle.sp_load_units.specs.Ports.{PortRuns, PortWires, direction_of, port_wires}
 
 -- the cell of each DRAM of a core stands, with words of its type
@@ -51,3 +54,17 @@ UnitsStand d core units = AllZip (UnitStands d core) (transfers_in core.root 0 0
 -- the table of ends has the net by which each of them is done
 abbrev pub HaveDone : List (Option ℕ) → List TransferUnit → Type 0
 HaveDone ends units = All (λ (unit : TransferUnit). end_at ends unit.transfer.node ≡ Some unit.done) units
+
+-- the nets by which a unit stores, where it does
+abbrev pub stores_by : UnitPort → List StoreNets
+stores_by (Loads port) = []
+stores_by (Stores port) = record { ready = port.ready; address = port.address; word = port.word } ∷ []
+
+-- those of the units that store to a DRAM, in their order
+abbrev pub stores_to : (dram : ℕ) → List TransferUnit → List StoreNets
+stores_to r [] = []
+stores_to r (unit ∷ units) = if unit.transfer.dram == r then stores_by unit.port ++ stores_to r units else stores_to r units
+
+-- among the cells of a draft the units that store to each DRAM are those that did, and behind them that of this port where it stores to the DRAM
+abbrev pub StoresBehind : (old new : Draft) → (dram : ℕ) → UnitPort → Type 0
+StoresBehind old new dram port = (r : ℕ) → units_in r new.cells ≡ units_in r old.cells ++ (if dram == r then stores_by port else [])

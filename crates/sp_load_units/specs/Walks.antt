@@ -1,19 +1,18 @@
 -- What a walk over a part of a tree adds to a draft, and to the units that it has found.
 use Rattle.std.specs.Prelude.{◌≡◌, ℕ, ◌+◌, List, ◌++◌, length, count_by, map, All, Option}
 use Rattle.sp_netlist.specs.Draft.{Draft, IsDraft}
-use Rattle.sp_netlist.specs.Parts.{NoCell}
 use Rattle.sp_netlist.specs.Rules.{is_unit}
 use Rattle.sp_taps.specs.Wires.{Promises}
-use Rattle.sp_frames.specs.Framed.{AddsUnits, is_store}
+use Rattle.sp_dram_words.specs.Units.{units_in}
+use Rattle.sp_frames.specs.Framed.{AddsUnits}
 use Rattle.sp_core.specs.Numbering.{node_count, number_count}
 use Rattle.sp_core.specs.PlainCore.{PlainNode, PlainCore}
 use Rattle.sp_op_nets.specs.Reserved.{Rise}
-use Rattle.sp_tree_handed.specs.declared.moves.Direction.TheVariants.{Load}
 use Rattle.sp_tree_handed.specs.declared.transfers.CoreTransfer.{CoreTransfer}
 use Rattle.sp_tree_handed.specs.Transfers.{transfers_in}
 use Rattle.sp_load_units.specs.declared.unit.TransferUnit.{TransferUnit}
 use Rattle.sp_load_units.specs.declared.walk.Walk.{Walk}
-use Rattle.sp_load_units.specs.Units.{HasDrams, unit_wires_in, UnitStands, HaveDone}
+use Rattle.sp_load_units.specs.Units.{HasDrams, unit_wires_in, UnitStands, HaveDone, stores_to}
 
 -- what a walk needs where it is
 pub record CanGo (core : PlainCore) (d : Draft) (walk : Walk) : Type 0 where
@@ -37,7 +36,7 @@ pub record Adds (core : PlainCore) (old : Draft) (before : Walk) (new : Draft) (
   pub stand : All (UnitStandsAlone new core) units
   pub done : HaveDone after.ends.items units
   pub cells : AddsUnits old new
-  pub no_store : All (λ (transfer : CoreTransfer). transfer.direction ≡ Load) transfers → NoCell is_store old.cells → NoCell is_store new.cells
+  pub stores : (r : ℕ) → units_in r new.cells ≡ units_in r old.cells ++ stores_to r units
   pub one_each : count_by is_unit new.cells ≡ count_by is_unit old.cells + length units
 
 -- so are those of a part, which the walk has behind it

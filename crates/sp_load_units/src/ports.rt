@@ -1,16 +1,17 @@
 //! The port of a unit.
 ghost use Rattle.std.specs.Prelude.{◌≡◌, ◌+◌, ◌<◌, length, count_by, IfOk, OnOk};
 ghost use Rattle.sp_netlist.specs.Draft.{IsDraft};
-ghost use Rattle.sp_netlist.specs.Parts.{NoCell};
 ghost use Rattle.sp_netlist.specs.Rules.{IsWidth, is_dram, is_unit, dram_width};
 ghost use Rattle.sp_taps.specs.Wires.{Promises};
-ghost use Rattle.sp_frames.specs.Framed.{AddsUnits, is_store};
+ghost use Rattle.sp_frames.specs.Framed.{AddsUnits};
 ghost use Rattle.sp_op_nets.specs.Reserved.{Rise};
 ghost use Rattle.sp_tree_handed.specs.declared.moves.Direction.TheVariants.{Load, Store};
 ghost use Rattle.sp_load_units.specs.Ports.{PortRuns, PortWires, direction_of, port_wires};
+ghost use Rattle.sp_load_units.specs.Units.{StoresBehind};
 
 use crate::unit::UnitPort;
 use sp_channels::{add_load, add_store};
+use sp_dram_words::units_join;
 use sp_netlist::{Builder, NoMemory};
 use sp_tree_handed::Direction;
 
@@ -33,8 +34,9 @@ fn add_loading(
     ensures runs { IfOk result (λ port. PortRuns builder.new channel dram width port) }
     ensures one_more { OnOk result (count_by is_unit builder.new.cells ≡ channel + 1) }
     ensures cells { OnOk result (AddsUnits builder.old builder.new) }
-    ensures no_store { OnOk result (NoCell is_store builder.old.cells → NoCell is_store builder.new.cells) }
+    ensures stores { IfOk result (StoresBehind builder.old builder.new dram) }
 {
+    units_join();
     let port = add_load(builder, channel, dram, width)?;
     Ok(UnitPort::Loads(port))
 }
@@ -58,7 +60,9 @@ fn add_storing(
     ensures runs { IfOk result (λ port. PortRuns builder.new channel dram width port) }
     ensures one_more { OnOk result (count_by is_unit builder.new.cells ≡ channel + 1) }
     ensures cells { OnOk result (AddsUnits builder.old builder.new) }
+    ensures stores { IfOk result (StoresBehind builder.old builder.new dram) }
 {
+    units_join();
     let port = add_store(builder, channel, dram, width)?;
     Ok(UnitPort::Stores(port))
 }
@@ -83,7 +87,7 @@ pub(crate) fn add_port(
     ensures runs { IfOk result (λ port. PortRuns builder.new channel dram width port) }
     ensures one_more { OnOk result (count_by is_unit builder.new.cells ≡ channel + 1) }
     ensures cells { OnOk result (AddsUnits builder.old builder.new) }
-    ensures no_store { OnOk result (direction ≡ Load → NoCell is_store builder.old.cells → NoCell is_store builder.new.cells) }
+    ensures stores { IfOk result (StoresBehind builder.old builder.new dram) }
 {
     match direction {
         Direction::Load => add_loading(builder, channel, dram, width),

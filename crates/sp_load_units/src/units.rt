@@ -1,17 +1,16 @@
 //! The units of all transfers of a core.
-ghost use Rattle.std.specs.Prelude.{◌≡◌, filter, count_by, IfOk, OnOk, length};
+ghost use Rattle.std.specs.Prelude.{◌≡◌, ℕ, ◌++◌, filter, count_by, IfOk, OnOk, length};
 ghost use Rattle.sp_netlist.specs.Draft.{IsDraft};
-ghost use Rattle.sp_netlist.specs.Parts.{NoCell};
 ghost use Rattle.sp_netlist.specs.Rules.{is_bank, is_unit};
 ghost use Rattle.sp_taps.specs.Wires.{Promises};
-ghost use Rattle.sp_frames.specs.Framed.{AddsUnits, is_store};
+ghost use Rattle.sp_dram_words.specs.Units.{units_in};
+ghost use Rattle.sp_frames.specs.Framed.{AddsUnits};
 ghost use Rattle.sp_core.specs.CoreParts.{plain_core};
 ghost use Rattle.sp_core.specs.Numbering.{node_count};
 ghost use Rattle.sp_overlap.specs.Whole.{IsTimed};
 ghost use Rattle.sp_op_nets.specs.Reserved.{Rise};
-ghost use Rattle.sp_tree_handed.specs.Loads.{HasNoStore};
 ghost use Rattle.sp_tree_handed.specs.Moves.{HaveEnds};
-ghost use Rattle.sp_load_units.specs.Units.{HasDrams, unit_wires_in, UnitsStand, HaveDone};
+ghost use Rattle.sp_load_units.specs.Units.{HasDrams, unit_wires_in, UnitsStand, HaveDone, stores_to};
 
 use crate::unit::TransferUnits;
 use crate::walk::{Walk, add_node};
@@ -37,7 +36,7 @@ pub fn add_units(
     ensures end_for_each { IfOk result (λ found. length found.ends.items ≡ node_count (plain_core core.now).root) }
     ensures draft { OnOk result (IsDraft builder.new) }
     ensures cells { OnOk result (AddsUnits builder.old builder.new) }
-    ensures no_store { OnOk result (HasNoStore (plain_core core.now).root → NoCell is_store builder.old.cells → NoCell is_store builder.new.cells) }
+    ensures stores { IfOk result (λ found. (r : ℕ) → units_in r builder.new.cells ≡ units_in r builder.old.cells ++ stores_to r found.units.items) }
     ensures one_each { IfOk result (λ found. count_by is_unit builder.new.cells ≡ length found.units.items) }
     ensures banks { OnOk result (filter is_bank builder.new.cells ≡ filter is_bank builder.old.cells) }
     ensures bank_count { OnOk result (count_by is_bank builder.new.cells ≡ count_by is_bank builder.old.cells) }

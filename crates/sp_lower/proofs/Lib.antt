@@ -1,1 +1,3 @@
+mod Drams
+mod KeptSizes
 mod Lowering

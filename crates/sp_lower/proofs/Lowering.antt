@@ -1,7 +1,7 @@
 -- The frame is closed around the circuit of a core, and what it then carries.
-use Rattle.std.proofs.Common.{◌≡◌, ◌≢◌, ℕ, zero, suc, cond, append_assoc, ◌-◌, ◌<◌, ◌≤◌, ◌^◌, ◌==◌, ◌&&◌, nat_lt, true, false, List, [], ◌∷◌, ◌++◌, map, length, count_by, Contains, slice_index, slice_index_or, Option, inl, inr, refl, sym, ap, subst, ◌∙◌, arith, if◌then◌else◌, eq-eqb, ne_eqb}
-use Rattle.std.specs.List.{All, AllZip, filter, list_all}
-use Rattle.std.proofs.lemmas.Bool.{and_parts, cases_eq, lt-ltb, le-ltb, ltb-true}
+use Rattle.std.proofs.Common.{◌≡◌, ◌≢◌, ℕ, zero, suc, append_assoc, ◌<◌, ◌≤◌, ◌^◌, ◌==◌, ◌&&◌, true, false, List, [], ◌∷◌, ◌++◌, map, length, count_by, Contains, slice_index, slice_index_or, Option, inl, inr, refl, sym, ap, subst, ◌∙◌, arith, if◌then◌else◌, eq-eqb, ne_eqb}
+use Rattle.std.specs.List.{All, filter, list_all}
+use Rattle.std.proofs.lemmas.Bool.{and_parts, cases_eq, lt-ltb, ltb-true}
 use Rattle.sp_words.specs.declared.kind.Kind.{Kind}
 use Rattle.sp_words.specs.declared.kind.Kind.TheVariants.{Sram, Fifo, ArgIn, ArgOut}
 use Rattle.sp_words.specs.Ports.{PlainPort, PlainInput}
@@ -13,7 +13,6 @@ use Rattle.sp_netlist.specs.Cells.{PlainCell, done_cell}
 use Rattle.sp_netlist.specs.declared.cell.Port.{Port}
 use Rattle.sp_netlist.specs.Cycle.{is_enabled_tap, dram_lists, Ends, done_in}
 use Rattle.sp_netlist.specs.Draft.{Draft}
-use Rattle.sp_netlist.specs.Parts.{NoCell}
 use Rattle.sp_netlist.specs.Laws.{HasOneRun}
 use Rattle.sp_netlist.specs.Ports.{ports_of}
 use Rattle.sp_netlist.specs.Rules.{IsNetlist, is_bank, is_unit}
@@ -24,23 +23,20 @@ use Rattle.sp_gates.specs.Nets.{HasNet, IsOpen}
 use Rattle.sp_gates.specs.Runs.{RunsOn}
 use Rattle.sp_gates.specs.Tested.{is_on}
 use Rattle.sp_gates.proofs.Growing.{Fills-join, Grows-join, HasNet-stays}
-use Rattle.sp_gates.proofs.Running.{none_joined, runs_earlier}
-use Rattle.sp_netlist.specs.Parts.{names_bank}
-use Rattle.std.proofs.lemmas.List.Sums.{sum_by-append}
-use Rattle.sp_core.specs.Declarations.{mem, kind_of, dims, dram_number}
+use Rattle.sp_gates.proofs.Running.{runs_earlier}
+use Rattle.sp_core.specs.Declarations.{mem, kind_of}
 use Rattle.sp_core.specs.Events.{At}
 use Rattle.sp_core.specs.History.{History}
 use Rattle.sp_core.specs.Invariant.{IsCore}
 use Rattle.sp_core.specs.MemoryRules.{names_of, are_port_names, is_mem_right, is_dram_right, are_ports_of}
-use Rattle.sp_core.specs.Numbering.{core_size, node_count, operation_count}
+use Rattle.sp_core.specs.Numbering.{core_size}
 use Rattle.sp_core.specs.Meaning.{is_arg, is_out, args_of, outs_of, out_words, dram_words}
 use Rattle.sp_core.specs.PlainCore.{no_port, PlainCore}
-use Rattle.sp_core.specs.Scope.{in_lanes}
 use Rattle.sp_core.specs.Store.{Store, words_of}
 use Rattle.sp_plan.specs.PlainPlan.{PlainPlan}
 use Rattle.sp_machine.specs.Timeline.{core_timed}
 use Rattle.sp_machine.specs.Transfers.{Delays}
-use Rattle.sp_frames.specs.Framed.{in_cells, dram_cells, front_cells, out_cells, is_store, AddsUnits, AddsInside, IsFramed}
+use Rattle.sp_frames.specs.Framed.{in_cells, dram_cells, front_cells, out_cells, AddsUnits, AddsInside, IsFramed}
 use Rattle.sp_frames.specs.Laws.{PortLaws, FramesRight, FramesEnd, SharesNoneUpTo, TapsShareNone, IsFirst}
 use Rattle.sp_frames.specs.Ports.{AreNamed, HaveNoDims, HaveSizes, HaveNets}
 use Rattle.sp_port_nets.specs.Laws.{ArgumentsArePorts, OutputsArePorts, ArgumentsHaveWords}
@@ -52,21 +48,21 @@ use Rattle.sp_stored_cores.specs.Circuits.{StoredCircuit, StartsOnce}
 use Rattle.sp_channel_runs.specs.Bursts.{DelaysAreSmall}
 use Rattle.sp_transfer_runs.specs.Delays.{delays_of, DelaysAreThere}
 use Rattle.sp_stored_cores.specs.Closing.{RunsByPlan, DramsRun, GoesAlong, StoredCoresGo}
-use Rattle.sp_stored_cores.specs.Stores.{units_of, NoneStands}
-use Rattle.sp_op_nets.specs.Table.{nets_at}
-use Rattle.sp_dram_words.specs.Units.{nets_of as store_nets, RunsDram}
-use Rattle.sp_dram_words.specs.Laws.{dram_size, input_word}
+use Rattle.sp_stored_cores.specs.Stores.{units_of}
+use Rattle.sp_dram_words.specs.Units.{units_in, UnitsJoin, DramsRun as DramsRunByUnits}
 use Rattle.sp_stored_cores.specs.Loads.{took_by}
-use Rattle.sp_stored_cores.specs.Outside.{DramsStay, FirstWordsGiven}
+use Rattle.sp_stored_cores.specs.Outside.{FirstWordsGiven}
 use Rattle.sp_load_units.specs.declared.unit.TransferUnit.{TransferUnit}
 use Rattle.sp_load_units.specs.Laws.{UnitsAreOpen, UnitsStay}
-use Rattle.sp_load_units.specs.Units.{unit_wires_in, UnitsStand, HaveDone}
+use Rattle.sp_load_units.specs.Units.{unit_wires_in, stores_to, UnitsStand, HaveDone}
 use Rattle.sp_op_nets.specs.Reserved.{Rise}
 use Rattle.sp_tree_handed.specs.Moves.{HaveEnds}
 use Rattle.sp_tree_handed.proofs.Moving.{ends_later}
-use Rattle.sp_stored_trees.specs.Fits.{ArgumentsStand, LoadsStand, WordsStand}
+use Rattle.sp_stored_trees.specs.Fits.{ArgumentsStand, RunsWithUnits, TransfersStand, WordsStand}
 use Rattle.sp_stored_trees.proofs.Emitting.{earlier}
 use Rattle.sp_lower.specs.Carries.{CanLower, EndsInTime, CarriesCore}
+use Rattle.sp_lower.specs.Sizes.{DramsKeepSizes}
+use Rattle.sp_lower.proofs.Drams.{zip_length, twice, no_units_in, none_behind, dram_dims, drams_for_each, lists_left}
 
 -- an element of a list whose words are changed
 at_map : (f : ℕ → ℕ) (xs : List ℕ) (i : ℕ) → i < length xs → slice_index (map f xs) i ≡ f (slice_index xs i)
@@ -81,23 +77,6 @@ as_long f (x ∷ xs) = let rest = as_long f xs in omega (arith, rest)
 same_map : (f g : ℕ → ℕ) (xs : List ℕ) → ((i : ℕ) → i < length xs → f (slice_index xs i) ≡ g (slice_index xs i)) → map f xs ≡ map g xs
 same_map f g [] h = refl
 same_map f g (x ∷ xs) h = ap (λ n. n ∷ map f xs) (h 0 (omega arith)) ∙ ap (λ ns. g x ∷ ns) (same_map f g xs (λ i l. h (suc i) (omega (arith, l))))
-
-twice : (f g : ℕ → ℕ) (xs : List ℕ) → map f (map g xs) ≡ map (λ n. f (g n)) xs
-twice f g [] = refl
-twice f g (x ∷ xs) = ap (λ ns. f (g x) ∷ ns) (twice f g xs)
-
-zip_length : {A B : Type 0} (R : A → B → Type 0) (xs : List A) (ys : List B) → AllZip R xs ys → length xs ≡ length ys
-zip_length R [] [] z = refl
-zip_length R [] (y ∷ ys) z = elim z [ ]
-zip_length R (x ∷ xs) [] z = elim z [ ]
-zip_length R (x ∷ xs) (y ∷ ys) z = let rest = zip_length R xs ys z.1 in omega (arith, rest)
-
--- a list of words for each DRAM, as many as it has
-as_many : (ports : List PlainPort) (lists : List (List ℕ)) → AllZip (λ (port : PlainPort) ws. (length ws ≡ word_count port.dims) × All (IsWord port.ty) ws) ports lists → AllZip (λ (port : PlainPort) ws. length ws ≡ word_count port.dims) ports lists
-as_many [] [] z = tt
-as_many [] (ws ∷ lists) z = absurd z
-as_many (port ∷ ports) [] z = absurd z
-as_many (port ∷ ports) (ws ∷ lists) z = (z.0.0, as_many ports lists z.1)
 
 same_number : (a b : ℕ) → (a == b) ≡ true → a ≡ b
 same_number a b e = elim (cases_eq a b) [
@@ -201,9 +180,9 @@ pub no_units : (args : List PlainPort) (nets : List ℕ) (drams : List PlainPort
 no_units args nets drams = none_among args nets (dram_cells 0 drams) ∙ no_dram_unit 0 drams
 
 -- units still stand behind banks and the first gates, and none of their nets is one of a bank
-pub loads_stand : (core : PlainCore) (manned stored a b c : Draft) (units : List TransferUnit) (ends : List (Option ℕ)) (wires : List ℕ) (from : ℕ) → UnitsAreOpen → UnitsStay → UnitsStand manned core units → HaveEnds manned ends core.root 0 → HaveDone ends units → Rise from (unit_wires_in units)
-    → Promises manned stored wires → Fills stored a [] → Fills a b [] → Fills b c [] → LoadsStand c core units ends wires
-loads_stand core manned stored a b c units ends wires from are_open stay stand have done rise promises f g h =
+pub transfers_stand : (core : PlainCore) (manned stored a b c : Draft) (units : List TransferUnit) (ends : List (Option ℕ)) (wires : List ℕ) (from : ℕ) → UnitsAreOpen → UnitsStay → UnitsStand manned core units → HaveEnds manned ends core.root 0 → HaveDone ends units → Rise from (unit_wires_in units)
+    → Promises manned stored wires → Fills stored a [] → Fills a b [] → Fills b c [] → TransfersStand c core units ends wires
+transfers_stand core manned stored a b c units ends wires from are_open stay stand have done rise promises f g h =
     let grows = grown manned stored a b c wires promises f g h in
     record {
       units_stand = stay manned c core units grows (λ net there. open_later stored a b c f g h net (promises.still_open net (are_open manned core units stand net there))) stand;
@@ -215,11 +194,11 @@ loads_stand core manned stored a b c units ends wires from are_open stay stand h
     }
 
 -- the drafts one after the other, and what is known of the nets that were added
-pub record Steps (core : PlainCore) (plan : PlainPlan) (begun manned stored a b c e final : Draft) (ports wires : List ℕ) (always never start : ℕ) (child : Child) (arguments words : List ℕ) (done : ℕ) : Type 0 where
+pub record Steps (core : PlainCore) (plan : PlainPlan) (begun manned stored a b c e final : Draft) (ports wires : List ℕ) (always never start : ℕ) (child : Child) (arguments words : List ℕ) (transfers : List TransferUnit) (done : ℕ) : Type 0 where
   pub front : begun.cells ≡ front_cells core.ports.args ports core.ports.drams
   pub have : HaveNets begun core.ports.args ports
   pub units : AddsUnits begun manned
-  pub no_store : NoCell is_store manned.cells
+  pub stores : (r : ℕ) → units_in r manned.cells ≡ units_in r begun.cells ++ stores_to r transfers
   pub banks : AddsBanks manned stored
   pub no_conflict : (bank : ℕ) → bank < count_by is_bank stored.cells → HasNoConflict stored bank
   pub one : Fills stored a []
@@ -231,21 +210,21 @@ pub record Steps (core : PlainCore) (plan : PlainPlan) (begun manned stored a b 
   pub tree : Fills c e wires
   pub begins : child.start ≡ start
   pub arguments_are : arguments ≡ nets_of_arguments core.mems ports
-  pub circuit : (s : Signals) (run : RunsOn s e.cells) → StoredCircuit core plan run.setting s child arguments words
+  pub circuit : (s : Signals) (run : RunsOn s e.cells) → RunsWithUnits core plan run.setting s child arguments words transfers
   pub last : Fills e final []
   pub dones : (s : Signals) → RunsOn s final.cells → Holds (λ t. s.net t done) 0 (λ t. s.net t always) (λ t. s.net t child.done)
 
 module _ (core : PlainCore) (plan : PlainPlan) (can : CanLower core plan) (right : IsCore core) (law : PortLaws) (arg_ports : ArgumentsArePorts) (out_ports : OutputsArePorts)
-    (begun manned stored a b c e final : Draft) (ports wires : List ℕ) (always never start : ℕ) (child : Child) (arguments words : List ℕ) (done : ℕ) (x : Steps core plan begun manned stored a b c e final ports wires always never start child arguments words done) where
+    (begun manned stored a b c e final : Draft) (ports wires : List ℕ) (always never start : ℕ) (child : Child) (arguments words : List ℕ) (transfers : List TransferUnit) (done : ℕ) (x : Steps core plan begun manned stored a b c e final ports wires always never start child arguments words transfers done) where
   behind : Fills stored final (wires ++ [])
   behind = joined stored a b c e final wires x.one x.none x.held x.tree x.last
 
   whole : AddsInside begun final
   whole = inside law begun manned stored a b c e final wires x.units x.banks x.one x.none x.held x.tree x.last
 
-  module _ (frames : FramesRight) (ends : FramesEnd) (sharing : TapsShareNone) (go : StoredCoresGo core plan) (none_stand : NoneStands core plan) (stay : DramsStay core) (first_words : FirstWordsGiven core) (there : (h : History) (took : (node ask : ℕ) → ℕ) → DelaysAreThere core h took) (small : DelaysAreSmall) (have_words : ArgumentsHaveWords) (run : HasOneRun)
+  module _ (frames : FramesRight) (ends : FramesEnd) (sharing : TapsShareNone) (go : StoredCoresGo core plan) (runs_dram : DramsRunByUnits) (join : UnitsJoin) (sizes : DramsKeepSizes core) (first_words : FirstWordsGiven core) (there : (h : History) (took : (node ask : ℕ) → ℕ) → DelaysAreThere core h took) (small : DelaysAreSmall) (have_words : ArgumentsHaveWords) (run : HasOneRun)
       (cells : List PlainCell) (cells_are : cells ≡ final.cells ++ out_cells core.ports.outs (map (slice_index words) (outs_of core)) ++ done_cell done ∷ []) (is : IsNetlist cells) where
-    outs : List ℕ
+    abbrev outs : List ℕ
     outs = map (slice_index words) (outs_of core)
 
     framed : IsFramed cells core.ports.args ports core.ports.drams whole.added core.ports.outs (map (slice_index words) (outs_of core)) done
@@ -253,11 +232,14 @@ module _ (core : PlainCore) (plan : PlainPlan) (can : CanLower core plan) (right
         law.framed begun final core.ports.args ports core.ports.drams core.ports.outs (map (slice_index words) (outs_of core)) done cells x.front whole cells_are (law.net_for_each begun core.ports.args ports x.have)
         (as_long (slice_index words) (outs_of core) ∙ (out_ports core right).each)
 
-    -- no unit stores
-    no_store : NoCell is_store cells
-    no_store =
-        law.ends_store_none final core.ports.outs (map (slice_index words) (outs_of core)) done cells cells_are
-        (law.gates_store_none stored final behind.gates (law.banks_store_none manned stored x.banks x.no_store))
+    -- the units that store to a DRAM are those of its stores: no other cell is one
+    units_are : (r : ℕ) → units_in r cells ≡ stores_to r transfers
+    units_are r =
+        none_behind join r final.cells cells (out_cells core.ports.outs outs ++ done_cell done ∷ []) (cells_are ∙ append_assoc final.cells (out_cells core.ports.outs outs) (done_cell done ∷ [])) (law.ends_store_none core.ports.outs outs done)
+        ∙ none_behind join r stored.cells final.cells behind.gates.added behind.gates.stands (law.gates_store_none behind.gates.added behind.gates.all)
+        ∙ none_behind join r manned.cells stored.cells x.banks.added x.banks.stands (law.banks_store_none x.banks.added x.banks.all)
+        ∙ x.stores r
+        ∙ ap (λ us. us ++ stores_to r transfers) (ap (units_in r) x.front ∙ no_units_in r (front_cells core.ports.args ports core.ports.drams) (law.front_stores_none core.ports.args ports core.ports.drams))
 
     ports_are : ports_of cells ≡ core.ports
     ports_are =
@@ -310,32 +292,20 @@ module _ (core : PlainCore) (plan : PlainPlan) (can : CanLower core plan) (right
           ∙ have_words core input ports s.net right (law.net_for_each begun core.ports.args ports x.have) (sym (zip_length (λ (port : PlainPort) word. IsWord port.ty word) core.ports.args input.args r.fits.args))
           ((frames cells core.ports.args ports core.ports.drams whole.added core.ports.outs (map (slice_index words) (outs_of core)) done framed).args_stand (record { cells = cells; args = input.args; drams = input.drams; delays = delays }) s refl is_run) m l arg t
 
-      -- the words of DRAMs
-      words_stay : (t q i : ℕ) → q < length core.ports.drams → i < dram_size core q → s.dram t q i ≡ input_word core input q i
-      words_stay t q i few inside =
-          (frames cells core.ports.args ports core.ports.drams whole.added core.ports.outs (map (slice_index words) (outs_of core)) done framed).drams_given no_store (record { cells = cells; args = input.args; drams = input.drams; delays = delays }) s refl is_run t q i no_port few
-          (subst (λ ds. i < word_count ds) (dram_dims q) inside)
-          ∙ ap (λ ws. slice_index ws i) (sym (first_words input (sym (zip_length (λ (port : PlainPort) ws. (length ws ≡ word_count port.dims) × All (IsWord port.ty) ws) core.ports.drams input.drams r.fits.drams)) q few))
-        where
-          dram_dims : (q : ℕ) → dims core (dram_number core q) ≡ (slice_index_or core.ports.drams q no_port).dims
-          dram_dims q =
-              let past : nat_lt (dram_number core q) (length core.mems) ≡ false = le-ltb (dram_number core q) (length core.mems) (omega arith) in
-              let back : dram_number core q - length core.mems ≡ q = omega arith in
-              rw (past, back) refl
-
       circuit : StoredCircuit core plan on_e.0.setting s child arguments words
-      circuit = x.circuit s on_e.0
+      circuit = (x.circuit s on_e.0).circuit
 
-      -- no unit stores to them
-      no_unit : (q : ℕ) → units_of q (x.circuit s on_e.0).storing ≡ []
-      no_unit q =
-          let own = x.circuit s on_e.0 in
-          ap (units_of q) (none_stand.only can.can.loads_alone on_e.0.setting s (nets_at []) child own.channels own.copies own.circuit own.storing own.stores)
-
-      drams_run : DramsRun core input s (x.circuit s on_e.0).storing
+      -- each DRAM has at first the words of the input, and goes by the units of its stores
+      drams_run : DramsRun core input s (x.circuit s on_e.0).circuit.storing
       drams_run q few =
-          subst (λ us. RunsDram s q (dram_size core q) (input_word core input q) (store_nets us)) (sym (no_unit q))
-          (record { begins = λ i inside. words_stay 0 q i few inside; goes = λ t i inside. words_stay (suc t) q i few inside ∙ sym (words_stay t q i few inside) })
+          let here = (frames cells core.ports.args ports core.ports.drams whole.added core.ports.outs (map (slice_index words) (outs_of core)) done framed).drams_stand q no_port few in
+          let port = slice_index_or core.ports.drams q no_port in
+          let runs = runs_dram (record { cells = cells; args = input.args; drams = input.drams; delays = delays }) s is_run here.before here.after q port.name port.ty port.dims here.stands (units_of q (x.circuit s on_e.0).circuit.storing)
+          ((x.circuit s on_e.0).units_are q ∙ sym (units_are q)) in
+          record {
+            begins = λ i inside. runs.begins i (subst (λ ds. i < word_count ds) (dram_dims core q) inside) ∙ ap (λ ws. slice_index ws i) (sym (first_words input (drams_for_each core input r.fits) q few));
+            goes = λ t i inside. runs.goes t i (subst (λ ds. i < word_count ds) (dram_dims core q) inside);
+          }
 
       took : (node ask : ℕ) → ℕ
       took = took_by on_e.0.setting s circuit.channels bound
@@ -345,7 +315,7 @@ module _ (core : PlainCore) (plan : PlainPlan) (can : CanLower core plan) (right
 
       along : GoesAlong core plan timing s bound child words h left
       unfolding timing took circuit
-      along = go on_e.0.setting s child arguments words can.stored (x.circuit s on_e.0) starts input h left r given drams_run bound
+      along = go on_e.0.setting s child arguments words can.stored (x.circuit s on_e.0).circuit starts input h left r given drams_run bound
 
       next : (t : ℕ) → s.net (suc t) done ≡ s.net t child.done
       next t = (x.dones s on_final).1 t ∙ passed t (s.net t child.done) (s.net t done)
@@ -379,25 +349,25 @@ module _ (core : PlainCore) (plan : PlainPlan) (can : CanLower core plan) (right
           let at = (out_ports core right).at i below in
           along.outs (slice_index (outs_of core) i) (core_timed core plan timing h).took low at.within at.of_kind (omega arith)))
 
-      drams_left : dram_lists cells (s.dram (core_timed core plan timing h).took) ≡ dram_words core left
-      drams_left =
-          (frames cells core.ports.args ports core.ports.drams whole.added core.ports.outs (map (slice_index words) (outs_of core)) done framed).drams_stand no_store (record { cells = cells; args = input.args; drams = input.drams; delays = delays }) s refl is_run (core_timed core plan timing h).took
-          ∙ law.given (record { cells = cells; args = input.args; drams = input.drams; delays = delays }) core.ports.drams (as_many core.ports.drams input.drams r.fits.drams)
-          ∙ sym (stay right can.can.loads_alone in_lanes input r.turns h left (sym (zip_length (λ (port : PlainPort) ws. (length ws ≡ word_count port.dims) × All (IsWord port.ty) ws) core.ports.drams input.drams r.fits.drams)) r.ran)
+      drams_left : (core_timed core plan timing h).took ≤ bound → dram_lists cells (s.dram (core_timed core plan timing h).took) ≡ dram_words core left
+      drams_left low =
+          (frames cells core.ports.args ports core.ports.drams whole.added core.ports.outs (map (slice_index words) (outs_of core)) done framed).drams_read (s.dram (core_timed core plan timing h).took)
+          ∙ lists_left core left (s.dram (core_timed core plan timing h).took) (sizes right can.stored.timed input r.turns h left r.fits r.ran)
+          (λ q i few inside. along.drams q i (core_timed core plan timing h).took low few inside (omega arith))
 
       ended : (last : ℕ) → (core_timed core plan timing h).took ≤ bound → (core_timed core plan timing h).took ≤ last → Ends (record { cells = cells; args = input.args; drams = input.drams; delays = delays }) last (done_in (core_timed core plan timing h).took (out_words core left) (dram_words core left))
       ended last low le =
-          subst (λ ds. Ends (record { cells = cells; args = input.args; drams = input.drams; delays = delays }) last (done_in (core_timed core plan timing h).took (out_words core left) ds)) drams_left
+          subst (λ ds. Ends (record { cells = cells; args = input.args; drams = input.drams; delays = delays }) last (done_in (core_timed core plan timing h).took (out_words core left) ds)) (drams_left low)
           (subst (λ ws. Ends (record { cells = cells; args = input.args; drams = input.drams; delays = delays }) last
           (done_in (core_timed core plan timing h).took ws (dram_lists cells (s.dram (core_timed core plan timing h).took)))) (words_left low)
           ((ends (record { cells = cells; args = input.args; drams = input.drams; delays = delays }) s core.ports.args ports core.ports.drams whole.added core.ports.outs (map (slice_index words) (outs_of core)) done (core_timed core plan timing h).took last
           framed is_run none_shared (first_at (core_timed core plan timing h).took refl low) le).of_netlist is))
 
-      -- no load waits longer than the greatest delay
+      -- no transfer waits longer than the greatest delay
       waits_little : (d : ℕ) → All (λ e. e ≤ d) delays → (k : ℕ) (path : List At) (ask : ℕ) → timing k path ask ≤ d
       unfolding timing took circuit
-      waits_little d each = (there h (took_by on_e.0.setting s (x.circuit s on_e.0).channels bound)).small d
-          (λ k ask. small on_e.0.setting s ((x.circuit s on_e.0).channels k).before ((x.circuit s on_e.0).channels k).channel ((x.circuit s on_e.0).channels k).request ((x.circuit s on_e.0).channels k).last d bound
+      waits_little d each = (there h (took_by on_e.0.setting s (x.circuit s on_e.0).circuit.channels bound)).small d
+          (λ k ask. small on_e.0.setting s ((x.circuit s on_e.0).circuit.channels k).before ((x.circuit s on_e.0).circuit.channels k).channel ((x.circuit s on_e.0).circuit.channels k).request ((x.circuit s on_e.0).circuit.channels k).last d bound
           (subst (λ (g : Setting). All (λ e. e ≤ d) g.delays) (sym (on_e.1 ∙ setting_is)) each) ask)
 
       in_time : EndsInTime core plan cells input h left delays bound

@@ -1,7 +1,7 @@
-//! The netlist of a core whose memories are registers, arguments, outputs, SRAMs and FIFOs, and whose transfers are loads, by a valid
-//! plan.
+//! The netlist of a core whose memories are registers, arguments, outputs, SRAMs and FIFOs, by a valid plan.
 #![tactic(auto)]
 
 mod netlists;
+mod sizes;
 
 pub use netlists::lower;

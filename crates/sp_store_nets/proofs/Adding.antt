@@ -1,5 +1,5 @@
 -- Stores that are emitted one after the other.
-use Rattle.std.proofs.Common.{◌≡◌, ℕ, List, [], ◌∷◌, ◌++◌, All, Option, sym, ap, subst, ◌∙◌, append_assoc}
+use Rattle.std.proofs.Common.{◌≡◌, ℕ, List, [], ◌∷◌, ◌++◌, All, Option, refl, sym, ap, subst, ◌∙◌, append_assoc}
 use Rattle.std.proofs.lemmas.List.{append-nil}
 use Rattle.std.proofs.lemmas.List.Elements.{All-nil, All-cons, All-append, Contains-append_left}
 use Rattle.std.specs.Prelude.{Contains}
@@ -16,8 +16,10 @@ use Rattle.sp_tree_handed.specs.declared.moves.TreeMove.{TreeMove}
 use Rattle.sp_load_nets.proofs.Running.{run_before}
 use Rattle.sp_load_units.specs.declared.unit.TransferUnit.{TransferUnit}
 use Rattle.sp_load_units.specs.Units.{unit_wires}
-use Rattle.sp_store_nets.specs.Parts.{DrivesAndReserves, ReadStands, AddsReads, wires_by, store_wires_in}
-use Rattle.sp_store_nets.specs.Runs.{StoreRun, OneRuns, AreStoreRuns}
+use Rattle.sp_store_nets.specs.Parts.{DrivesAndReserves, ReadStands, AddsReads, store_wires_in}
+use Rattle.sp_load_nets.specs.Parts.{wires_of}
+use Rattle.sp_load_nets.specs.Runs.{OneOf}
+use Rattle.sp_store_nets.specs.Runs.{StoreRun, AreStoreRuns}
 use Rattle.sp_store_nets.proofs.Later.{drives_none, drives_join, reads_later, both_answers}
 
 module _ (core : PlainCore) (names : List (Option ℕ)) where
@@ -32,9 +34,9 @@ module _ (core : PlainCore) (names : List (Option ℕ)) where
   passes_load d unit slice before e = record {
     added = [];
     behind = sym (append-nil before);
-    drives = subst (λ way. DrivesAndReserves d d (wires_by way (unit_wires unit) ++ []) []) (sym e) (drives_none d);
+    drives = subst (λ way. DrivesAndReserves d d (wires_of Outward way (unit_wires unit) ++ []) []) (sym e) (drives_none d);
     stand = All-nil (ReadStands d core);
-    runs = λ s r. subst (λ way. OneRuns way core r.setting s names unit slice (λ more. AreStoreRuns core r.setting s names [] [] more) []) (sym e) tt;
+    runs = λ s r. subst (λ way. OneOf Outward way (StoreRun core r.setting s names unit slice) (λ more. AreStoreRuns core r.setting s names [] [] more) []) (sym e) tt;
   }
 
   -- the read of a store is one more access
@@ -44,19 +46,20 @@ module _ (core : PlainCore) (names : List (Option ℕ)) where
     added = a ∷ [];
     behind = behind;
     drives =
-        subst (λ way. DrivesAndReserves old new (wires_by way (unit_wires unit) ++ []) (net_in a.answer ++ [])) (sym e)
+        subst (λ way. DrivesAndReserves old new (wires_of Outward way (unit_wires unit) ++ []) (net_in a.answer ++ [])) (sym e)
         (subst (λ ns. DrivesAndReserves old new ns (net_in a.answer ++ [])) (sym (append-nil (unit_wires unit))) (subst (λ ns. DrivesAndReserves old new (unit_wires unit) ns) (sym (append-nil (net_in a.answer))) drives));
     stand = All-cons (ReadStands new core) a [] stands (All-nil (ReadStands new core));
-    runs = λ s r. subst (λ way. OneRuns way core r.setting s names unit slice (λ more. AreStoreRuns core r.setting s names [] [] more) (a ∷ [])) (sym e) (runs s r, tt);
+    runs = λ s r. subst (λ way. OneOf Outward way (StoreRun core r.setting s names unit slice) (λ more. AreStoreRuns core r.setting s names [] [] more) (a ∷ [])) (sym e) (runs s r, tt);
   }
 
-  one_then : (way : Direction) (g : Setting) (s : Signals) (unit : TransferUnit) (slice : TreeMove) (Rest : List AccessNets → Type 0) (first later : List AccessNets) → OneRuns way core g s names unit slice (λ more. AreStoreRuns core g s names [] [] more) first → Rest later
-      → OneRuns way core g s names unit slice Rest (first ++ later)
-  one_then Inward g s unit slice Rest [] later h k = k
-  one_then Inward g s unit slice Rest (a ∷ first) later h k = absurd h
-  one_then Outward g s unit slice Rest [] later h k = absurd h
-  one_then Outward g s unit slice Rest (a ∷ []) later h k = (h.0, k)
-  one_then Outward g s unit slice Rest (a ∷ b ∷ first) later h k = absurd h.1
+  one_then : (P : AccessNets → Type 0) (way : Direction) (None Rest : List AccessNets → Type 0) (first later : List AccessNets) → ((xs : List AccessNets) → None xs → xs ≡ []) → OneOf Outward way P None first → Rest later → OneOf Outward way P Rest (first ++ later)
+  one_then P Outward None Rest [] later only h k = absurd h
+  one_then P Outward None Rest (a ∷ first) later only h k = (h.0, subst (λ xs. Rest (xs ++ later)) (sym (only first h.1)) k)
+  one_then P Inward None Rest first later only h k = subst (λ xs. Rest (xs ++ later)) (sym (only first h)) k
+
+  none_more : (g : Setting) (s : Signals) (xs : List AccessNets) → AreStoreRuns core g s names [] [] xs → xs ≡ []
+  none_more g s [] h = refl
+  none_more g s (x ∷ xs) h = absurd h
 
   pub adds_more : (old mid new : Draft) (unit : TransferUnit) (units : List TransferUnit) (slice : TreeMove) (slices : List TreeMove) (before between after : List AccessNets) → ((net : ℕ) → Contains (store_wires_in units) net → IsOpen old net)
       → AddsReads old mid core names (unit ∷ []) (slice ∷ []) before between → AddsReads mid new core names units slices between after → AddsReads old new core names (unit ∷ units) (slice ∷ slices) before after
@@ -66,12 +69,12 @@ module _ (core : PlainCore) (names : List (Option ℕ)) where
         added = f.added ++ h.added;
         behind = h.behind ∙ ap (λ xs. xs ++ h.added) f.behind ∙ append_assoc before f.added h.added;
         drives =
-            subst (λ ns. DrivesAndReserves old new (ns ++ store_wires_in units) (answer_nets (f.added ++ h.added))) (append-nil (wires_by unit.transfer.direction (unit_wires unit)))
+            subst (λ ns. DrivesAndReserves old new (ns ++ store_wires_in units) (answer_nets (f.added ++ h.added))) (append-nil (wires_of Outward unit.transfer.direction (unit_wires unit)))
             (subst (λ ns. DrivesAndReserves old new (store_wires_in (unit ∷ []) ++ store_wires_in units) ns) (sym (both_answers f.added h.added)) drives);
         stand =
             All-append (ReadStands new core) f.added h.added
             (reads_later mid new core f.added h.drives.grows (λ net c. drives.are_open net (Contains-append_left (answer_nets f.added) (answer_nets h.added) net c)) f.stand) h.stand;
-        runs = λ s r. one_then unit.transfer.direction r.setting s unit slice (λ more. AreStoreRuns core r.setting s names units slices more) f.added h.added (f.runs s (run_before mid new s h.drives.grows r)) (h.runs s r);
+        runs = λ s r. one_then (StoreRun core r.setting s names unit slice) unit.transfer.direction (λ more. AreStoreRuns core r.setting s names [] [] more) (λ more. AreStoreRuns core r.setting s names units slices more) f.added h.added (none_more r.setting s) (f.runs s (run_before mid new s h.drives.grows r)) (h.runs s r);
       }
 
   -- where none came before

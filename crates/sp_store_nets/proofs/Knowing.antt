@@ -23,14 +23,14 @@ use Rattle.sp_tree_handed.specs.declared.moves.TreeMove.{TreeMove}
 use Rattle.sp_tree_handed.specs.declared.transfers.CoreTransfer.{CoreTransfer}
 use Rattle.sp_tree_handed.specs.Moves.{slices_in, AreMovesStanding}
 use Rattle.sp_tree_handed.specs.Transfers.{transfers_in, transfers_in_stages}
-use Rattle.sp_load_nets.specs.Parts.{AreSlicesStanding}
+use Rattle.sp_load_nets.specs.Parts.{AreSlicesStanding, wires_of}
 use Rattle.sp_load_nets.proofs.Adding.{stand_alone}
 use Rattle.sp_load_nets.proofs.Slices.{slices_stand}
 use Rattle.sp_load_units.specs.declared.unit.TransferUnit.{TransferUnit}
 use Rattle.sp_load_units.specs.Units.{unit_wires, UnitStands, UnitsStand}
 use Rattle.sp_load_units.specs.Walks.{UnitStandsAlone}
 use Rattle.sp_load_units.proofs.Standing.{none_in, unit_stays}
-use Rattle.sp_store_nets.specs.Parts.{DrivesAndReserves, ReadsSram, StoreUnitStands, wires_by, store_wires_in}
+use Rattle.sp_store_nets.specs.Parts.{DrivesAndReserves, ReadsSram, StoreUnitStands, store_wires_in}
 
 sram_of : (k : Kind) → is_sram k ≡ true → k ≡ Sram
 sram_of Sram e = refl
@@ -98,8 +98,8 @@ pub all_stay : (old new : Draft) (core : PlainCore) (units : List TransferUnit) 
 all_stay old new core [] g still h = All-nil (StoreUnitStands new core)
 all_stay old new core (u ∷ units) g still h =
     All-cons (StoreUnitStands new core) u units
-    (λ e. unit_stays old new core g u.transfer u (λ net c. still net (Contains-append_left (wires_by u.transfer.direction (unit_wires u)) (store_wires_in units) net (subst (λ way. Contains (wires_by way (unit_wires u)) net) (sym e) c))) (All-head (StoreUnitStands old core) u units h e))
-    (all_stay old new core units g (λ net c. still net (Contains-append_right (wires_by u.transfer.direction (unit_wires u)) (store_wires_in units) net c)) (All-tail (StoreUnitStands old core) u units h))
+    (λ e. unit_stays old new core g u.transfer u (λ net c. still net (Contains-append_left (wires_of Outward u.transfer.direction (unit_wires u)) (store_wires_in units) net (subst (λ way. Contains (wires_of Outward way (unit_wires u)) net) (sym e) c))) (All-head (StoreUnitStands old core) u units h e))
+    (all_stay old new core units g (λ net c. still net (Contains-append_right (wires_of Outward u.transfer.direction (unit_wires u)) (store_wires_in units) net c)) (All-tail (StoreUnitStands old core) u units h))
 
 pub of_units : (d : Draft) (core : PlainCore) (units : List TransferUnit) (slices : List TreeMove) → IsCore core → UnitsStand d core units → AreMovesStanding d (slices_in core.root 0) slices → AreSlicesStanding d core units slices
 of_units d core units slices is u h = slices_stand core d units slices is u h

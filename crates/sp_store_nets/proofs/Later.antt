@@ -15,12 +15,13 @@ use Rattle.sp_access_nets.specs.declared.access.AccessNets.{AccessNets}
 use Rattle.sp_access_nets.specs.Laws.{net_in, answer_nets}
 use Rattle.sp_tree_handed.specs.declared.moves.Direction.{Direction}
 use Rattle.sp_tree_handed.specs.declared.moves.Direction.TheVariants.{Load as Inward, Store as Outward}
+use Rattle.sp_load_nets.specs.Parts.{wires_of}
 use Rattle.sp_load_nets.proofs.Adding.{apart}
 use Rattle.sp_load_nets.proofs.Writing.{copy_later}
 use Rattle.sp_load_units.specs.declared.unit.TransferUnit.{TransferUnit}
 use Rattle.sp_load_units.specs.Units.{unit_wires, unit_wires_in}
 use Rattle.sp_load_units.proofs.Standing.{none_in, unit_is_open, unit_stays}
-use Rattle.sp_store_nets.specs.Parts.{DrivesAndReserves, ReadStands, StoreUnitStands, wires_by, store_wires_in}
+use Rattle.sp_store_nets.specs.Parts.{DrivesAndReserves, ReadStands, StoreUnitStands, store_wires_in}
 
 lower : (from to : ℕ) (ns : List ℕ) → from ≤ to → Rise to ns → Rise from ns
 lower from to [] le r = tt
@@ -86,6 +87,7 @@ read_later a b core x g still h = record {
   within = h.within;
   word = h.word;
   answer = h.answer;
+  reads = h.reads;
   awaits = Awaits-stays a b _ _ g (still h.word.net (subst (λ answer. Contains (net_in answer) h.word.net) (sym h.answer) (0, omega arith, refl))) h.awaits;
 }
 
@@ -103,17 +105,17 @@ both_answers (x ∷ xs) ys = ap (λ ns. net_in x.answer ++ ns) (both_answers xs 
 -- the wires of stores are open
 pub stores_open : (d : Draft) (core : PlainCore) (units : List TransferUnit) → All (StoreUnitStands d core) units → (net : ℕ) → Contains (store_wires_in units) net → IsOpen d net
 stores_open d core [] h net c = absurd (none_in net c)
-stores_open d core (u ∷ units) h net c = elim (Contains-append_cases (wires_by u.transfer.direction (unit_wires u)) (store_wires_in units) net c) [
+stores_open d core (u ∷ units) h net c = elim (Contains-append_cases (wires_of Outward u.transfer.direction (unit_wires u)) (store_wires_in units) net c) [
   | inl own ↦ by_way u.transfer.direction refl own
   | inr rest ↦ stores_open d core units (All-tail (StoreUnitStands d core) u units h) net rest
 ]
   where
-    by_way : (way : Direction) → u.transfer.direction ≡ way → Contains (wires_by way (unit_wires u)) net → IsOpen d net
+    by_way : (way : Direction) → u.transfer.direction ≡ way → Contains (wires_of Outward way (unit_wires u)) net → IsOpen d net
     by_way Inward e own = absurd (none_in net own)
     by_way Outward e own = unit_is_open d core u.transfer u (All-head (StoreUnitStands d core) u units h e) net own
 
 -- a unit alone has no other wires
-own_wires : (way : Direction) (wires : List ℕ) (net : ℕ) → Contains (wires_by way wires ++ []) net → Contains wires net
+own_wires : (way : Direction) (wires : List ℕ) (net : ℕ) → Contains (wires_of Outward way wires ++ []) net → Contains wires net
 own_wires Inward wires net c = absurd (none_in net c)
 own_wires Outward wires net c = subst (λ ns. Contains ns net) (append-nil wires) c
 

@@ -5,3 +5,7 @@ pub mod Running
 pub mod Adding
 pub mod Later
 pub mod Knowing
+pub mod Nodes
+pub mod Having
+pub mod Wires
+pub mod BothWays

@@ -80,5 +80,6 @@ module _ (d : Draft) (core : PlainCore) (number m : ℕ) (copy : Option ℕ) (pa
       within = subst (λ k. k < length core.mems) (sym r.mem_is) chip;
       word = r.word;
       answer = r.answer;
+      reads = r.kind_is;
       awaits = subst (λ n. Awaits d n (width_of (mem core a.mem).ty)) (sym r.found) (subst (Awaits d part.found) own_width awaits);
     }

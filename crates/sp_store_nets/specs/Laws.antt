@@ -1,17 +1,30 @@
--- Laws of stores, as statements: what has to be known before they are emitted, and what is driven and reserved by parts in turn.
-use Rattle.std.specs.Prelude.{ℕ, List, [], ◌++◌, All, Contains}
+-- Laws of stores, as statements: what has to be known before they are emitted, what is driven and reserved by parts in turn, and that what was
+-- emitted is what loads and stores are asked for.
+use Rattle.std.specs.Prelude.{◌≡◌, ℕ, List, [], ◌++◌, map, All, Contains, Option, Some}
+use Rattle.sp_netlist.specs.declared.parts.Child.{Child}
 use Rattle.sp_netlist.specs.Draft.{Draft}
+use Rattle.sp_netlist.specs.Signals.{Setting, Signals}
 use Rattle.sp_gates.specs.Grows.{Grows, Fills}
 use Rattle.sp_gates.specs.Nets.{IsOpen}
 use Rattle.sp_core.specs.Invariant.{IsCore}
 use Rattle.sp_core.specs.PlainCore.{PlainCore}
-use Rattle.sp_op_nets.specs.Reserved.{Reserves}
+use Rattle.sp_plan.specs.PlainPlan.{PlainPlan}
+use Rattle.sp_node_runs.specs.BodiesGiven.{Nets}
+use Rattle.sp_op_nets.specs.Reserved.{Rise, Reserves}
+use Rattle.sp_access_nets.specs.declared.access.AccessNets.{AccessNets}
+use Rattle.sp_tree_circuits.specs.Circuits.{Circuit}
+use Rattle.sp_tree_handed.specs.declared.moves.Direction.TheVariants.{Load as Inward}
 use Rattle.sp_tree_handed.specs.declared.moves.TreeMove.{TreeMove}
-use Rattle.sp_tree_handed.specs.Moves.{slices_in, AreMovesStanding}
+use Rattle.sp_tree_handed.specs.Moves.{slices_in, end_at, AreMoves, AreMovesStanding}
+use Rattle.sp_dram_words.specs.Units.{nets_of}
+use Rattle.sp_stored_cores.specs.Loads.{Channel, HasLoads}
+use Rattle.sp_stored_cores.specs.Stores.{StoreAccess, units_of, HasStores}
 use Rattle.sp_load_units.specs.declared.unit.TransferUnit.{TransferUnit}
-use Rattle.sp_load_units.specs.Units.{UnitsStand}
-use Rattle.sp_load_nets.specs.Parts.{AreSlicesStanding}
+use Rattle.sp_load_units.specs.Units.{unit_wires_in, stores_to, UnitsStand, HaveDone}
+use Rattle.sp_load_nets.specs.Parts.{AreSlicesStanding, wires_for}
+use Rattle.sp_load_nets.specs.Runs.{AreLoadRuns}
 use Rattle.sp_store_nets.specs.Parts.{DrivesAndReserves, ReadsSram, StoreUnitStands, store_wires_in}
+use Rattle.sp_store_nets.specs.Runs.{StoreRun, AreStoreRuns}
 
 -- the stores of a core read SRAMs, and their units stand where those of all transfers do
 abbrev pub StoresReadSrams : Type 0
@@ -49,3 +62,37 @@ DriveInTurn =
 
 abbrev pub DrivenBehind : Type 0
 DrivenBehind = (first second third : Draft) (driven reserved more : List ℕ) → DrivesAndReserves first second driven reserved → Fills second third (reserved ++ more) → Fills first third (driven ++ more)
+
+-- the nets of loads and those of stores are apart where all rise, and are all of them
+pub record WiresAreApart (units : List TransferUnit) : Type 0 where
+  pub apart : (from : ℕ) → Rise from (unit_wires_in units) → (net : ℕ) → Contains (wires_for Inward units) net → Contains (store_wires_in units) net → ⊥
+  pub all : (net : ℕ) → Contains (unit_wires_in units) net → Contains (wires_for Inward units ++ store_wires_in units) net
+  pub no_other : (net : ℕ) → Contains (wires_for Inward units ++ store_wires_in units) net → Contains (unit_wires_in units) net
+
+-- the channel of a store, with the nets by which it is asked
+abbrev pub channel_of : {core : PlainCore} {g : Setting} {s : Signals} {names : List (Option ℕ)} {unit : TransferUnit} {slice : TreeMove} {a : AccessNets} → StoreRun core g s names unit slice a → Channel
+channel_of run = record { before = run.before; channel = run.channel; request = run.part.port.request; last = run.part.port.last }
+
+-- a store runs, a table has the net by which it is done, its channel stands under the number of its node, and its DRAM and its unit with its access
+pub record StoreHas (core : PlainCore) (g : Setting) (s : Signals) (ends names : List (Option ℕ)) (channels : (node : ℕ) → Channel) (unit : TransferUnit) (slice : TreeMove) (x : StoreAccess) : Type 0 where
+  pub run : StoreRun core g s names unit slice x.access
+  pub end : end_at ends unit.transfer.node ≡ Some unit.done
+  pub channel_is : channels unit.transfer.node ≡ channel_of run
+  pub dram_is : x.dram ≡ unit.transfer.dram
+  pub unit_is : x.unit ≡ record { nets = record { ready = run.part.port.ready; address = run.part.port.address; word = run.part.port.word }; number = unit.transfer.number }
+
+-- a core has its loads and its stores by these accesses, each with its own channel, and the units of stores are those that stand
+pub record HasTransfers (core : PlainCore) (plan : PlainPlan) (g : Setting) (s : Signals) (env : Nets) (c : Child) (names : List (Option ℕ)) (units : List TransferUnit) (writes reads : List AccessNets) (w : Circuit core plan s core.root [] env 0 c) : Type 0 where
+  pub channels : (node : ℕ) → Channel
+  pub loads : HasLoads core plan g s env c channels names w writes
+  pub storing : List StoreAccess
+  pub reads_are : map (λ (x : StoreAccess). x.access) storing ≡ reads
+  pub stores : HasStores core plan g s env c channels names w storing
+  pub units_are : (r : ℕ) → nets_of (units_of r storing) ≡ stores_to r units
+
+-- So it is where the circuit of its tree hands on its transfers, with the ends that their units have, and what was emitted of each runs.
+abbrev pub TransfersAreHad : Type 0
+TransfersAreHad =
+    (core : PlainCore) (plan : PlainPlan) (g : Setting) (s : Signals) (env : Nets) (c : Child) (ends names : List (Option ℕ)) (units : List TransferUnit) (slices : List TreeMove) (writes reads : List AccessNets)
+    (d : Draft) → UnitsStand d core units → HaveDone ends units → (w : Circuit core plan s core.root [] env 0 c) → AreMoves core plan s ends core.root [] env 0 c w slices
+    → AreLoadRuns core g s names units slices writes → AreStoreRuns core g s names units slices reads → HasTransfers core plan g s env c names units writes reads w

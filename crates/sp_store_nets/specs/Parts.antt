@@ -1,5 +1,5 @@
 -- The parts of stores, what they drive and reserve, and how their reads stand in a draft.
-use Rattle.std.specs.Prelude.{◌≡◌, ℕ, ◌<◌, List, [], ◌++◌, length, flat_map, All, Contains, Option, Some}
+use Rattle.std.specs.Prelude.{◌≡◌, ℕ, ◌<◌, List, ◌++◌, length, All, Contains, Option, Some}
 use Rattle.sp_words.specs.declared.kind.Kind.TheVariants.{Sram}
 use Rattle.sp_words.specs.Types.{width_of}
 use Rattle.sp_netlist.specs.Draft.{Draft}
@@ -7,6 +7,7 @@ use Rattle.sp_netlist.specs.Signals.{Signals}
 use Rattle.sp_gates.specs.Grows.{Grows, AddsGates}
 use Rattle.sp_gates.specs.Nets.{IsOpen, Awaits}
 use Rattle.sp_gates.specs.Runs.{RunsOn}
+use Rattle.sp_core.specs.declared.operation.OpKind.TheVariants.{Read}
 use Rattle.sp_core.specs.Declarations.{mem, dram, kind_of}
 use Rattle.sp_core.specs.PlainCore.{PlainCore}
 use Rattle.sp_mem.specs.Fits.{CopyFits}
@@ -17,15 +18,14 @@ use Rattle.sp_transfer_runs.specs.Words.{moves_of}
 use Rattle.sp_bound_nets.specs.Spans.{nets_of_spans}
 use Rattle.sp_access_nets.specs.declared.access.AccessNets.{AccessNets}
 use Rattle.sp_access_nets.specs.Laws.{answer_nets}
-use Rattle.sp_tree_handed.specs.declared.moves.Direction.{Direction}
-use Rattle.sp_tree_handed.specs.declared.moves.Direction.TheVariants.{Load as Inward, Store as Outward}
+use Rattle.sp_tree_handed.specs.declared.moves.Direction.TheVariants.{Store as Outward}
 use Rattle.sp_tree_handed.specs.declared.moves.TreeMove.{TreeMove}
 use Rattle.sp_tree_handed.specs.Standing.{AccessStands}
 use Rattle.sp_tree_accesses.specs.Queued.{QueuedStands}
 use Rattle.sp_load_units.specs.declared.unit.TransferUnit.{TransferUnit}
 use Rattle.sp_load_units.specs.declared.unit.UnitPort.TheVariants.{Stores}
-use Rattle.sp_load_units.specs.Units.{unit_wires}
 use Rattle.sp_load_units.specs.Walks.{UnitStandsAlone}
+use Rattle.sp_load_nets.specs.Parts.{wires_for}
 use Rattle.sp_store_nets.specs.Runs.{AreStoreRuns}
 
 -- a unit stores
@@ -62,6 +62,7 @@ pub record ReadStands (d : Draft) (core : PlainCore) (a : AccessNets) : Type 0 w
   pub within : a.mem < length core.mems
   pub word : WordNet
   pub answer : a.answer ≡ Some word
+  pub reads : a.kind ≡ Read
   pub awaits : Awaits d word.net (width_of (mem core a.mem).ty)
 
 -- a unit of a store stands by itself; of that of a load nothing is said
@@ -73,12 +74,8 @@ abbrev pub ReadsSram : PlainCore → TransferUnit → Type 0
 ReadsSram core unit = Storing unit → kind_of core unit.transfer.mem ≡ Sram
 
 -- the nets of units of stores that are to be driven
-abbrev pub wires_by : Direction → List ℕ → List ℕ
-wires_by Inward wires = []
-wires_by Outward wires = wires
-
 abbrev pub store_wires_in : List TransferUnit → List ℕ
-store_wires_in units = flat_map (λ (unit : TransferUnit). wires_by unit.transfer.direction (unit_wires unit)) units
+store_wires_in units = wires_for Outward units
 
 -- the reads of stores come behind other accesses
 pub record AddsReads (old new : Draft) (core : PlainCore) (names : List (Option ℕ)) (units : List TransferUnit) (slices : List TreeMove) (before after : List AccessNets) : Type 0 where
@@ -87,3 +84,11 @@ pub record AddsReads (old new : Draft) (core : PlainCore) (names : List (Option 
   pub drives : DrivesAndReserves old new (store_wires_in units) (answer_nets added)
   pub stand : All (ReadStands new core) added
   pub runs : (s : Signals) → (r : RunsOn s new.cells) → AreStoreRuns core r.setting s names units slices added
+
+-- the access of a transfer stands; where it is to be answered it reads
+pub record TransferStands (d : Draft) (core : PlainCore) (a : AccessNets) : Type 0 where
+  pub stands : AccessStands d core a
+  pub copied : CopyFits d a.copy
+  pub queued : QueuedStands d core a
+  pub within : a.mem < length core.mems
+  pub reads : (word : WordNet) → a.answer ≡ Some word → a.kind ≡ Read

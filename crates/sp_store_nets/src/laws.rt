@@ -1,6 +1,10 @@
 //! Laws of stores. The functions do nothing: what they ensure is the law.
 
-ghost use Rattle.sp_store_nets.specs.Laws.{StoresReadSrams, StoresStand, StoresAreOpen, StoresStay, SlicesAreOfUnits, SlicesStay, FillsDrive, ReservesAlone, DriveInTurn, DrivenBehind};
+ghost use Rattle.sp_store_nets.specs.Laws.{StoresReadSrams, StoresStand, StoresAreOpen, StoresStay, SlicesAreOfUnits, SlicesStay, FillsDrive, ReservesAlone, DriveInTurn, DrivenBehind, WiresAreApart, TransfersAreHad};
+ghost use Rattle.sp_load_units.specs.declared.unit.TransferUnit.{TransferUnit};
+ghost use Rattle.std.specs.Prelude.{List};
+
+use sp_load_nets::loads_are_had;
 
 /// The stores of a core read SRAMs.
 pub fn stores_read_srams()
@@ -51,3 +55,15 @@ pub fn drive_in_turn()
 pub fn driven_behind()
     ensures { DrivenBehind }
 {}
+
+/// The nets of the units of loads and those of stores are apart, and are all of the nets of units.
+pub fn wires_are_apart()
+    ensures { (units : List TransferUnit) → WiresAreApart units }
+{}
+
+/// A core's tree has its loads and its stores by what was emitted of them, each with the channel of its unit.
+pub fn transfers_are_had()
+    ensures { TransfersAreHad }
+{
+    loads_are_had();
+}

@@ -1,5 +1,5 @@
 -- What a circuit's transfers do.
-use Rattle.std.proofs.Common.{ℕ, suc, ◌+◌, true, false, List, [], ◌∷◌, length}
+use Rattle.std.proofs.Common.{ℕ, suc, ◌+◌, true, false, List, length}
 use Rattle.sp_netlist.specs.declared.parts.Child.{Child}
 use Rattle.sp_netlist.specs.Signals.{Signals}
 use Rattle.sp_core.specs.Around.{Near}

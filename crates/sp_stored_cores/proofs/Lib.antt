@@ -2,10 +2,9 @@ mod Acting
 mod Circle
 mod Early
 mod Elements
+mod FirstWords
 mod Loaded
 mod Moved
 mod Moves
 mod OnChip
 mod Saved
-mod Storing
-mod Untouched

@@ -1,5 +1,5 @@
 -- The loads of a core in a run: where what they read is found in the DRAMs, they go as the timeline says, and their writes act in time.
-use Rattle.std.proofs.Common.{◌≡◌, ℕ, zero, suc, ◌+◌, ◌-◌, ◌<◌, ◌≤◌, true, List, [], ◌∷◌, ◌++◌, take, length, slice_index, slice_index_or, Option, Some, None, inl, inr, refl, sym, ap, subst, ◌∙◌, arith}
+use Rattle.std.proofs.Common.{◌≡◌, ℕ, zero, suc, ◌+◌, ◌-◌, ◌<◌, List, [], ◌∷◌, ◌++◌, take, length, slice_index, slice_index_or, Option, None, refl, sym, ap, subst, ◌∙◌, arith}
 use Rattle.std.proofs.lemmas.List.{length_push}
 use Rattle.std.specs.List.{Contains}
 use Rattle.sp_words.specs.declared.kind.Kind.{Kind}
@@ -34,7 +34,7 @@ use Rattle.sp_access_nets.specs.Accesses.{copy_in}
 use Rattle.sp_tree_handed.specs.declared.moves.Direction.TheVariants.{Load}
 use Rattle.sp_dram_words.specs.Moves.{loads, NodeMoves, MovesAreItems}
 use Rattle.sp_array_nets.specs.Kinds.{IsEmitted}
-use Rattle.sp_array_words.specs.Loads.{IsLoading, LoadsInTime, LoadsWriteInWhole}
+use Rattle.sp_array_words.specs.Loads.{LoadsInTime, LoadsWriteInWhole}
 use Rattle.sp_stored_cores.specs.Loads.{Channel, took_by, IsLoadWrite, LoadStands, LoadsAre}
 use Rattle.sp_stored_cores.proofs.Acting.{TransferActs}
 use Rattle.sp_stored_cores.proofs.Moves.{Placed, HasSuch, by_access, by_number}

@@ -2,10 +2,9 @@
 -- store.
 use Rattle.std.proofs.Common.{◌≡◌, ℕ, nat_lt, true, false, ◌⊎◌, inl, inr, List, length, Some, refl, sym, ap, subst, ◌∙◌, arith}
 use Rattle.std.proofs.lemmas.Bool.{le-ltb}
-use Rattle.std.specs.List.{Contains}
 use Rattle.sp_words.specs.declared.kind.Kind.TheVariants.{Sram, Dram}
 use Rattle.sp_core.specs.Declarations.{kind_of, dram_number}
-use Rattle.sp_core.specs.Events.{Act, reads, writes, Event}
+use Rattle.sp_core.specs.Events.{Act, reads, writes}
 use Rattle.sp_core.specs.Meeting.{changes}
 use Rattle.sp_core.specs.PlainCore.{PlainOp, PlainCore}
 use Rattle.sp_time.specs.Lists.{Each}

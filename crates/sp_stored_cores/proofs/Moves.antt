@@ -1,6 +1,6 @@
 -- What holds of each transfer of one direction in a tree: what follows of it, and what holds of a transfer is known by what stands for it in a
 -- list, and by its number.
-use Rattle.std.proofs.Common.{◌≡◌, ℕ, zero, suc, ◌+◌, ◌<◌, true, false, List, [], ◌∷◌, ◌++◌, length, refl, sym, ap, ap₂, subst, ◌∙◌, inl, inr, arith}
+use Rattle.std.proofs.Common.{◌≡◌, ℕ, zero, suc, ◌+◌, true, false, List, [], ◌∷◌, ◌++◌, length, refl, sym, ap, subst, inl, inr, arith}
 use Rattle.std.specs.List.{Contains}
 use Rattle.std.proofs.lemmas.List.Elements.{Contains-append_cases, Contains-append_left, Contains-append_right}
 use Rattle.sp_netlist.specs.declared.parts.Child.{Child}
@@ -20,7 +20,6 @@ use Rattle.sp_tree_circuits.specs.Answers.{EachTransfer, EachInStages}
 use Rattle.sp_tree_circuits.specs.Circuits.{slot_nets, Circuit, StageCircuits}
 use Rattle.sp_tree_handed.specs.declared.moves.Direction.{Direction}
 use Rattle.sp_tree_handed.specs.declared.moves.Direction.TheVariants.{Load, Store}
-use Rattle.sp_tree_handed.specs.Loads.{HasNoStore, HaveNoStore}
 use Rattle.sp_dram_words.specs.Moves.{Move, loads, stores, NodeMoves, StagesMove}
 use Rattle.sp_stored_cores.specs.Moves.{node_of, move_of, OfBoth, OneAlone, OneIf, MovesAre, StagesMoveSo}
 
@@ -319,52 +318,3 @@ module _ (core : PlainCore) (plan : PlainPlan) (delays : Delays) (s : Signals) w
           among_first h.one h.other list h.are (by_number node near (nets i) j n (qs i) (child i) w.0 h.one there h.first)
       stage_number (more_stage first last comb node rest) near j n i nets qs child w list (inr there) h =
           among_second h.one h.other list h.are (stage_number rest near (j + node_count node) (n + number_count node) (suc i) nets qs child w.1 h.other there h.second)
-
-  -- where no store stands there is none
-  module _ {E : Type 0} (P : OfMove E) where
-    mutual
-      pub none_stored : (node : PlainNode) (near : List Near) (env : Nets) (k n : ℕ) (qs : List Scoped) (c : Child) (w : Circuit core plan s node near env k c) → HasNoStore node → MovesAre Store core plan delays s P node near env k n qs c w []
-      none_stored (branch ops first second) near env k n qs c w none = record {
-        one = [];
-        other = [];
-        are = refl;
-        first = none_stored first near env (suc k) (n + length ops) (scoped_sides core plan delays ops k true qs) w.chosen w.one none.0;
-        second = none_stored second near env (suc k + node_count first) (n + (length ops + number_count first)) (scoped_sides core plan delays ops k false qs) w.left w.other none.1;
-      }
-      none_stored (fsm start state ops node after) near env k n qs c w none = none_stored node near env (suc k) (n + (length start + length ops)) (scoped_bodies core plan delays start ops after node k n qs) w.body w.goes none
-      none_stored (outer counters style owned stages) near env k n qs c w none =
-          stages_none stages (own_near counters near) (suc k) (n + counters_size counters) 0 (λ i. slot_nets w.nets w.rows env counters (slot_at (slots_of (node_plan plan k)) i).slot) (λ i. scoped_stages core plan delays counters owned stages k n i qs) w.child w.parts none
-      none_stored (inner counters owned ops comb) near env k n qs c w none = refl
-      none_stored (load r m spans) near env k n qs c w none = refl
-      none_stored (store r m spans) near env k n qs c w none = absurd none
-      none_stored (sparse kind r m places spans count par) near env k n qs c w none = absurd none
-
-      stages_none : (stages : PlainStages) (near : List Near) (j n i : ℕ) (nets : (stage : ℕ) → Nets) (qs : (stage : ℕ) → List Scoped) (child : (stage : ℕ) → Child) (w : StageCircuits core plan s stages near j i nets child) → HaveNoStore stages → StagesMoveSo Store core plan delays s P stages near j n i nets qs child w []
-      stages_none no_stage near j n i nets qs child w none = refl
-      stages_none (more_stage first last comb node rest) near j n i nets qs child w none = record {
-        one = [];
-        other = [];
-        are = refl;
-        first = none_stored node near (nets i) j n (qs i) (child i) w.0 none.0;
-        second = stages_none rest near (j + node_count node) (n + number_count node) (suc i) nets qs child w.1 none.1;
-      }
-
-    mutual
-      pub only_none : (node : PlainNode) (near : List Near) (env : Nets) (k n : ℕ) (qs : List Scoped) (c : Child) (w : Circuit core plan s node near env k c) (list : List E) → HasNoStore node → MovesAre Store core plan delays s P node near env k n qs c w list → list ≡ []
-      only_none (branch ops first second) near env k n qs c w list none h =
-          h.are
-          ∙ ap₂ (λ a b. a ++ b) (only_none first near env (suc k) (n + length ops) (scoped_sides core plan delays ops k true qs) w.chosen w.one h.one none.0 h.first)
-          (only_none second near env (suc k + node_count first) (n + (length ops + number_count first)) (scoped_sides core plan delays ops k false qs) w.left w.other h.other none.1 h.second)
-      only_none (fsm start state ops node after) near env k n qs c w list none h = only_none node near env (suc k) (n + (length start + length ops)) (scoped_bodies core plan delays start ops after node k n qs) w.body w.goes list none h
-      only_none (outer counters style owned stages) near env k n qs c w list none h =
-          stages_only stages (own_near counters near) (suc k) (n + counters_size counters) 0 (λ i. slot_nets w.nets w.rows env counters (slot_at (slots_of (node_plan plan k)) i).slot) (λ i. scoped_stages core plan delays counters owned stages k n i qs) w.child w.parts list none h
-      only_none (inner counters owned ops comb) near env k n qs c w list none h = h
-      only_none (load r m spans) near env k n qs c w list none h = h
-      only_none (store r m spans) near env k n qs c w list none h = absurd none
-      only_none (sparse kind r m places spans count par) near env k n qs c w list none h = absurd none
-
-      stages_only : (stages : PlainStages) (near : List Near) (j n i : ℕ) (nets : (stage : ℕ) → Nets) (qs : (stage : ℕ) → List Scoped) (child : (stage : ℕ) → Child) (w : StageCircuits core plan s stages near j i nets child) (list : List E) → HaveNoStore stages
-          → StagesMoveSo Store core plan delays s P stages near j n i nets qs child w list → list ≡ []
-      stages_only no_stage near j n i nets qs child w list none h = h
-      stages_only (more_stage first last comb node rest) near j n i nets qs child w list none h =
-          h.are ∙ ap₂ (λ a b. a ++ b) (only_none node near (nets i) j n (qs i) (child i) w.0 h.one none.0 h.first) (stages_only rest near (j + node_count node) (n + number_count node) (suc i) nets qs child w.1 h.other none.1 h.second)

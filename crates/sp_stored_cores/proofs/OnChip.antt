@@ -1,12 +1,12 @@
 -- Parts of a core that keeps the rules name no memory in their operations, and own none, but those on the chip.
-use Rattle.std.proofs.Common.{◌≡◌, ℕ, ◌<◌, nat_lt, Bool, true, false, ◌&&◌, ◌||◌, not, ◌⊎◌, inl, inr, List, [], ◌∷◌, ◌++◌, length, Option, Some, None, refl}
+use Rattle.std.proofs.Common.{◌≡◌, ℕ, nat_lt, Bool, true, false, ◌&&◌, ◌||◌, not, ◌⊎◌, inl, inr, List, [], ◌∷◌, ◌++◌, length, Option, Some, None, refl}
 use Rattle.std.specs.List.{list_all}
 use Rattle.std.proofs.lemmas.Bool.{and_parts}
 use Rattle.sp_words.specs.declared.types.Ty.{Ty}
 use Rattle.sp_words.specs.Types.{int_type}
 use Rattle.sp_core.specs.declared.operation.OpKind.{OpKind}
-use Rattle.sp_core.specs.Around.{Around, within, is_port_kind, is_usable}
-use Rattle.sp_core.specs.Declarations.{mem, dram, is_among}
+use Rattle.sp_core.specs.Around.{Around, is_port_kind, is_usable}
+use Rattle.sp_core.specs.Declarations.{mem, is_among}
 use Rattle.sp_core.specs.Footprint.{MayName, AllPass, ListNames, CountersName, SpansName}
 use Rattle.sp_core.specs.Invariant.{is_right_here, IsRight}
 use Rattle.sp_core.specs.NodeRules.{are_counters_right, is_node_right, is_owned_once, is_sram, is_line, is_span_right, is_slice_right, is_sram_here, fits_sram, fits_line, owned_by}

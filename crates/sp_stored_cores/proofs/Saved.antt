@@ -1,5 +1,5 @@
 -- The stores of a core in a run: their reads act in time, and where these are answered their units write the DRAMs in time.
-use Rattle.std.proofs.Common.{◌≡◌, ℕ, zero, suc, ◌+◌, ◌<◌, ◌≤◌, ◌==◌, Bool, true, false, if◌then◌else◌, List, [], ◌∷◌, map, length, slice_index_or, Option, Some, None, refl, sym, ap, subst, ◌∙◌, arith}
+use Rattle.std.proofs.Common.{◌≡◌, ℕ, zero, suc, ◌+◌, ◌<◌, ◌==◌, Bool, true, false, if◌then◌else◌, List, [], ◌∷◌, map, length, slice_index_or, Option, Some, None, refl, sym, ap, subst, ◌∙◌, arith}
 use Rattle.std.proofs.lemmas.Bool.{eq-eqb}
 use Rattle.std.specs.List.{Contains}
 use Rattle.sp_words.specs.declared.kind.Kind.TheVariants.{Sram}
@@ -25,7 +25,7 @@ use Rattle.sp_tree_events.specs.ToldLaws.{IsMoved}
 use Rattle.sp_tree_runs.specs.BodiesScoped.{Scoped, placed}
 use Rattle.sp_tree_circuits.specs.Circuits.{Circuit}
 use Rattle.sp_tree_handed.specs.declared.moves.Direction.TheVariants.{Store}
-use Rattle.sp_transfer_runs.specs.Stores.{AreFoundLater, StoreGoes, StoresInTime}
+use Rattle.sp_transfer_runs.specs.Stores.{AreFoundLater, StoreGoes}
 use Rattle.sp_transfer_trees.specs.Trees.{TransferGoes}
 use Rattle.sp_memory_words.specs.Answers.{IsAnswered, NamesCopies}
 use Rattle.sp_bank_words.specs.Accesses.{reads_in}
@@ -33,7 +33,6 @@ use Rattle.sp_access_nets.specs.declared.access.AccessNets.{AccessNets}
 use Rattle.sp_access_nets.specs.Accesses.{copy_in}
 use Rattle.sp_array_nets.specs.Kinds.{IsEmitted}
 use Rattle.sp_array_words.specs.Stores.{ReadsInTime, IsStoring, StoresReadInTime, StoresReadInWhole, StoresAreAnswered}
-use Rattle.sp_dram_words.specs.Laws.{dram_dims}
 use Rattle.sp_dram_words.specs.Moves.{stores, NodeMoves, MovesAreItems}
 use Rattle.sp_dram_words.specs.Stores.{IsUnitOf, HasStores}
 use Rattle.sp_dram_words.specs.Units.{StoreUnit}

@@ -1,9 +1,6 @@
 -- What doesn't happen in the run of a core: nothing in the cycle in which it is started.
-use Rattle.std.specs.Prelude.{◌≡◌, ℕ, ◌≤◌, List, [], ◌∷◌}
+use Rattle.std.specs.Prelude.{◌≡◌, ◌≤◌, [], ◌∷◌}
 use Rattle.sp_time.specs.Lists.{Each}
-use Rattle.sp_netlist.specs.declared.parts.Child.{Child}
-use Rattle.sp_netlist.specs.Signals.{Signals}
-use Rattle.sp_core.specs.Around.{Near}
 use Rattle.sp_core.specs.History.{History}
 use Rattle.sp_core.specs.PlainCore.{PlainNode, inner, outer, fsm, branch, load, store, sparse, PlainCore}
 use Rattle.sp_core.specs.Scope.{in_lanes, no_scope}
@@ -11,13 +8,8 @@ use Rattle.sp_plan.specs.PlainPlan.{PlainPlan}
 use Rattle.sp_machine.specs.Stamps.{Stamped}
 use Rattle.sp_machine.specs.Timeline.{core_timed}
 use Rattle.sp_machine.specs.Transfers.{Delays}
-use Rattle.sp_node_runs.specs.BodiesGiven.{Nets}
 use Rattle.sp_tree_runs.specs.BodiesDone.{AllDone}
-use Rattle.sp_tree_runs.specs.BodiesScoped.{Scoped}
-use Rattle.sp_tree_circuits.specs.Answers.{TransfersMove}
-use Rattle.sp_tree_circuits.specs.Circuits.{Circuit}
 use Rattle.sp_tree_circuits.specs.Laws.{core_events}
-use Rattle.sp_tree_nets.specs.Emitted.{HasNoTransfer}
 
 -- a controller that reads no bound where it is started
 abbrev pub HasNoCounters : PlainNode → Type 0

@@ -16,7 +16,6 @@ use Rattle.sp_node_runs.specs.BodiesSpans.{SpanNets}
 use Rattle.sp_tree_runs.specs.BodiesScoped.{Scoped}
 use Rattle.sp_tree_circuits.specs.Circuits.{Circuit}
 use Rattle.sp_tree_handed.specs.declared.moves.Direction.TheVariants.{Store}
-use Rattle.sp_tree_handed.specs.Loads.{HasNoStore}
 use Rattle.sp_xfer.specs.declared.part.Store.{Store as StorePart}
 use Rattle.sp_xfer.specs.declared.part.Stored.{Stored}
 use Rattle.sp_transfer_runs.specs.Moving.{HasStore}
@@ -63,9 +62,3 @@ pub record StoreStands (core : PlainCore) (g : Setting) (s : Signals) (channels 
 abbrev pub HasStores : (core : PlainCore) (plan : PlainPlan) (g : Setting) (s : Signals) (env : Nets) (c : Child) (channels : (node : ℕ) → Channel) (copies : List (Option ℕ)) → Circuit core plan s core.root [] env 0 c → List StoreAccess → Type 0
 HasStores core plan g s env c channels copies w storing =
     (bound : ℕ) (delays : Delays) (qs : List Scoped) → MovesAre Store core plan delays s (StoreStands core g s channels bound copies) core.root [] env 0 0 qs c w storing
-
--- a core without stores has them, in a list without any and in no other
-pub record NoneStands (core : PlainCore) (plan : PlainPlan) : Type 0 where
-  pub none : HasNoStore core.root → (g : Setting) (s : Signals) (env : Nets) (c : Child) (channels : (node : ℕ) → Channel) (copies : List (Option ℕ)) (w : Circuit core plan s core.root [] env 0 c) → HasStores core plan g s env c channels copies w []
-  pub only : HasNoStore core.root → (g : Setting) (s : Signals) (env : Nets) (c : Child) (channels : (node : ℕ) → Channel) (copies : List (Option ℕ)) (w : Circuit core plan s core.root [] env 0 c) (storing : List StoreAccess) → HasStores core plan g s env c channels copies w storing
-      → storing ≡ []

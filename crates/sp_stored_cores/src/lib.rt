@@ -7,5 +7,5 @@ mod outside;
 mod quiet;
 
 pub use closing::stored_cores_go;
-pub use outside::{drams_stay, first_words_given, none_stands, nothing_is_stored};
+pub use outside::first_words_given;
 pub use quiet::{core_events_are_timed, nothing_begins_at_once, runs_take_time};

@@ -1,5 +1,4 @@
 use Rattle.sp_frames.proofs.Framing.{no_banks, no_drams, gates_inside, banks_inside, units_inside, inside_join, no_output, no_end, framed, runs_on, first_words}
-use Rattle.sp_frames.proofs.DramCells.{given_are}
 use Rattle.sp_frames.proofs.Naming.{are_named, no_dims, sizes, nets_stay, net_for_each, has_nets, each_net}
 use Rattle.sp_frames.proofs.Stores.{front_stores_none, gates_store_none, banks_store_none, ends_store_none}
 use Rattle.sp_frames.proofs.laws.port_laws.Goals as goal
@@ -28,5 +27,4 @@ returns c = record {
   framed = framed;
   runs_on = runs_on;
   words = first_words;
-  given = given_are;
 }

@@ -6,7 +6,7 @@ use Rattle.sp_tree_handed.specs.Transfers.{transfers_in}
 use Rattle.sp_load_units.specs.declared.walk.Walk.{Walk}
 use Rattle.sp_load_units.specs.Units.{IsTransferOf}
 use Rattle.sp_load_units.proofs.Banks.{as_many_banks, same_banks}
-use Rattle.sp_load_units.proofs.Ending.{whole_ends, whole_loads, whole_stands}
+use Rattle.sp_load_units.proofs.Ending.{whole_ends, whole_stands, whole_stores}
 use Rattle.sp_load_units.proofs.Transfers.{numbers_small, root_transfers}
 use Rattle.sp_load_units.proofs.units.add_units.Goals as goal
 
@@ -31,10 +31,10 @@ returns-clause-ends c =
     let first : Walk = record { units = c.new.result; ends = c.new-2.result; number = 0 } in
     whole_ends (plain_core c.args.core.now) (plain_node c.root.result.now) c.args.builder.now c.add_node.new.builder first c.add_node.new.walk (ap plain_node c.root.ensures.root) c.new.ensures.items c.new-2.ensures.items refl c.in_ok-add_node.ensures.walked
 
-pub returns-clause-no_store : goal.returns-clause-no_store
-returns-clause-no_store c =
+pub returns-clause-stores : goal.returns-clause-stores
+returns-clause-stores c =
     let first : Walk = record { units = c.new.result; ends = c.new-2.result; number = 0 } in
-    whole_loads (plain_core c.args.core.now) (plain_node c.root.result.now) c.args.builder.now c.add_node.new.builder first c.add_node.new.walk (ap plain_node c.root.ensures.root) c.new.ensures.items c.new-2.ensures.items refl c.in_ok-add_node.ensures.walked
+    whole_stores (plain_core c.args.core.now) (plain_node c.root.result.now) c.args.builder.now c.add_node.new.builder first c.add_node.new.walk (ap plain_node c.root.ensures.root) c.new.ensures.items c.new-2.ensures.items refl c.in_ok-add_node.ensures.walked
 
 pub returns-clause-banks : goal.returns-clause-banks
 returns-clause-banks c = same_banks c.args.builder.now c.add_node.new.builder c.in_ok-add_node.ensures.walked.adds.cells

@@ -19,4 +19,4 @@ returns-clause-adds c =
     let d = c.in_ok-done.ensures in
     adds_port (plain_core c.args.core.now) c.args.builder.now c.add_port.new.builder c.await_end.new.builder walk _ (core_transfer c.args.direction (length walk.ends.items) (walk.number + c.args.ops) c.args.dram c.args.mem) unit _ c.word_width-width.result
     (c.transfer_at-transfer.ensures ∙ ap (λ k. core_transfer c.args.direction k (walk.number + c.args.ops) c.args.dram c.args.mem) (search rules)) refl c.in_ok-push.ensures.items c.in_ok-push-2.ensures.items p.promises p.rise p.wires p.runs p.way
-    c.word_width-width.ensures.value c.requires.transfer p.cells p.no_store d.opens d.awaits d.net d.same_cells (length walk.units.items) (sym c.requires.go.units) (p.one_more ∙ ap (λ n. n + 1) (search rules))
+    c.word_width-width.ensures.value c.requires.transfer p.cells p.stores d.opens d.awaits d.net d.same_cells (length walk.units.items) (sym c.requires.go.units) (p.one_more ∙ ap (λ n. n + 1) (search rules))

@@ -1,28 +1,18 @@
--- A run of a core without stores leaves its DRAMs as they are: what happens in it, done one after the other, changes memories on the chip alone.
-use Rattle.std.proofs.Common.{◌≡◌, ◌≢◌, ℕ, zero, suc, ◌+◌, ◌<◌, ◌≤◌, nat_lt, Bool, true, false, if◌then◌else◌, List, [], ◌∷◌, ◌++◌, length, map, slice_index_or, Option, Some, None, inl, inr, refl, sym, ap, subst, ◌∙◌, arith, eq-eqb, ne_eqb}
+-- The words that the DRAMs of a core have first.
+use Rattle.std.proofs.Common.{◌≡◌, ◌≢◌, ℕ, zero, suc, ◌+◌, ◌<◌, ◌≤◌, Bool, true, false, if◌then◌else◌, List, [], ◌∷◌, ◌++◌, length, map, slice_index_or, Option, Some, None, refl, sym, ap, ◌∙◌, arith, eq-eqb, ne_eqb}
 use Rattle.std.specs.List.{range_with_len}
-use Rattle.std.proofs.lemmas.Bool.{le-ltb, false≢true}
 use Rattle.std.proofs.lemmas.List.{map-append}
-use Rattle.std.proofs.lemmas.List.FromFn.{map-range_with_len_more, fill_by_all}
+use Rattle.std.proofs.lemmas.List.FromFn.{map-range_with_len_more}
 use Rattle.sp_words.specs.declared.kind.Kind.{Kind}
 use Rattle.sp_words.specs.Memory.{Contents, words}
 use Rattle.sp_words.specs.Ports.{PlainInput}
 use Rattle.sp_core.specs.Declarations.{dram_number}
 use Rattle.sp_core.specs.Elements.{numbers_below}
-use Rattle.sp_core.specs.Events.{Act, reads, writes, puts, takes, resets, turns, Event, Moment, touches, slices, renews, keeps, core_moments}
-use Rattle.sp_core.specs.History.{History}
-use Rattle.sp_core.specs.Laws.{IsReplayed}
-use Rattle.sp_core.specs.Meaning.{is_arg, is_out, numbers_of, args_of, outs_of, drams_of, hold_each, first_store, run_core, dram_words}
-use Rattle.sp_core.specs.Meeting.{changes}
+use Rattle.sp_core.specs.Meaning.{is_arg, numbers_of, args_of, outs_of, drams_of, hold_each, first_store}
 use Rattle.sp_core.specs.PlainCore.{PlainMem, PlainCore}
-use Rattle.sp_core.specs.Replay.{after_act, after_moment, after_all}
-use Rattle.sp_core.specs.Scope.{Reading, no_scope}
-use Rattle.sp_core.specs.Step.{went}
 use Rattle.sp_core.specs.Store.{Store, hold, words_of}
 use Rattle.sp_time.specs.Lists.{Each}
-use Rattle.sp_tree_events.specs.ToldItems.{Item, operation, transfer, NodeHas}
-use Rattle.sp_stored_cores.specs.Outside.{StoresNone, IsNoStore, FirstWordsGiven, DramsStay}
-use Rattle.sp_stored_cores.proofs.Storing.{nothing_is_stored}
+use Rattle.sp_stored_cores.specs.Outside.{FirstWordsGiven}
 
 -- what is held elsewhere isn't changed
 other_held : (s : Store) (m k : ℕ) (c : Contents) → k ≢ m → hold s m c k ≡ s k
@@ -67,10 +57,6 @@ below_is_range f zero = refl
 below_is_range f (suc n) =
     map-append f (numbers_below n) (n ∷ []) ∙ ap (λ xs. xs ++ f n ∷ []) (below_is_range f n) ∙ sym (map-range_with_len_more f 0 n n (omega arith)) ∙ (let next : n + 1 ≡ suc n = omega arith in ap (λ k. map f (range_with_len 0 k)) next)
 
-twice : {A B C : Type 0} (f : B → C) (g : A → B) (xs : List A) → map f (map g xs) ≡ map (λ x. f (g x)) xs
-twice f g [] = refl
-twice f g (x ∷ xs) = ap (λ ys. f (g x) ∷ ys) (twice f g xs)
-
 module _ (core : PlainCore) (input : PlainInput) (many : length input.drams ≡ length core.ports.drams) where
   row : drams_of core ≡ map (λ k. length core.mems + k) (range_with_len 0 (length input.drams))
   row = below_is_range (dram_number core) (length core.ports.drams) ∙ ap (λ n. map (λ k. length core.mems + k) (range_with_len 0 n)) (sym many)
@@ -83,46 +69,6 @@ module _ (core : PlainCore) (input : PlainInput) (many : length input.drams ≡ 
       ∙ (let at : dram_number core r ≡ length core.mems + (0 + r) = omega arith in
       ap (hold_each (map (λ k. length core.mems + k) (range_with_len 0 (length input.drams))) input.drams base) at)
       ∙ held_in_row (length core.mems) 0 input.drams base r l
-
-  left_as_given : (left : Store) → ((r : ℕ) → left (dram_number core r) ≡ first_store core input (dram_number core r)) → dram_words core left ≡ input.drams
-  left_as_given left same =
-      ap (map (λ m. words_of (left m))) row ∙ twice (λ m. words_of (left m)) (λ k. length core.mems + k) (range_with_len 0 (length input.drams))
-      ∙ sym (fill_by_all (λ k. words_of (left (length core.mems + k))) input.drams (length input.drams) [] refl (λ k l. sym (ap words_of (same k ∙ given_first k l))))
-
--- where something is changed it is on the chip
-pub changed_on_chip : (core : PlainCore) (e : Event) (i : Item) → StoresNone core i e → changes e.act ≡ true → e.mem < length core.mems
-changed_on_chip core e (operation op) h c = h.1
-changed_on_chip core e (transfer r m) (inl h) c = absurd (false≢true (sym (ap changes h.2) ∙ c))
-changed_on_chip core e (transfer r m) (inr h) c = h.1
-
-module _ (core : PlainCore) (k : ℕ) (outside : length core.mems ≤ k) where
-  apart : (m : ℕ) → m < length core.mems → k ≢ m
-  apart m l e = omega (arith, outside, l, e)
-
-  by_act : (m : ℕ) (is : List ℕ) (a : Act) (s : Store) → (changes a ≡ true → m < length core.mems) → after_act core m is a s k ≡ s k
-  by_act m is (reads w) s chip = refl
-  by_act m is (writes w) s chip = other_held s m k _ (apart m (chip refl))
-  by_act m is (puts w) s chip = other_held s m k _ (apart m (chip refl))
-  by_act m is (takes w) s chip = other_held s m k _ (apart m (chip refl))
-  by_act m is resets s chip = other_held s m k _ (apart m (chip refl))
-  by_act m is turns s chip = other_held s m k _ (apart m (chip refl))
-
-  by_moment : (x : Moment) (s : Store) → IsNoStore core x → after_moment core x s k ≡ s k
-  by_moment (touches e) s h = by_act e.mem e.indices e.act s (changed_on_chip core e h.0 h.2)
-  by_moment (slices x) s h = refl
-  by_moment (renews m) s h = other_held s m k _ (apart m h)
-  by_moment (keeps m w) s h = other_held s m k _ (apart m h)
-
-  by_all : (ms : List Moment) (s : Store) → Each (IsNoStore core) ms → after_all core ms s k ≡ s k
-  by_all [] s h = refl
-  by_all (x ∷ ms) s h = by_all ms (after_moment core x s) h.1 ∙ by_moment x s h.0
-
-pub drams_stay : (core : PlainCore) → ((reading : Reading) → IsReplayed core reading core.root) → DramsStay core
-unfolding run_core
-drams_stay core replayed is none reading input most h left many ran =
-    let again = (replayed reading most no_scope (first_store core input) left h ran 0 0 (record { path = []; counters = [] })).1 in
-    left_as_given core input many left
-    (λ r. sym (ap (λ (s : Store). s (dram_number core r)) again) ∙ by_all core (dram_number core r) (omega arith) (core_moments core reading h) (first_store core input) (nothing_is_stored core is none reading h))
 
 pub first_words_given : (core : PlainCore) → FirstWordsGiven core
 first_words_given core input many r l = ap words_of (given_first core input many r (omega (arith, l, many)))
