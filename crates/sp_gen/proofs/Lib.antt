@@ -1,0 +1,4 @@
+pub mod DrawLemmas
+pub mod TextLemmas
+pub mod LengthLemmas
+pub mod InputLemmas

@@ -1,0 +1,5 @@
+pub mod Draws
+pub mod Generated
+pub mod Input
+pub mod Text
+pub mod Worked
