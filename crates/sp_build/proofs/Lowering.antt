@@ -18,7 +18,7 @@ use Rattle.sp_overlap.specs.Whole.{IsTimed, AreTimed}
 use Rattle.sp_plans.specs.Planned.{IsPlanned}
 use Rattle.sp_plans.specs.Laws.{ChosenAreValid}
 use Rattle.sp_tree_handed.specs.Lists.{NumberedOps, numbered, standing, bounds_in, spans_in, lists_in, lists_in_stages}
-use Rattle.sp_array_nets.specs.Kinds.{IsEmitted, AreEmitted}
+use Rattle.sp_memory_nets.specs.ArrayKinds.{IsEmitted, AreEmitted}
 use Rattle.sp_tree_handed.specs.Standing.{BoundsReadArguments}
 use Rattle.sp_tree_nets.specs.Whole.{HasTreePlan}
 use Rattle.sp_stored_cores.specs.Quiet.{HasNoCounters}
@@ -29,7 +29,7 @@ use Rattle.sp_core.specs.Forms.{PlainForms}
 use Rattle.sp_plan.specs.Ports.{scheme_at}
 use Rattle.sp_plan.specs.Validity.{schemes_of}
 use Rattle.sp_schemes.specs.Chosen.{IsChosen, AreChosen}
-use Rattle.sp_array_nets.specs.Laws.{ValidPlansHaveArrays}
+use Rattle.sp_memory_nets.specs.ArrayLaws.{ValidPlansHaveArrays}
 use Rattle.sp_lane_programs.specs.LanesLaws.{ProgramIsByLane}
 use Rattle.sp_lane_cores.specs.Laws.{StaysCore}
 use Rattle.sp_compile.specs.Choices.{lanes_of, forms_of, IsPlanOf}

@@ -4,7 +4,7 @@ ghost use Rattle.sp_plan.specs.PlainPlan.{PlainPlan};
 ghost use Rattle.sp_tree.specs.Invariant.{IsProgram};
 ghost use Rattle.sp_tree.specs.PlainProgram.{PlainProgram};
 
-use sp_array_nets::valid_plans_have_arrays;
+use sp_memory_nets::valid_plans_have_arrays;
 use sp_lane_cores::programs_stay_cores;
 use sp_lane_programs::programs_are_by_lane;
 use sp_machine::cores_end_in_their_cost;

@@ -58,8 +58,8 @@ use Rattle.sp_load_units.specs.Units.{unit_wires_in, stores_to, UnitsStand, Have
 use Rattle.sp_op_nets.specs.Reserved.{Rise}
 use Rattle.sp_tree_handed.specs.Moves.{HaveEnds}
 use Rattle.sp_tree_handed.proofs.Moving.{ends_later}
-use Rattle.sp_stored_trees.specs.Fits.{ArgumentsStand, RunsWithUnits, TransfersStand, WordsStand}
-use Rattle.sp_stored_trees.proofs.Emitting.{earlier}
+use Rattle.sp_lower.specs.TreesFits.{ArgumentsStand, RunsWithUnits, TransfersStand, WordsStand}
+use Rattle.sp_lower.proofs.TreesEmitting.{earlier}
 use Rattle.sp_lower.specs.Carries.{CanLower, EndsInTime, CarriesCore}
 use Rattle.sp_lower.specs.Sizes.{DramsKeepSizes}
 use Rattle.sp_lower.proofs.Drams.{zip_length, twice, no_units_in, none_behind, dram_dims, drams_for_each, lists_left}

@@ -15,7 +15,7 @@ use Rattle.sp_machine.specs.Timeline.{core_timed}
 use Rattle.sp_machine.specs.Transfers.{Delays}
 use Rattle.sp_stored_cores.specs.Circuits.{IsStoredCore}
 use Rattle.sp_stored_cores.specs.Closing.{RunsByPlan}
-use Rattle.sp_stored_trees.specs.Fits.{CanEmitStored}
+use Rattle.sp_lower.specs.TreesFits.{CanEmitStored}
 
 -- a core of registers, arguments, outputs, SRAMs and FIFOs, whose tree can be emitted
 pub record CanLower (core : PlainCore) (plan : PlainPlan) : Type 0 where

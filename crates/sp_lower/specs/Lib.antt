@@ -1,2 +1,9 @@
+pub mod LoadsParts
+pub mod LoadsRuns
+pub mod LoadsLaws
+pub mod StoresParts
+pub mod StoresRuns
+pub mod StoresLaws
+pub mod TreesFits
 pub mod Carries
 pub mod Sizes

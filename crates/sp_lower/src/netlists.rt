@@ -6,7 +6,7 @@ ghost use Rattle.sp_plan.specs.Plain.{plain_plan};
 ghost use Rattle.sp_lower.specs.Carries.{CanLower, CarriesCore};
 
 use crate::sizes::drams_keep_sizes;
-use sp_array_nets::{add_arrays, arrays_are_open, arrays_share_none, arrays_stay};
+use crate::trees_emit::emit_stored_core;
 use sp_channel_runs::delays_are_small;
 use sp_core::Core;
 use sp_dram_words::{drams_run, units_join};
@@ -15,13 +15,13 @@ use sp_frames::{
 };
 use sp_gates::{constant, hold, one};
 use sp_load_units::{add_units, drams_stand, units_are_open, units_stay};
+use sp_memory_nets::{add_arrays, arrays_are_open, arrays_share_none, arrays_stay};
 use sp_netlist::{Builder, Netlist, NoMemory, one_run};
 use sp_plan::Plan;
 use sp_port_nets::{
     argument_nets, arguments_are_ports, arguments_have_words, output_nets, outputs_are_ports,
 };
 use sp_stored_cores::{first_words_given, stored_cores_go};
-use sp_stored_trees::emit_stored_core;
 use sp_taps::tap_laws;
 use sp_transfer_runs::delays_are_there;
 use std::alloc::Global;

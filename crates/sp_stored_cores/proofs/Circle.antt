@@ -67,13 +67,13 @@ use Rattle.sp_tree_accesses.specs.Laws.{IsInTime, AccessesAct, OperationsHaveAcc
 use Rattle.sp_owner_runs.specs.Acting.{CoresOwn}
 use Rattle.sp_owner_runs.specs.Naming.{CoresNameCopies, CoresNameLoads, CoresNameStores, PlansHaveNumbers}
 use Rattle.sp_bank_runs.specs.Laws.{GoesWell, ValidPlansGoWell}
-use Rattle.sp_scalar_words.specs.InTime.{MemoriesInTime, ArgumentsGiven}
-use Rattle.sp_array_words.specs.Laws.{AllAnswered, MemoriesAnswer, MemoriesHold}
-use Rattle.sp_array_words.specs.Stores.{StoresReadInTime, StoresReadInWhole, StoresAreAnswered}
+use Rattle.sp_stored_cores.specs.ScalarInTime.{MemoriesInTime, ArgumentsGiven}
+use Rattle.sp_stored_cores.specs.ArrayLaws.{AllAnswered, MemoriesAnswer, MemoriesHold}
+use Rattle.sp_stored_cores.specs.ArrayStores.{StoresReadInTime, StoresReadInWhole, StoresAreAnswered}
 use Rattle.sp_dram_words.specs.Laws.{dram_size, IsDramOf, DramsAreOne, LoadsFind, DramsEnd}
 use Rattle.sp_dram_words.specs.Moves.{stores, NodeMoves, MovesAreItems, IsActed, TimelinesAreActed, MovesAct, TransfersAct}
 use Rattle.sp_dram_words.specs.Stores.{HasStores as HaveUnits, StoresAreInTime, LoadsFindOwn}
-use Rattle.sp_array_words.specs.Loads.{LoadsInTime, LoadsWriteInWhole}
+use Rattle.sp_stored_cores.specs.ArrayLoads.{LoadsInTime, LoadsWriteInWhole}
 use Rattle.sp_stored_cores.specs.Circuits.{IsStoredCore, StoredCircuit, StartsOnce}
 use Rattle.sp_stored_cores.specs.Closing.{RunsByPlan, DramsRun, GoesAlong}
 use Rattle.sp_stored_cores.specs.Loads.{took_by, LoadStands, LoadsAre}

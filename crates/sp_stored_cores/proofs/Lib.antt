@@ -1,3 +1,18 @@
+pub mod ScalarAsked
+mod ScalarAnswered
+mod FifoAsking
+mod FifoTaking
+mod ArrayLists
+mod ArrayChanges
+mod ArrayLoading
+mod ArrayStoring
+mod ArrayApart
+mod ArrayAmong
+mod ArrayStored
+mod ArrayGoing
+mod ArrayWhole
+mod ArrayWorked
+mod ArrayWorkedStores
 mod Acting
 mod Circle
 mod Early

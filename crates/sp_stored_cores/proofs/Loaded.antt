@@ -33,8 +33,8 @@ use Rattle.sp_access_nets.specs.declared.access.AccessNets.{AccessNets}
 use Rattle.sp_access_nets.specs.Accesses.{copy_in}
 use Rattle.sp_tree_handed.specs.declared.moves.Direction.TheVariants.{Load}
 use Rattle.sp_dram_words.specs.Moves.{loads, NodeMoves, MovesAreItems}
-use Rattle.sp_array_nets.specs.Kinds.{IsEmitted}
-use Rattle.sp_array_words.specs.Loads.{LoadsInTime, LoadsWriteInWhole}
+use Rattle.sp_memory_nets.specs.ArrayKinds.{IsEmitted}
+use Rattle.sp_stored_cores.specs.ArrayLoads.{LoadsInTime, LoadsWriteInWhole}
 use Rattle.sp_stored_cores.specs.Loads.{Channel, took_by, IsLoadWrite, LoadStands, LoadsAre}
 use Rattle.sp_stored_cores.proofs.Acting.{TransferActs}
 use Rattle.sp_stored_cores.proofs.Moves.{Placed, HasSuch, by_access, by_number}

@@ -31,8 +31,8 @@ use Rattle.sp_memory_words.specs.Answers.{IsAnswered, NamesCopies}
 use Rattle.sp_bank_words.specs.Accesses.{reads_in}
 use Rattle.sp_access_nets.specs.declared.access.AccessNets.{AccessNets}
 use Rattle.sp_access_nets.specs.Accesses.{copy_in}
-use Rattle.sp_array_nets.specs.Kinds.{IsEmitted}
-use Rattle.sp_array_words.specs.Stores.{ReadsInTime, IsStoring, StoresReadInTime, StoresReadInWhole, StoresAreAnswered}
+use Rattle.sp_memory_nets.specs.ArrayKinds.{IsEmitted}
+use Rattle.sp_stored_cores.specs.ArrayStores.{ReadsInTime, IsStoring, StoresReadInTime, StoresReadInWhole, StoresAreAnswered}
 use Rattle.sp_dram_words.specs.Moves.{stores, NodeMoves, MovesAreItems}
 use Rattle.sp_dram_words.specs.Stores.{IsUnitOf, HasStores}
 use Rattle.sp_dram_words.specs.Units.{StoreUnit}

@@ -25,8 +25,8 @@ use Rattle.sp_tree_copies.specs.Naming.{AreNamed}
 use Rattle.sp_tree_nets.specs.Handed.{AreHanded}
 use Rattle.sp_tree_accesses.specs.Laws.{AreTreeAccesses}
 use Rattle.sp_tree_accesses.specs.Queued.{QueuedStands}
-use Rattle.sp_array_nets.specs.Kinds.{AreEmitted}
-use Rattle.sp_array_nets.specs.Runs.{RunMemories}
+use Rattle.sp_memory_nets.specs.ArrayKinds.{AreEmitted}
+use Rattle.sp_memory_nets.specs.ArrayRuns.{RunMemories}
 use Rattle.sp_stored_cores.specs.Loads.{Channel, HasLoads}
 use Rattle.sp_stored_cores.specs.Quiet.{HasNoCounters}
 use Rattle.sp_stored_cores.specs.Stores.{StoreAccess, HasStores}

@@ -23,7 +23,7 @@ use Rattle.sp_meets.specs.Meets.{IsMeetsOf}
 use Rattle.sp_transfer_runs.specs.Delays.{delays_of}
 use Rattle.sp_dram_words.specs.Units.{nets_of, RunsDram}
 use Rattle.sp_dram_words.specs.Laws.{dram_size, input_word}
-use Rattle.sp_scalar_words.specs.InTime.{ArgumentsGiven}
+use Rattle.sp_stored_cores.specs.ScalarInTime.{ArgumentsGiven}
 use Rattle.sp_stored_cores.specs.Circuits.{IsStoredCore, StoredCircuit, StartsOnce}
 use Rattle.sp_stored_cores.specs.Loads.{took_by}
 use Rattle.sp_stored_cores.specs.Stores.{StoreAccess, units_of}

@@ -1,3 +1,10 @@
+pub mod ScalarInTime
+pub mod FifoLaws
+pub mod ArrayLoads
+pub mod ArrayStores
+pub mod ArrayLaws
+pub mod ArrayExample
+pub mod ArrayExampleStores
 pub mod Circuits
 pub mod Closing
 pub mod Loads

@@ -5,10 +5,10 @@ ghost use Rattle.sp_core.specs.PlainCore.{PlainCore};
 ghost use Rattle.sp_plan.specs.PlainPlan.{PlainPlan};
 ghost use Rattle.sp_stored_cores.specs.Closing.{StoredCoresGo};
 
-use crate::quiet::{core_events_are_timed, nothing_begins_at_once, runs_take_time};
-use sp_array_words::{
+use crate::array_laws::{
     loads_write_in_whole, memories_answer, memories_hold, stores_are_answered, stores_read_in_whole,
 };
+use crate::quiet::{core_events_are_timed, nothing_begins_at_once, runs_take_time};
 use sp_bank_runs::valid_plans_go_well;
 use sp_dram_words::{
     drams_are_one, drams_end, loads_find, loads_find_own, moves_are_items, stores_are_in_time,

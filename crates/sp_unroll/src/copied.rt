@@ -19,7 +19,7 @@ fn copied_op(alloc: Global, op: &Op) -> Result<Op, NoMemory>
     })
 }
 
-fn copied_ops(alloc: Global, ops: &[Op]) -> Result<Vec<Op>, NoMemory>
+pub fn copied_ops(alloc: Global, ops: &[Op]) -> Result<Vec<Op>, NoMemory>
     ensures { IfOk result (λ made. plain_ops made.items ≡ plain_ops ops.now) }
 {
     let mut made = Vec::new(alloc);
@@ -41,7 +41,7 @@ fn copied_counter(alloc: Global, counter: &CoreCounter) -> Result<CoreCounter, N
     })
 }
 
-fn copied_counters(alloc: Global, counters: &[CoreCounter]) -> Result<Vec<CoreCounter>, NoMemory>
+pub fn copied_counters(alloc: Global, counters: &[CoreCounter]) -> Result<Vec<CoreCounter>, NoMemory>
     ensures { IfOk result (λ made. map plain_counter made.items ≡ map plain_counter counters.now) }
 {
     let mut made = Vec::new(alloc);
@@ -64,7 +64,7 @@ fn copied_span(alloc: Global, span: &CoreSpan) -> Result<CoreSpan, NoMemory>
     }
 }
 
-fn copied_spans(alloc: Global, spans: &[CoreSpan]) -> Result<Vec<CoreSpan>, NoMemory>
+pub fn copied_spans(alloc: Global, spans: &[CoreSpan]) -> Result<Vec<CoreSpan>, NoMemory>
     ensures { IfOk result (λ made. map plain_span made.items ≡ map plain_span spans.now) }
 {
     let mut made = Vec::new(alloc);

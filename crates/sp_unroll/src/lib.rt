@@ -16,6 +16,7 @@ mod shared;
 mod unrolled;
 mod within;
 
+pub use copied::{copied_counters, copied_ops, copied_spans};
 pub use memories::memories_in_lanes;
 pub use std::alloc::AllocError as NoMemory;
-pub use unrolled::{Unrolled, in_lanes, unroll};
+pub use unrolled::{Unrolled, copied_ports, in_lanes, unroll};

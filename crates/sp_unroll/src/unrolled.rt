@@ -60,7 +60,7 @@ fn copied_list(alloc: Global, ports: &[PortDecl]) -> Result<Vec<PortDecl>, NoMem
     Ok(made)
 }
 
-fn copied_ports(alloc: Global, ports: &Ports) -> Result<Ports, NoMemory>
+pub fn copied_ports(alloc: Global, ports: &Ports) -> Result<Ports, NoMemory>
     ensures { IfOk result (λ made. plain_ports made ≡ plain_ports ports.now) }
 {
     Ok(Ports {

@@ -13,8 +13,8 @@ use Rattle.sp_port_nets.specs.Nets.{nets_of_arguments}
 use Rattle.sp_netlist.specs.Rules.{is_unit}
 use Rattle.sp_taps.proofs.Rows.{promises_join}
 use Rattle.sp_load_units.specs.Units.{HasDrams, unit_wires_in}
-use Rattle.sp_stored_trees.specs.Fits.{TransfersStand}
-use Rattle.sp_array_nets.specs.Banks.{ArraysStand, wires_in}
+use Rattle.sp_lower.specs.TreesFits.{TransfersStand}
+use Rattle.sp_memory_nets.specs.ArrayBanks.{ArraysStand, wires_in}
 use Rattle.sp_lower.proofs.Lowering.{Steps, drams_named, drams_sized, few_drams, args_stand, outs_stand, outs_named, no_units, transfers_stand, grown, inside, closed, open_later, carried}
 use Rattle.sp_lower.proofs.netlists.lower.Goals as goal
 

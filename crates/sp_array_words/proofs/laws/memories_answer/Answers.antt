@@ -1,5 +1,0 @@
-use Rattle.sp_array_words.proofs.Whole.{memories_answer}
-use Rattle.sp_array_words.proofs.laws.memories_answer.Goals as goal
-
-pub returns : goal.returns
-returns c core plan delays = memories_answer core plan delays (c.scalars_answer.ensures core plan) (c.fifos_answer.ensures core plan) (c.arrays_answer.ensures core plan delays)

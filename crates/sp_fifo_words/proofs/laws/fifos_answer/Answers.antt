@@ -1,5 +1,0 @@
-use Rattle.sp_fifo_words.proofs.Taking.{fifos_answer}
-use Rattle.sp_fifo_words.proofs.laws.fifos_answer.Goals as goal
-
-pub returns : goal.returns
-returns c core plan = fifos_answer core plan c.picks_accesses_to.ensures (c.accesses_ask.ensures core plan) (c.operations_stay.ensures core plan) (c.queues_go.ensures core plan)

@@ -1,5 +1,0 @@
-use Rattle.std.proofs.Common.{length}
-use Rattle.sp_load_nets.proofs.emit.+emit_each.Given as goal
-
-abbrev pub decreases-emit_each : goal.decreases-emit_each
-decreases-emit_each l = length l.units.now

@@ -1,0 +1,13 @@
+pub mod ScalarLists
+pub mod ScalarRuns
+pub mod ScalarFits
+pub mod FifoLists
+pub mod FifoRuns
+pub mod FifoFits
+pub mod ArrayTouches
+pub mod ArrayArrays
+pub mod ArrayRuns
+pub mod ArrayBanks
+pub mod ArrayFits
+pub mod ArrayKinds
+pub mod ArrayLaws

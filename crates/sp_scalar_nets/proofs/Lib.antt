@@ -1,4 +1,0 @@
-pub mod Picked
-pub mod Answering
-pub mod Fitting
-pub mod First

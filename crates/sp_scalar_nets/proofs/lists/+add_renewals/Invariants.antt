@@ -1,5 +1,0 @@
-use Rattle.std.proofs.Common.{length}
-use Rattle.sp_scalar_nets.proofs.lists.+add_renewals.Given as goal
-
-abbrev pub decreases-add_renewals : goal.decreases-add_renewals
-decreases-add_renewals l = length l.renewed.now

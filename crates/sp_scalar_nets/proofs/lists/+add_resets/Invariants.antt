@@ -1,5 +1,0 @@
-use Rattle.std.proofs.Common.{length}
-use Rattle.sp_scalar_nets.proofs.lists.+add_resets.Given as goal
-
-abbrev pub decreases-add_resets : goal.decreases-add_resets
-decreases-add_resets l = length l.accesses.now

@@ -1,5 +1,0 @@
-use Rattle.std.proofs.Common.{length}
-use Rattle.sp_scalar_nets.proofs.lists.+add_states.Given as goal
-
-abbrev pub decreases-add_states : goal.decreases-add_states
-decreases-add_states l = length l.kept.now

@@ -1,5 +1,0 @@
-use Rattle.sp_scalar_words.proofs.Answered.{answer}
-use Rattle.sp_scalar_words.proofs.laws.scalars_answer.Goals as goal
-
-pub returns : goal.returns
-returns c core plan = answer core plan (c.registers_are_asked.ensures core plan) (c.registers_answer.ensures core plan) (c.arguments_answer.ensures core plan) (c.contents_begin.ensures core) (c.operations_stay.ensures core plan)
