@@ -203,10 +203,10 @@ compile F|Accel { y := 3|-|-|1|source: no parse at 14;\n\
 verilog F|val x = ArgIn[Int]; val x = ArgOut[Int]; Accel { }|-|-|3|types: name given twice at 24;\n\
 compile F|val a = DRAM[Int](67108865); Accel { }|-|-|4|limit: dram 67108865;\n\
 compile F|val a = DRAM[Int](4); val y = ArgOut[Int]; Accel { val r = Reg[Int](0); val s = SRAM[Int](4); a(r::r + 4) store s }|-|-|15|unbuilt at line 3;\n\
-compile F|val a = DRAM[Int](4); Accel { val s = SRAM[Int](4); a(0::4 par 2) store s }|-|-|15|unbuilt at line 2;\n\
+compile F|val a = DRAM[Int](4); Accel { val p = SRAM[Int](4); val s = SRAM[Int](4); s gather a(p, 4) }|-|-|15|unbuilt at line 2;\n\
 verilog F|val a = DRAM[Int](4); Accel { val p = SRAM[Int](4); val s = SRAM[Int](4); a(p, 4) scatter s }|-|-|15|unbuilt at line 2;\n\
 verilog F|Accel { val s = LineBuffer[Int](2, 4) }|-|-|15|unbuilt at line 1;\n\
-run F S|val a = DRAM[Int](4); Accel { val s = SRAM[Int](4); s load a(0::4 par 2) }||-|15|unbuilt at line 2;\n\
+run F S|Accel { val s = LineBuffer[Int](2, 4) }||-|15|unbuilt at line 1;\n\
 run F S|val y = ArgOut[Int]; Accel { val r = Reg[Int]; y := r }||-|6|fault: Unwritten at 52;\n\
 run F S|val x = ArgIn[Int];val y = ArgOut[Int];Accel {;  y := x + 3;};|turns = 1;[args];x = 4;|-|7|turns spent: 1;\n\
 run F|Accel { }|-|-|2|words: not in the command table;\n\

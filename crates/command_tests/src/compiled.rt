@@ -113,6 +113,6 @@ fn compiled_programs_leave_what_is_wanted(rt: HostRuntime) -> Result<(), Fail> {
             count = count.saturating_add(1);
         }
     }
-    assert_eq!(rt; count, 28);
+    assert_eq!(rt; count, 30);
     Ok(())
 }

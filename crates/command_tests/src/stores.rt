@@ -1,8 +1,8 @@
 //! Programs that store to DRAMs and are compiled and run, with what they leave.
 
-/// Such programs, in the form of `CASES`. The cycles of the first four were worked out by hand from what each part of a run takes: that is 2
+/// Such programs, in the form of `CASES`. The cycles of the first six were worked out by hand from what each part of a run takes: that is 2
 /// for the block, and for each of its stages one more than the stage takes. A load or a store of w words takes 3 + w and what its channel
-/// waits, and a loop of g groups of operations g + 1 and what one group takes.
+/// waits, in however many lanes it is moved, and a loop of g groups of operations g + 1 and what one group takes.
 pub(crate) const STORES: &str = "\
 val x = ArgIn[Int]
 val c = DRAM[Int](10)
@@ -88,6 +88,49 @@ x = 10
 dram b 10 11 12 13 13
 ----
 =34
+====
+val x = ArgIn[Int]
+val c = DRAM[Int](10)
+val y = ArgOut[Int]
+Accel {
+  val s = SRAM[Int](10)
+  Foreach(10 by 1 par 4){ i => s(i) = i * i }
+  c(0::10 par 4) store s
+  y := s(9) + x
+}
+----
+[args]
+x = 5
+----
+out y 86
+dram c 0 1 4 9 16 25 36 49 64 81
+----
+=31
+====
+val x = ArgIn[Int]
+val a = DRAM[Int](8)
+val b = DRAM[Int](8)
+val y = ArgOut[Int]
+Accel {
+  val s = SRAM[Int](8)
+  s load a(0::8 par 16)
+  Foreach(8 by 1){ i => s(i) = s(i) * x + i }
+  b(x::8 par 2) store s
+  y := s(7)
+}
+----
+[args]
+x = 3
+[dram]
+a = \"a.csv\"
+----
+out y -17
+dram a 1 -2 3 -4 5 -6 7 -8
+dram b 0 0 0 3 -5 11 -9 19
+----
+=45
+----
+a.csv|1,-2,3,-4;5,-6,7,-8
 ====
 val x = ArgIn[FixPt[TRUE,_4,_16]]
 val a = DRAM[Int](8)

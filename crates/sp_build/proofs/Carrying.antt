@@ -1,4 +1,4 @@
--- A netlist that carries the core of a program in lanes carries the program, and keeps to its cost.
+-- A netlist that carries the core that is built of a program carries the program, and keeps to its cost.
 use Rattle.std.proofs.Common.{◌≡◌, ℕ, zero, suc, ◌<◌, ◌≤◌, ◌+◌, max, true, List, [], ◌∷◌, map, length, slice_index_or, refl, sym, ap, subst, ◌∙◌, arith}
 use Rattle.sp_words.specs.Ports.{PlainPorts, PlainInput}
 use Rattle.std.specs.Prelude.{fold}
@@ -16,6 +16,7 @@ use Rattle.std.specs.List.{All}
 use Rattle.sp_core.specs.Events.{At}
 use Rattle.sp_core.specs.History.{History}
 use Rattle.sp_core.specs.Inputs.{InputFits}
+use Rattle.sp_core.specs.Invariant.{IsCore}
 use Rattle.sp_core.specs.Latency.{limit}
 use Rattle.sp_core.specs.Cost.{core_cost}
 use Rattle.sp_core.specs.Meaning.{Outcome, ended, outcome, out_words, dram_words, first_store, run_core}
@@ -26,28 +27,27 @@ use Rattle.sp_core.specs.Step.{went}
 use Rattle.sp_core.specs.Store.{Store, words_of}
 use Rattle.sp_sugar.specs.Core.{core_of}
 use Rattle.sp_lanes.specs.Unrolled.{unrolled}
-use Rattle.sp_lane_cores.specs.Laws.{StaysCore}
-use Rattle.sp_lane_programs.specs.LanesLaws.{ProgramIsByLane}
+use Rattle.sp_patterns.specs.Patterns.{patterns_of}
 use Rattle.sp_plan.specs.PlainPlan.{PlainPlan}
 use Rattle.sp_plan.specs.Validity.{IsValid}
 use Rattle.sp_plans.specs.Laws.{ChosenAreValid}
-use Rattle.sp_overlap.specs.Whole.{IsTimed}
+use Rattle.sp_overlap.specs.Whole.{IsTimed, IsByLane}
 use Rattle.sp_overlap.proofs.Planned.{node_planned}
 use Rattle.sp_machine.specs.Laws.{EndsInCost}
 use Rattle.sp_machine.specs.Timeline.{core_timed}
 use Rattle.sp_machine.specs.Told.{plan_timings}
 use Rattle.sp_machine.specs.Transfers.{Delays}
-use Rattle.sp_program_runs.specs.RunsLaws.{HasLanedPlan, LanedProgramRuns, Runs}
+use Rattle.sp_program_runs.specs.RunsLaws.{HasNarrowPlan, NarrowProgramRuns, NarrowRuns}
 use Rattle.sp_stored_cores.specs.Closing.{RunsByPlan}
 use Rattle.sp_lower.specs.Carries.{EndsInTime, CarriesCore}
-use Rattle.sp_compile.specs.Choices.{lanes_of, forms_of, IsPlanOf}
+use Rattle.sp_compile.specs.Choices.{lanes_of, built_core, IsPlanFor}
 use Rattle.sp_build.specs.Buildable.{is_buildable}
 use Rattle.sp_build.specs.Carries.{greatest_delay, FitsPorts, Carries}
 use Rattle.sp_build.specs.Laws.{CoresCarryPrograms, CoresKeepCosts}
 use Rattle.sp_build.proofs.Lowering.{Buildable, buildable, is_timed}
 
--- the ports of a core in lanes are the program's
-ports_stay : (p : PlainProgram) → (lanes_of p).ports ≡ p.ports
+-- the ports of that core are the program's
+ports_stay : (p : PlainProgram) → (built_core p).ports ≡ p.ports
 unfolding unrolled core_of
 ports_stay p = refl
 
@@ -55,7 +55,7 @@ fits_core : (p : PlainProgram) (input : PlainInput) → FitsPorts p.ports input 
 unfolding core_of
 fits_core p input fits = record { args = fits.args; drams = fits.drams }
 
-fits_lanes : (p : PlainProgram) (input : PlainInput) → FitsPorts p.ports input → InputFits (lanes_of p) input
+fits_lanes : (p : PlainProgram) (input : PlainInput) → FitsPorts p.ports input → InputFits (built_core p) input
 unfolding unrolled core_of
 fits_lanes p input fits = record { args = fits.args; drams = fits.drams }
 
@@ -91,14 +91,14 @@ over_each acc (n ∷ ns) (suc k) x l = over_each (max acc n) ns k x (omega (arit
 below_greatest : (xs : List ℕ) → All (λ e. e ≤ greatest_delay xs) xs
 below_greatest xs k x l = over_each 0 xs k x l
 
--- a run of the core in lanes, from an input that fits
-found_run : (p : PlainProgram) (plan : PlainPlan) → ChosenAreValid → StaysCore p → ProgramIsByLane p → (planned : IsPlanOf p plan) → is_buildable (lanes_of p) ≡ true
-    → (n : ℕ) (input : PlainInput) (h : History) (left : Store) → FitsPorts p.ports input → run_core in_lanes n (lanes_of p) input ≡ went h left → RunsByPlan (lanes_of p) plan input h left
+-- a run of it, from an input that fits
+found_run : (p : PlainProgram) (plan : PlainPlan) → ChosenAreValid → IsCore (built_core p) → IsByLane (built_core p) (built_core p).root → (planned : IsPlanFor (built_core p) plan) → is_buildable (built_core p) ≡ true
+    → (n : ℕ) (input : PlainInput) (h : History) (left : Store) → FitsPorts p.ports input → run_core in_lanes n (built_core p) input ≡ went h left → RunsByPlan (built_core p) plan input h left
 found_run p plan valid is by planned built n input h left fits ran =
     record {
       meets = planned.meets;
       meets_are = planned.are_meets;
-      planned = record { is_core = is; is_timed = is_timed p built; by_lane = by; valid = valid (lanes_of p) (forms_of p) planned.meets plan is planned.is_planned };
+      planned = record { is_core = is; is_timed = is_timed p built; by_lane = by; valid = valid (built_core p) (patterns_of (built_core p)) planned.meets plan is planned.is_planned };
       fits = fits_lanes p input fits;
       turns = n;
       ran = ran;
@@ -117,37 +117,37 @@ ends_as cells input delays most cycle outs given drams found e f ends =
     subst (λ ds. Ends (record { cells = cells; args = input.args; drams = input.drams; delays = delays }) most (done_in cycle outs ds)) f
     (subst (λ ws. Ends (record { cells = cells; args = input.args; drams = input.drams; delays = delays }) most (done_in cycle ws found)) e ends)
 
-pub carried : (p : PlainProgram) (plan : PlainPlan) → ChosenAreValid → StaysCore p → ProgramIsByLane p → ((input : PlainInput) → IsDecidedByTurns p input) → ((delays : Delays) (delay : ℕ) → LanedProgramRuns p plan delays delay) → CoresCarryPrograms p plan
+pub carried : (p : PlainProgram) (plan : PlainPlan) → ChosenAreValid → IsCore (built_core p) → IsByLane (built_core p) (built_core p).root → ((input : PlainInput) → IsDecidedByTurns p input) → ((delays : Delays) (delay : ℕ) → NarrowProgramRuns p plan delays delay) → CoresCarryPrograms p plan
 carried p plan valid is by decided runs planned h cells carries = record {
   ports = carries.ports ∙ ports_stay p;
   carries = λ input delays n outs drams turns shape fits e. (
-      let core = lanes_of p in
+      let core = built_core p in
       let delay = greatest_delay delays in
-      let has : HasLanedPlan p planned.meets plan = record { is_timed = is_timed p h; meets_are = planned.are_meets; is_chosen = planned.is_planned } in
-      let r : Runs p plan none_waits delay input n turns outs drams = runs none_waits delay planned.meets has (λ k path ask. omega arith) n input (fits_core p input fits) outs drams turns shape e in
-      let c : EndsInTime core plan cells input r.history r.left delays (limit n delay core) = carries.carries input r.history r.left (found_run p plan valid is by planned h n input r.history r.left fits r.ran) delays (limit n delay core) in
-      let again : Runs p plan c.timing delay input n turns outs drams = runs c.timing delay planned.meets has (c.small delay (below_greatest delays)) n input (fits_core p input fits) outs drams turns shape e in
-      let within = subst (λ (x : History). (core_timed core plan c.timing x).took + 2 ≤ limit n delay core) (one_history again.history r.history again.left r.left (sym again.ran ∙ r.ran)) (again.ends n ((decided input).ends n outs drams turns shape e).0) in
+      let has : HasNarrowPlan p planned.meets plan = record { is_timed = is_timed p h; meets_are = planned.are_meets; is_chosen = planned.is_planned } in
+      let r : NarrowRuns p plan none_waits delay input n turns outs drams = runs none_waits delay planned.meets has (λ k path ask. omega arith) n input (fits_core p input fits) outs drams turns shape e in
+      let c : EndsInTime core plan cells input r.history r.left delays (limit n delay (lanes_of p)) = carries.carries input r.history r.left (found_run p plan valid is by planned h n input r.history r.left fits r.ran) delays (limit n delay (lanes_of p)) in
+      let again : NarrowRuns p plan c.timing delay input n turns outs drams = runs c.timing delay planned.meets has (c.small delay (below_greatest delays)) n input (fits_core p input fits) outs drams turns shape e in
+      let within = subst (λ (x : History). (core_timed core plan c.timing x).took + 2 ≤ limit n delay (lanes_of p)) (one_history again.history r.history again.left r.left (sym again.ran ∙ r.ran)) (again.ends n ((decided input).ends n outs drams turns shape e).0) in
       let took = (core_timed core plan c.timing r.history).took in
-      let ends = c.ends (limit n delay core) (less took (limit n delay core) within) (less took (limit n delay core) within) in
-      (took, ends_as cells input delays (limit n delay core) took outs (out_words core r.left) drams (dram_words core r.left) (outs_left core r.history r.left outs drams r.words) (drams_left core r.history r.left outs drams r.words) ends));
+      let ends = c.ends (limit n delay (lanes_of p)) (less took (limit n delay (lanes_of p)) within) (less took (limit n delay (lanes_of p)) within) in
+      (took, ends_as cells input delays (limit n delay (lanes_of p)) took outs (out_words core r.left) drams (dram_words core r.left) (outs_left core r.history r.left outs drams r.words) (drams_left core r.history r.left outs drams r.words) ends));
 }
 
-cost_of_run : (p : PlainProgram) (plan : PlainPlan) (timing : Delays) (d : ℕ) → ((k : ℕ) (path : List At) (ask : ℕ) → timing k path ask ≤ d) → EndsInCost (lanes_of p) plan timing d → IsTimed (lanes_of p).root → (forms : _) (meets : _) → IsValid (lanes_of p) forms meets plan
-    → (n : ℕ) (input : PlainInput) (h : History) (left : Store) → run_core in_lanes n (lanes_of p) input ≡ went h left
-    → (core_timed (lanes_of p) plan timing h).took + 2 ≤ core_cost (lanes_of p) (plan_timings plan) d (shape_of (lanes_of p).root h)
+cost_of_run : (p : PlainProgram) (plan : PlainPlan) (timing : Delays) (d : ℕ) → ((k : ℕ) (path : List At) (ask : ℕ) → timing k path ask ≤ d) → EndsInCost (built_core p) plan timing d → IsTimed (built_core p).root → (forms : _) (meets : _) → IsValid (built_core p) forms meets plan
+    → (n : ℕ) (input : PlainInput) (h : History) (left : Store) → run_core in_lanes n (built_core p) input ≡ went h left
+    → (core_timed (built_core p) plan timing h).took + 2 ≤ core_cost (built_core p) (plan_timings plan) d (shape_of (built_core p).root h)
 unfolding run_core
 cost_of_run p plan timing d small ends timed forms meets valid n input h left ran =
-    ends small (node_planned (lanes_of p) forms meets plan (lanes_of p).root 0 0 timed valid.kinds) n no_scope (first_store (lanes_of p) input) left h ran
+    ends small (node_planned (built_core p) forms meets plan (built_core p).root 0 0 timed valid.kinds) n no_scope (first_store (built_core p) input) left h ran
 
-pub cost_kept : (p : PlainProgram) (plan : PlainPlan) → ChosenAreValid → StaysCore p → ProgramIsByLane p → ((delays : Delays) (d : ℕ) → EndsInCost (lanes_of p) plan delays d) → CoresKeepCosts p plan
+pub cost_kept : (p : PlainProgram) (plan : PlainPlan) → ChosenAreValid → IsCore (built_core p) → IsByLane (built_core p) (built_core p).root → ((delays : Delays) (d : ℕ) → EndsInCost (built_core p) plan delays d) → CoresKeepCosts p plan
 cost_kept p plan valid is by costs planned built cells carries = record {
   within = λ input delays n h left fits ran. (
-      let core = lanes_of p in
+      let core = built_core p in
       let delay = greatest_delay delays in
       let most = core_cost core (plan_timings plan) delay (shape_of core.root h) in
       let c : EndsInTime core plan cells input h left delays most = carries.carries input h left (found_run p plan valid is by planned built n input h left fits ran) delays most in
       let took = (core_timed core plan c.timing h).took in
-      let cost = cost_of_run p plan c.timing delay (c.small delay (below_greatest delays)) (costs c.timing delay) (is_timed p built) (forms_of p) planned.meets (valid core (forms_of p) planned.meets plan is planned.is_planned) n input h left ran in
+      let cost = cost_of_run p plan c.timing delay (c.small delay (below_greatest delays)) (costs c.timing delay) (is_timed p built) (patterns_of (built_core p)) planned.meets (valid core (patterns_of (built_core p)) planned.meets plan is planned.is_planned) n input h left ran in
       (took, cost, c.ends took (less took most cost) (omega arith)));
 }

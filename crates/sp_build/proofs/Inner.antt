@@ -18,7 +18,8 @@ use Rattle.sp_sugar.specs.Uses.{no_more}
 use Rattle.sp_sugar.specs.Numbers.{is_off_dram, written_mem, written_mems}
 use Rattle.sp_lanes.specs.Order.{memory_order}
 use Rattle.sp_lanes.specs.Unrolled.{unrolled, node_in}
-use Rattle.sp_compile.specs.Choices.{lanes_of}
+use Rattle.sp_compile.specs.Choices.{lanes_of, built_core}
+use Rattle.sp_narrow.specs.Narrow.{narrow_node}
 use Rattle.sp_build.specs.Buildable.{is_stored, is_stored_mem, is_node_buildable, is_uncounted}
 use Rattle.sp_build.specs.Laws.{InnerBlocksCanBeBuilt}
 
@@ -94,6 +95,17 @@ laned_root : (p : PlainProgram) → is_inner p.body ≡ true → IsInnerRoot (la
 unfolding unrolled
 laned_root p h = root_in_lanes p (core_of p).root (root_in_core p h) _ _
 
+-- which has no transfer
+narrow_root : (node : PlainNode) → IsInnerRoot node → IsInnerRoot (narrow_node node)
+narrow_root (inner [] owned ops comb) h = tt
+narrow_root (inner (c ∷ counters) owned ops comb) h = absurd h
+narrow_root (outer counters style owned stages) h = absurd h
+narrow_root (fsm start state test body next) h = absurd h
+narrow_root (branch test first second) h = absurd h
+narrow_root (load r m spans) h = absurd h
+narrow_root (store r m spans) h = absurd h
+narrow_root (sparse kind r m places spans count par) h = absurd h
+
 root_buildable : (core : PlainCore) (node : PlainNode) → IsInnerRoot node → (is_node_buildable core node && is_uncounted node) ≡ true
 root_buildable core (inner [] owned ops comb) h = refl
 root_buildable core (inner (c ∷ counters) owned ops comb) h = absurd h
@@ -106,5 +118,5 @@ root_buildable core (sparse kind r m places spans count par) h = absurd h
 
 pub inner_built : (p : PlainProgram) → InnerBlocksCanBeBuilt p
 inner_built p one all =
-    let core = lanes_of p in
-    both (list_all is_stored_mem core.mems) (is_node_buildable core core.root && is_uncounted core.root) (stored_core p one all) (root_buildable core core.root (laned_root p one))
+    let core = built_core p in
+    both (list_all is_stored_mem core.mems) (is_node_buildable core core.root && is_uncounted core.root) (stored_core p one all) (root_buildable core core.root (narrow_root (lanes_of p).root (laned_root p one)))

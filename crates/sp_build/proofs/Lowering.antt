@@ -14,7 +14,7 @@ use Rattle.sp_core.specs.Meaning.{is_arg}
 use Rattle.sp_core.specs.Numbering.{counters_size, node_count, number_count}
 use Rattle.sp_core.specs.PlainCore.{PlainOp, PlainCounter, PlainSpan, single, range, PlainNode, PlainStages, inner, outer, fsm, branch, load, store, sparse, no_stage, more_stage, PlainMem, no_mem, PlainCore}
 use Rattle.sp_plan.specs.PlainPlan.{PlainPlan}
-use Rattle.sp_overlap.specs.Whole.{IsTimed, AreTimed}
+use Rattle.sp_overlap.specs.Whole.{IsTimed, AreTimed, IsByLane}
 use Rattle.sp_plans.specs.Planned.{IsPlanned}
 use Rattle.sp_plans.specs.Laws.{ChosenAreValid}
 use Rattle.sp_tree_handed.specs.Lists.{NumberedOps, numbered, standing, bounds_in, spans_in, lists_in, lists_in_stages}
@@ -30,9 +30,8 @@ use Rattle.sp_plan.specs.Ports.{scheme_at}
 use Rattle.sp_plan.specs.Validity.{schemes_of}
 use Rattle.sp_schemes.specs.Chosen.{IsChosen, AreChosen}
 use Rattle.sp_memory_nets.specs.ArrayLaws.{ValidPlansHaveArrays}
-use Rattle.sp_lane_programs.specs.LanesLaws.{ProgramIsByLane}
-use Rattle.sp_lane_cores.specs.Laws.{StaysCore}
-use Rattle.sp_compile.specs.Choices.{lanes_of, forms_of, IsPlanOf}
+use Rattle.sp_patterns.specs.Patterns.{patterns_of}
+use Rattle.sp_compile.specs.Choices.{built_core, IsPlanFor}
 use Rattle.sp_build.specs.Buildable.{is_stored, is_stored_mem, is_argument, reads_argument, is_early, has_early_bounds, has_early_ends, is_node_buildable, are_buildable, is_uncounted_by, is_uncounted, is_buildable}
 use Rattle.sp_build.specs.Laws.{BuildableCanBeLowered}
 use Rattle.sp_build.proofs.Lists.{cons_cases, all_at, only}
@@ -204,23 +203,23 @@ buildable core h =
 in_space : (core : PlainCore) (forms : PlainForms) (plan : PlainPlan) → AreChosen core forms (schemes_of plan) → (m : ℕ) (b : Banking) → scheme_at (schemes_of plan) (Some m) ≡ Some b → InSpace b
 in_space core forms plan chosen m b e = (subst (IsChosen core forms m) e (chosen m)).0.space
 
-pub can_lower : (p : PlainProgram) (plan : PlainPlan) → ChosenAreValid → StaysCore p → ProgramIsByLane p → ValidPlansHaveArrays (lanes_of p) plan → BuildableCanBeLowered p plan
+pub can_lower : (p : PlainProgram) (plan : PlainPlan) → ChosenAreValid → IsCore (built_core p) → IsByLane (built_core p) (built_core p).root → ValidPlansHaveArrays (built_core p) plan → BuildableCanBeLowered p plan
 can_lower p plan valid is by arrays planned short h =
-    let core = lanes_of p in
+    let core = built_core p in
     let b : Buildable core = buildable core h in
     record {
       can = record {
         planned = record {
-          forms = forms_of p;
+          forms = patterns_of (built_core p);
           meets = planned.meets;
-          valid = valid core (forms_of p) planned.meets plan is planned.is_planned;
+          valid = valid core (patterns_of (built_core p)) planned.meets plan is planned.is_planned;
           timed = timed core core.root b.tree;
           latencies = short;
         };
         stored = stored core b.are_stored;
-        arrays = arrays (forms_of p) planned.meets
-            (record { is_core = is; is_timed = timed core core.root b.tree; by_lane = by; valid = valid core (forms_of p) planned.meets plan is planned.is_planned })
-            (in_space core (forms_of p) plan planned.is_planned.schemes);
+        arrays = arrays (patterns_of (built_core p)) planned.meets
+            (record { is_core = is; is_timed = timed core core.root b.tree; by_lane = by; valid = valid core (patterns_of (built_core p)) planned.meets plan is planned.is_planned })
+            (in_space core (patterns_of (built_core p)) plan planned.is_planned.schemes);
         bounds = reads_arguments core b.tree;
       };
       stored = record {
@@ -232,5 +231,5 @@ can_lower p plan valid is by arrays planned short h =
       };
     }
 
-pub is_timed : (p : PlainProgram) → is_buildable (lanes_of p) ≡ true → IsTimed (lanes_of p).root
-is_timed p h = timed (lanes_of p) (lanes_of p).root (buildable (lanes_of p) h).tree
+pub is_timed : (p : PlainProgram) → is_buildable (built_core p) ≡ true → IsTimed (built_core p).root
+is_timed p h = timed (built_core p) (built_core p).root (buildable (built_core p) h).tree

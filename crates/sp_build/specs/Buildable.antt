@@ -9,7 +9,7 @@ use Rattle.sp_core.specs.declared.operation.OpKind.TheVariants.{Read}
 use Rattle.sp_core.specs.Declarations.{mem, is_stream}
 use Rattle.sp_core.specs.Meaning.{is_arg}
 use Rattle.sp_core.specs.PlainCore.{PlainOp, PlainCounter, PlainSpan, single, range, PlainNode, PlainStages, inner, outer, fsm, branch, load, store, sparse, no_stage, more_stage, PlainMem, PlainCore}
-use Rattle.sp_compile.specs.Choices.{lanes_of}
+use Rattle.sp_compile.specs.Choices.{built_core}
 
 -- a register, an argument, an output, an SRAM or a FIFO
 abbrev pub is_stored : Kind → Bool
@@ -76,10 +76,10 @@ is_uncounted _ = false
 abbrev pub is_buildable : PlainCore → Bool
 is_buildable core = list_all is_stored_mem core.mems && (is_node_buildable core core.root && is_uncounted core.root)
 
--- so is the core of a program in lanes
+-- so is the core that is built of a program
 abbrev pub CanBeBuilt : PlainProgram → Type 0
-CanBeBuilt p = is_buildable (lanes_of p) ≡ true
+CanBeBuilt p = is_buildable (built_core p) ≡ true
 
 -- or it isn't
 abbrev pub IsUnbuilt : PlainProgram → Type 0
-IsUnbuilt p = is_buildable (lanes_of p) ≡ false
+IsUnbuilt p = is_buildable (built_core p) ≡ false

@@ -20,7 +20,7 @@ use Rattle.sp_core.specs.Step.{went}
 use Rattle.sp_core.specs.Store.{Store}
 use Rattle.sp_plan.specs.PlainPlan.{PlainPlan}
 use Rattle.sp_machine.specs.Told.{plan_timings}
-use Rattle.sp_compile.specs.Choices.{lanes_of, IsPlanOf}
+use Rattle.sp_compile.specs.Choices.{lanes_of, built_core, IsPlanFor}
 
 -- the greatest delay, 0 where there is none
 abbrev pub greatest_delay : List ℕ → ℕ
@@ -41,13 +41,13 @@ pub record Carries (p : PlainProgram) (cells : List PlainCell) : Type 0 where
   pub carries : (input : PlainInput) (delays : List ℕ) (n : ℕ) (outs : List ℕ) (drams : List (List ℕ)) (turns : ℕ) (shape : Shape) → FitsPorts p.ports input → seq n p input ≡ ended outs drams turns shape
       → (cycle : ℕ) × Ends (record { cells = cells; args = input.args; drams = input.drams; delays = delays }) (limit n (greatest_delay delays) (lanes_of p)) (done_in cycle outs drams)
 
--- For every input that fits, every list of delays and every run of the program's core in lanes: the netlist is done within the cost of
+-- For every input that fits, every list of delays and every run of the core that is built of the program: the netlist is done within the cost of
 -- that run by the numbers of a plan, with the words that the run leaves.
 pub record KeepsCost (p : PlainProgram) (plan : PlainPlan) (cells : List PlainCell) : Type 0 where
-  pub within : (input : PlainInput) (delays : List ℕ) (n : ℕ) (h : History) (left : Store) → FitsPorts p.ports input → run_core in_lanes n (lanes_of p) input ≡ went h left
-      → (cycle : ℕ) × (cycle + 2 ≤ core_cost (lanes_of p) (plan_timings plan) (greatest_delay delays) (shape_of (lanes_of p).root h))
-      × Ends (record { cells = cells; args = input.args; drams = input.drams; delays = delays }) cycle (done_in cycle (out_words (lanes_of p) left) (dram_words (lanes_of p) left))
+  pub within : (input : PlainInput) (delays : List ℕ) (n : ℕ) (h : History) (left : Store) → FitsPorts p.ports input → run_core in_lanes n (built_core p) input ≡ went h left
+      → (cycle : ℕ) × (cycle + 2 ≤ core_cost (built_core p) (plan_timings plan) (greatest_delay delays) (shape_of (built_core p).root h))
+      × Ends (record { cells = cells; args = input.args; drams = input.drams; delays = delays }) cycle (done_in cycle (out_words (built_core p) left) (dram_words (built_core p) left))
 
--- so it is by the plan that is chosen for the program
+-- so it is by the plan that is chosen for that core
 abbrev pub CostIsKept : PlainProgram → List PlainCell → Type 0
-CostIsKept p cells = (plan : PlainPlan) × IsPlanOf p plan × KeepsCost p plan cells
+CostIsKept p cells = (plan : PlainPlan) × IsPlanFor (built_core p) plan × KeepsCost p plan cells

@@ -11,7 +11,7 @@ use Rattle.sp_core.specs.PlainCore.{PlainCore}
 use Rattle.sp_plan.specs.PlainPlan.{PlainPlan, node_plan}
 use Rattle.sp_machine.specs.Timeline.{latency_of}
 use Rattle.sp_lower.specs.Carries.{CanLower, CarriesCore}
-use Rattle.sp_compile.specs.Choices.{lanes_of, IsPlanOf}
+use Rattle.sp_compile.specs.Choices.{built_core, IsPlanFor}
 use Rattle.sp_build.specs.Buildable.{is_stored, is_buildable, CanBeBuilt}
 use Rattle.sp_build.specs.Carries.{Carries, KeepsCost}
 
@@ -19,17 +19,17 @@ use Rattle.sp_build.specs.Carries.{Carries, KeepsCost}
 abbrev pub HasShortLatencies : PlainPlan → Type 0
 HasShortLatencies plan = (k : ℕ) → latency_of (node_plan plan k) < 2 ^ 32
 
--- the core of a program in lanes can be lowered by its plan, where it is buildable
+-- the core that is built of a program can be lowered by its plan, where it is buildable
 abbrev pub BuildableCanBeLowered : PlainProgram → PlainPlan → Type 0
-BuildableCanBeLowered p plan = IsPlanOf p plan → HasShortLatencies plan → is_buildable (lanes_of p) ≡ true → CanLower (lanes_of p) plan
+BuildableCanBeLowered p plan = IsPlanFor (built_core p) plan → HasShortLatencies plan → is_buildable (built_core p) ≡ true → CanLower (built_core p) plan
 
 -- a netlist that carries that core carries the program
 abbrev pub CoresCarryPrograms : PlainProgram → PlainPlan → Type 0
-CoresCarryPrograms p plan = IsPlanOf p plan → is_buildable (lanes_of p) ≡ true → (cells : List PlainCell) → CarriesCore (lanes_of p) plan cells → Carries p cells
+CoresCarryPrograms p plan = IsPlanFor (built_core p) plan → is_buildable (built_core p) ≡ true → (cells : List PlainCell) → CarriesCore (built_core p) plan cells → Carries p cells
 
 -- and is done within the cost of each run of that core
 abbrev pub CoresKeepCosts : PlainProgram → PlainPlan → Type 0
-CoresKeepCosts p plan = IsPlanOf p plan → is_buildable (lanes_of p) ≡ true → (cells : List PlainCell) → CarriesCore (lanes_of p) plan cells → KeepsCost p plan cells
+CoresKeepCosts p plan = IsPlanFor (built_core p) plan → is_buildable (built_core p) ≡ true → (cells : List PlainCell) → CarriesCore (built_core p) plan cells → KeepsCost p plan cells
 
 -- a program whose block is one inner body, over registers, arguments, outputs, SRAMs and FIFOs, with any DRAMs, can be built
 abbrev pub InnerBlocksCanBeBuilt : PlainProgram → Type 0

@@ -9,7 +9,7 @@ use crate::NoMemory;
 use crate::buildable::is_buildable;
 use crate::latencies::latencies_are_short;
 use crate::laws::{buildable_cores_can_be_lowered, cores_carry_programs, cores_keep_costs};
-use sp_compile::plan;
+use sp_compile::plan_to_build;
 use sp_lower::lower;
 use sp_netlist::Netlist;
 use sp_tree::Program;
@@ -27,7 +27,7 @@ pub fn build(alloc: Global, program: &Program) -> Result<Option<Netlist>, NoMemo
     buildable_cores_can_be_lowered();
     cores_carry_programs();
     cores_keep_costs();
-    let made = plan(alloc, program)?;
+    let made = plan_to_build(alloc, program)?;
     if !is_buildable(&made.core) {
         return Ok(None);
     }

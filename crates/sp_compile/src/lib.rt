@@ -3,5 +3,5 @@
 
 mod choice;
 
-pub use choice::{Planned, plan};
+pub use choice::{Planned, plan, plan_to_build};
 pub use std::alloc::AllocError as NoMemory;

@@ -1,2 +1,3 @@
 pub mod PlansSound
 pub mod RunsWhole
+pub mod RunsNarrow

@@ -47,17 +47,17 @@ ended_run core outs drams g more e = absurd (true≢false (sym (ap did_end e)))
     did_end _ = false
 
 -- the ports are those of the core
-fits_in_lanes : (core : PlainCore) (input : PlainInput) → InputFits core input → InputFits (unrolled core) input
+pub fits_in_lanes : (core : PlainCore) (input : PlainInput) → InputFits core input → InputFits (unrolled core) input
 unfolding unrolled
 fits_in_lanes core input h = record { args = h.args; drams = h.drams }
 
 -- a run in lanes that ends with these words, and goes around so often at most
-record InLanes (p : PlainProgram) (n : ℕ) (input : PlainInput) (outs : List ℕ) (drams : List (List ℕ)) (most : ℕ) : Type 0 where
-  history : History
-  left : Store
-  ran : run_core in_lanes n (laned p) input ≡ went history left
-  words : outcome (laned p) (went history left) ≡ ended outs drams history
-  within : rounds (laned p).root (shape_of (laned p).root history) ≤ most
+pub record InLanes (p : PlainProgram) (n : ℕ) (input : PlainInput) (outs : List ℕ) (drams : List (List ℕ)) (most : ℕ) : Type 0 where
+  pub history : History
+  pub left : Store
+  pub ran : run_core in_lanes n (laned p) input ≡ went history left
+  pub words : outcome (laned p) (went history left) ≡ ended outs drams history
+  pub within : rounds (laned p).root (shape_of (laned p).root history) ≤ most
 
 in_lanes_run : (p : PlainProgram) (n : ℕ) (input : PlainInput) (outs : List ℕ) (drams : List (List ℕ)) (most : ℕ) (g : History) → meaning in_lanes n (laned p) input ≡ ended outs drams g → rounds (laned p).root (shape_of (laned p).root g) ≤ most → InLanes p n input outs drams most
 unfolding meaning
@@ -65,11 +65,11 @@ in_lanes_run p n input outs drams most g e le =
     let r = ended_run (laned p) outs drams g (run_core in_lanes n (laned p) input) e in
     record { history = g; left = r.0; ran = r.1; words = sym (ap (outcome (laned p)) r.1) ∙ e; within = le }
 
-at_most : (a b c : ℕ) → a ≤ b → b ≤ c → a ≤ c
+pub at_most : (a b c : ℕ) → a ≤ b → b ≤ c → a ≤ c
 at_most a b c f g = omega (arith, f, g)
 
 -- where the program ends
-ends_in_lanes : (p : PlainProgram) → IsProgramFollowed p → ProgramEnds p → ProgramRoundsWithinTurns p → (n : ℕ) (input : PlainInput) → InputFits (core_of p) input
+pub ends_in_lanes : (p : PlainProgram) → IsProgramFollowed p → ProgramEnds p → ProgramRoundsWithinTurns p → (n : ℕ) (input : PlainInput) → InputFits (core_of p) input
     → (outs : List ℕ) (drams : List (List ℕ)) (turns : ℕ) (shape : Shape) → seq n p input ≡ program.ended outs drams turns shape → InLanes p n input outs drams turns
 ends_in_lanes p followed ends falls n input fits outs drams turns shape e =
     let c = followed n input outs drams turns shape e in

@@ -26,6 +26,7 @@ use Rattle.sp_meets.specs.Meets.{IsMeetsOf}
 use Rattle.sp_lane_programs.specs.Timed.{BodyTimed}
 use Rattle.sp_overlap.specs.Whole.{IsTimed}
 use Rattle.sp_chosen_runs.specs.ChosenLaws.{RunsWell}
+use Rattle.sp_narrow.specs.Narrow.{narrow}
 
 -- the core of a program, its lanes one after the other
 abbrev pub laned : PlainProgram → PlainCore
@@ -66,3 +67,28 @@ LanedProgramRuns p plan delays delay =
     (meets : List Meet) → HasLanedPlan p meets plan → ((k : ℕ) (path : List At) (ask : ℕ) → delays k path ask ≤ delay)
     → (n : ℕ) (input : PlainInput) → InputFits (core_of p) input → (outs : List ℕ) (drams : List (List ℕ)) (turns : ℕ) (shape : Shape) → seq n p input ≡ program.ended outs drams turns shape
     → Runs p plan delays delay input n turns outs drams
+
+-- the same core where each load and each store has one lane
+abbrev pub narrowed : PlainProgram → PlainCore
+narrowed p = narrow (laned p)
+
+-- a program whose core is then without stream blocks, gathers and scatters, with the plan that is chosen for it
+pub record HasNarrowPlan (p : PlainProgram) (meets : List Meet) (plan : PlainPlan) : Type 0 where
+  pub is_timed : IsTimed (narrowed p).root
+  pub meets_are : IsMeetsOf (narrowed p) (patterns_of (narrowed p)) meets
+  pub is_chosen : IsPlanned (narrowed p) (patterns_of (narrowed p)) meets plan
+
+-- a run of that core, as above, which ends within the limit of the core in lanes
+pub record NarrowRuns (p : PlainProgram) (plan : PlainPlan) (delays : Delays) (delay : ℕ) (input : PlainInput) (n turns : ℕ) (outs : List ℕ) (drams : List (List ℕ)) : Type 0 where
+  pub history : History
+  pub left : Store
+  pub ran : run_core in_lanes n (narrowed p) input ≡ went history left
+  pub words : outcome (narrowed p) (went history left) ≡ ended outs drams history
+  pub well : RunsWell (narrowed p) plan delays delay input history left
+  pub ends : (m : ℕ) → turns ≤ m → (core_timed (narrowed p) plan delays history).took + 2 ≤ limit m delay (laned p)
+
+abbrev pub NarrowProgramRuns : PlainProgram → PlainPlan → Delays → (delay : ℕ) → Type 0
+NarrowProgramRuns p plan delays delay =
+    (meets : List Meet) → HasNarrowPlan p meets plan → ((k : ℕ) (path : List At) (ask : ℕ) → delays k path ask ≤ delay)
+    → (n : ℕ) (input : PlainInput) → InputFits (core_of p) input → (outs : List ℕ) (drams : List (List ℕ)) (turns : ℕ) (shape : Shape) → seq n p input ≡ program.ended outs drams turns shape
+    → NarrowRuns p plan delays delay input n turns outs drams

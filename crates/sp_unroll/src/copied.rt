@@ -41,7 +41,10 @@ fn copied_counter(alloc: Global, counter: &CoreCounter) -> Result<CoreCounter, N
     })
 }
 
-pub fn copied_counters(alloc: Global, counters: &[CoreCounter]) -> Result<Vec<CoreCounter>, NoMemory>
+pub fn copied_counters(
+    alloc: Global,
+    counters: &[CoreCounter],
+) -> Result<Vec<CoreCounter>, NoMemory>
     ensures { IfOk result (λ made. map plain_counter made.items ≡ map plain_counter counters.now) }
 {
     let mut made = Vec::new(alloc);

@@ -1,0 +1,9 @@
+pub mod Runs
+pub mod Given
+pub mod Sums
+pub mod Rounds
+pub mod Rules
+pub mod Limits
+pub mod Timed
+pub mod ByLane
+pub mod Stages
