@@ -1,6 +1,7 @@
 pub mod NumberLemmas
 pub mod ReadingLemmas
 pub mod TableLemmas
+pub mod NameSets
 pub mod Turns
 pub mod CellLemmas
 pub mod DramLemmas

@@ -4,11 +4,10 @@ use Rattle.std.specs.Prelude.{is_some}
 use Rattle.toml.specs.Data.{Data, Items, no_items, Members, no_members, as_integer}
 use Rattle.toml.specs.View.{view, table_view, members_view, items_view}
 use Rattle.toml.specs.declared.value.Value.{Value}
-use Rattle.std.specs.Str.{bytes_eq}
 use Rattle.sp_words.specs.declared.interface.PortDecl.{PortDecl}
 use Rattle.sp_words.specs.Ports.{plain_port}
 use Rattle.sp_setup.specs.Refusal.{Refusal, otherwise, first_refusal, IsRefusal}
-use Rattle.sp_setup.specs.Checks.{table_or_none, is_port, first_key, are_integers, is_next_delay, delay_of, delay_fault, delays_check, delays_in, argument_check, arguments_check}
+use Rattle.sp_setup.specs.Checks.{table_or_none, first_key, are_integers, is_next_delay, delay_of, delay_fault, delays_check, delays_in, argument_check, arguments_check}
 use Rattle.sp_setup.specs.Table.{option_table}
 use Rattle.sp_setup.specs.declared.error.SetupEnd.{SetupEnd}
 use Rattle.sp_setup.specs.declared.error.SetupEnd.TheVariants.{Refused, ReadFault, TooLong, Memory}
@@ -63,18 +62,6 @@ passed-more (Some r) rest e is = cc
 pub passed-all : first_refusal [] ≡ None
 unfolding first_refusal
 passed-all = refl
-
--- ---- names of ports
-
-pub is_port-here : (ports rest : List PortDecl) (port : PortDecl) (k : List ℕ) → ports ≡ port ∷ rest → bytes_eq (string_bytes port.name) k ≡ true → is_port (map plain_port ports) k ≡ true
-is_port-here ports rest port k e h = rw (e, h)
-
-pub is_port-there : (ports rest : List PortDecl) (port : PortDecl) (k : List ℕ) → ports ≡ port ∷ rest → bytes_eq (string_bytes port.name) k ≡ false
-    → is_port (map plain_port ports) k ≡ is_port (map plain_port rest) k
-is_port-there ports rest port k e h = rw (e, h)
-
-pub is_port-end : (ports : List PortDecl) (k : List ℕ) → ports ≡ [] → is_port (map plain_port ports) k ≡ false
-is_port-end ports k e = rw e
 
 -- ---- lists of integers
 

@@ -4,11 +4,12 @@ ghost use Rattle.toml.specs.Data.{as_integer, as_array, get_member};
 ghost use Rattle.toml.specs.View.{view, table_view, items_view, array_view};
 ghost use Rattle.sp_words.specs.Ports.{plain_port, plain_ports};
 ghost use Rattle.sp_setup.specs.Refusal.{range, IsRefusal};
-ghost use Rattle.sp_setup.specs.Checks.{top_keys_check, args_keys_check, dram_keys_check, are_integers, are_all_integers, allows_top, is_port, first_key, section, integer_at, count_check, count_of, is_delay, is_next_delay, delay_of, items_or_none, delays_check, delays_in, delay_items};
-ghost use Rattle.sp_setup.specs.Section.{allowed, key_check, section_path};
+ghost use Rattle.sp_setup.specs.Checks.{top_keys_check, args_keys_check, dram_keys_check, are_integers, are_all_integers, allows_top, first_key, section, integer_at, count_check, count_of, is_delay, is_next_delay, delay_of, items_or_none, delays_check, delays_in, delay_items};
+ghost use Rattle.sp_setup.specs.Section.{HaveNames, ports_of, allowed, key_check, section_path};
 ghost use Rattle.sp_setup.specs.Table.{option_table};
 
 use crate::error::{SetupEnd, SetupError, path};
+use indexmap::IndexSet;
 use sp_words::{PortDecl, Ports};
 use std::alloc::{AllocError, Global};
 use toml::value::Array;
@@ -69,33 +70,50 @@ fn is_top_entry(key: &str, value: &Value) -> bool
     }
 }
 
-fn is_name_of(ports: &[PortDecl], key: &str) -> bool
-    ensures { result ≡ is_port (map plain_port ports.now) key.now }
+// The names of ports, so that one is found without a search through all of them.
+fn names_of(alloc: Global, ports: &[PortDecl]) -> Result<IndexSet<String>, AllocError>
+    ensures { IfOk result (λ names. HaveNames names.keys (map plain_port ports.now)) }
 {
+    let mut names = IndexSet::new(alloc);
     for port in ports {
-        if port.name.as_str() == key {
-            return true;
-        }
+        names.insert(String::from_str(alloc, &port.name)?)?;
     }
-    false
+    Ok(names)
 }
 
-fn is_allowed(section: Section<'_>, key: &str, value: &Value) -> bool
+// The names that the keys of a section have to be, if it has any.
+fn section_names(alloc: Global, section: Section<'_>) -> Result<IndexSet<String>, AllocError>
+    ensures { IfOk result (λ names. HaveNames names.keys (ports_of section.entry)) }
+{
+    match section {
+        Section::Top => names_of(alloc, &[]),
+        Section::Args(ports) => names_of(alloc, ports),
+        Section::Dram(ports) => names_of(alloc, ports),
+    }
+}
+
+fn is_allowed(section: Section<'_>, names: &IndexSet<String>, key: &str, value: &Value) -> bool
+    requires { HaveNames names.now.keys (ports_of section) }
     ensures { result ≡ allowed section.entry key.now (view value.now) }
 {
     match section {
         Section::Top => is_top_entry(key, value),
-        Section::Args(ports) => is_name_of(ports, key),
-        Section::Dram(ports) => is_name_of(ports, key) && value.is_str(),
+        Section::Args(_) => names.contains(key),
+        Section::Dram(_) => names.contains(key) && value.is_str(),
     }
 }
 
 // The first key, in the order of bytes, that the section doesn't allow with its value.
-fn first_unknown<'a>(section: Section<'_>, table: &'a Table) -> Option<&'a String>
+fn first_unknown<'a>(
+    section: Section<'_>,
+    names: &IndexSet<String>,
+    table: &'a Table,
+) -> Option<&'a String>
+    requires { HaveNames names.now.keys (ports_of section) }
     ensures { option_map (λ key. string_bytes key.now) result ≡ first_key (allowed section.entry) (table_view table.now) }
 {
     for (key, value) in table {
-        if !is_allowed(section, key.as_str(), value) {
+        if !is_allowed(section, names, key.as_str(), value) {
             return Some(key);
         }
     }
@@ -117,7 +135,8 @@ fn check_table_keys(alloc: Global, section: Section<'_>, table: &Table) -> Resul
     ensures ok { OnOk result (key_check section.entry (table_view table.now) ≡ None) }
     ensures refused { IfErr result (IsRefusal (key_check section.entry (table_view table.now))) }
 {
-    match first_unknown(section, table) {
+    let names = section_names(alloc, section)?;
+    match first_unknown(section, &names, table) {
         Some(key) => Err(SetupEnd::Refused(SetupError::Key {
             name: section_path(alloc, section, key.as_str())?,
         })),
